@@ -1,0 +1,89 @@
+use borrow.Author.Needs.{needs}
+use native.Mathlib.Omega.{arith}
+use mathlib.Core.Path.{_≡_, sym}
+use Prim.Native.Nat.{_+_, _-_, _*_, _/_, _%_, _^_, min}
+use denote.Ref.{now}
+use lib.ListN.{length, length-drop}
+use lib.Pow.{pow-pos}
+use Rattle.bits.specs.Bits.{bitsOf}
+use Rattle.bits.specs.Fields.{getBits}
+use Rattle.bits.specs.declared.Field.the-variants.{Value}
+use Rattle.bits.proofs.BitLaws.{shl-one, length-bits}
+use Rattle.bits.proofs.ReadLaws.{bits-none, bits-no, bits-lt}
+use Rattle.bits.proofs.Window.{tail-window, window-bits}
+use Rattle.bits.proofs.read.get_bits.Statement.{statement}
+use Rattle.bits.proofs.read.get_bits.Tie as tie
+use Rattle.bits.proofs.read.get_bits.Reads as reads
+use Rattle.bits.proofs.read.get_bits.Lts as lts
+use Rattle.bits.proofs.read.word.Reads as word-reads
+
+returns : tie.Need-returns
+returns c = let a = c .before .before .before .args in rw (c .if2 .taken) (sym (bits-none (bitsOf (now (a .s))) (a .at)))
+
+returns-2 : tie.Need-returns-2
+returns-2 c =
+    let a = c .before .before .before .args in
+    let bits = bitsOf (now (a .s)) in
+    sym (bits-no bits (a .at) (a .count) (omega (arith, length-drop (a .at) bits, length-bits (now (a .s)))))
+
+sub-if3 : tie.Need-sub-if3
+sub-if3 c = search needs
+
+mul-if3 : tie.Need-mul-if3
+mul-if3 c = search needs
+
+sub-if3-2 : tie.Need-sub-if3-2
+sub-if3-2 c = search needs
+
+returns-3 : tie.Need-returns-3
+returns-3 c =
+    let a = c .before .before .before .args in
+    let bits = bitsOf (now (a .s)) in
+    sym (bits-no bits (a .at) (a .count) (omega (arith, length-drop (a .at) bits, length-bits (now (a .s)))))
+
+word-requires : tie.Need-word-requires
+word-requires c κs = search needs
+
+shr-x : tie.Need-shr-x
+shr-x c = search needs
+
+shl-x : tie.Need-shl-x
+shl-x c = search needs
+
+read : (c : tie.After-word) →
+    let a = c .before .before .before .before .args in
+    getBits (bitsOf (now (a .s))) (a .at) (a .count) ≡ Value (c .word .result / 2 ^ (a .at % 8) % 2 ^ a .count) (a .at + a .count)
+read c =
+    let a = c .before .before .before .before .args in
+    let s = now (a .s) in
+    window-bits _ _ (8 * min 8 (length s - a .at / 8) - a .at % 8) _ (a .count) (tail-window s (a .at) _ (omega arith) (c .word .ensures)) (omega arith)
+
+rem-x : tie.Need-rem-x
+rem-x c = let k = c .before .before .before .before .args .count in omega (arith, shl-one k 64 (omega arith), pow-pos k)
+
+cast-t19 : tie.Need-cast-t19
+cast-t19 c = let k = c .before .before .before .before .args .count in rw (shl-one k 64 (omega arith)) (record { fits = bits-lt _ _ k _ _ 32 (read c) (omega arith) })
+
+add-t10 : tie.Need-add-t10
+add-t10 c = search needs
+
+returns-4 : tie.Need-returns-4
+returns-4 c = let k = c .before .before .before .before .args .count in rw (shl-one k 64 (omega arith)) (sym (read c))
+
+pub get-bits-spec : {M : Type 1} → statement M
+get-bits-spec =
+    tie.close
+    (tie.spec
+    returns
+    returns-2
+    sub-if3
+    mul-if3
+    sub-if3-2
+    returns-3
+    word-requires
+    shr-x
+    shl-x
+    rem-x
+    cast-t19
+    add-t10
+    returns-4)

@@ -1,0 +1,45 @@
+use borrow.Author.Needs.{needs}
+use native.Mathlib.Omega.{arith}
+use mathlib.Core.Path.{sym, ap, _∙_}
+use Prim.Native.Nat.{ℕ, _+_}
+use denote.Ref.{now}
+use Rattle.bits.specs.Bits.{low}
+use Rattle.bits.specs.Laid.{put}
+use Rattle.bits.proofs.BitLaws.{length-low}
+use Rattle.bits.proofs.WriteLaws.{put-two, unary-parts}
+use Rattle.bits.proofs.RoundTrip.{length-unary}
+use Rattle.bits.proofs.write.put_unary.Statement.{statement}
+use Rattle.bits.proofs.write.put_unary.Tie as tie
+use Rattle.bits.proofs.write.put_unary.Reads as reads
+use Rattle.bits.proofs.write.put_unary.Lts as lts
+use Rattle.bits.proofs.write.put_bits.Reads as put-bits-reads
+
+put-bits-requires : tie.Need-put-bits-requires
+put-bits-requires c κs = omega (arith, length-unary (c .before .before .args .c))
+
+add-p : tie.Need-add-p
+add-p c = search needs
+
+put-bits-requires-2 : tie.Need-put-bits-requires-2
+put-bits-requires-2 c κs = omega (arith, length-unary (c .before .before .before .before .before .before .args .c), c .before .before .before .put-bits .kept .0)
+
+add-result : tie.Need-add-result
+add-result c = search needs
+
+same-length : tie.Need-same-length
+same-length c = search needs
+
+returns : tie.Need-returns
+returns c =
+    let a = c .before .before .before .before .before .before .before .before .before .args in
+    let n = length-unary (a .c) in (
+      c .before .before .put-bits2 .ensures
+          ∙ put-two (now (a .out)) _ (a .at) _ (low (a .c) 4294967295) (low 1 0) (c .before .before .before .before .before .before .put-bits .ensures)
+          (ap (λ (k : ℕ). a .at + k) (sym (length-low (a .c) 4294967295))) (omega arith)
+          ∙ ap (put (now (a .out)) (a .at)) (sym (unary-parts (a .c) (omega arith))),
+      omega arith,
+    )
+
+pub put-unary-spec : {M : Type 1} → statement M
+put-unary-spec =
+    tie.close (tie.spec put-bits-requires add-p put-bits-requires-2 add-result same-length returns)
