@@ -5,3 +5,4 @@ pub mod LaidLaws
 pub mod WriteLaws
 pub mod Window
 pub mod Trip
+pub mod CheckedLaws

@@ -1,17 +1,13 @@
-// Lays fields into a lent buffer: the bits before the place stay, the spare bits of the last byte touched become 0, the bytes behind stay.
-// A place here is small: a caller with a long buffer lends on the rest of it from the first unfinished byte, as `lay_bits` does.
+// Implements document 01, "Packing" (K7, K8): fields laid into a lent buffer. The bits before the place stay, the spare bits of the last byte that
+// is touched become 0, the bytes behind stay. `put_bits` and `put_unary` write into the rest of a buffer from its first unfinished byte on, so
+// their places are small; `lay_bits` lends that rest on.
 ghost use mathlib.Core.Path.{_≡_};
 ghost use Prim.Native.Nat.{_+_, _*_, _/_, _%_, _^_, _≤_, _<_, min};
 ghost use lib.ListN.{length};
 ghost use Rattle.bits.specs.Bits.{low};
 ghost use Rattle.bits.specs.Fields.{unaryField};
 ghost use Rattle.bits.specs.Laid.{put};
-
-fn wide(x: u8) -> u32
-    ensures { λ r. ⌜ r ≡ x ⌝ }
-{
-    x as u32
-}
+use crate::load::wide;
 
 fn least(a: u32, b: u32) -> u32
     ensures { λ r. ⌜ r ≡ min a b ⌝ }
@@ -19,7 +15,7 @@ fn least(a: u32, b: u32) -> u32
     if a < b { a } else { b }
 }
 
-// A byte with its k low bits as they are, then the m low bits of v, and zeros.
+// A byte with its k low bits as they are, then the m low bits of v, then zeros.
 fn join(c: u8, k: u32, v: u32, m: u32) -> u8
     requires { ⌜ k + m ≤ 8 ⌝ }
     ensures { λ r. ⌜ r ≡ c % 2 ^ k + v % 2 ^ m * 2 ^ k ⌝ }
@@ -29,20 +25,21 @@ fn join(c: u8, k: u32, v: u32, m: u32) -> u8
     (old + (x << k)) as u8
 }
 
-// The m low bits of v, into the byte at `at`.
+// The m low bits of v, into the one byte where `at` lies.
 fn put_chunk(out: &mut [u8], at: usize, v: u32, m: u32)
-    requires { ⌜ at / 8 < length (now out) ⌝ }
-    requires { ⌜ (0 < m) × (at % 8 + m ≤ 8) ⌝ }
+    requires inside { ⌜ at / 8 < length (now out) ⌝ }
+    requires within { ⌜ (0 < m) × (at % 8 + m ≤ 8) ⌝ }
     ensures { λ _. ⌜ now (out .exit) ≡ put (now (out .entry)) at (low m v) ⌝ }
 {
     let i = at / 8;
     out[i] = join(out[i], (at % 8) as u32, v, m);
 }
 
-// The `count` low bits of v, from `at` on.
+// Lays the `count` low bits of v from `at` on.
 pub fn put_bits(out: &mut [u8], at: usize, v: u32, count: u32)
-    requires { ⌜ (at + count ≤ 8 * length (now out)) × (at ≤ 255) ⌝ }
-    requires { ⌜ count ≤ 32 ⌝ }
+    requires room { ⌜ at + count ≤ 8 * length (now out) ⌝ }
+    requires place { ⌜ at ≤ 255 ⌝ }
+    requires width { ⌜ count ≤ 32 ⌝ }
     ensures { λ _. ⌜ now (out .exit) ≡ put (now (out .entry)) at (low count v) ⌝ }
 {
     let mut i: u32 = 0;
@@ -55,11 +52,13 @@ pub fn put_bits(out: &mut [u8], at: usize, v: u32, count: u32)
     }
 }
 
-// c ones and a zero, from `at` on. The place after them.
+// Lays c ones and a zero from `at` on, and answers the place after them.
 pub fn put_unary(out: &mut [u8], at: usize, c: u32) -> usize
-    requires { ⌜ (at + length (unaryField c) ≤ 8 * length (now out)) × (at ≤ 200) ⌝ }
-    requires { ⌜ c ≤ 32 ⌝ }
-    ensures { λ r. ⌜ (now (out .exit) ≡ put (now (out .entry)) at (unaryField c)) × (r ≡ at + length (unaryField c)) ⌝ }
+    requires room { ⌜ at + length (unaryField c) ≤ 8 * length (now out) ⌝ }
+    requires place { ⌜ at ≤ 200 ⌝ }
+    requires count { ⌜ c ≤ 32 ⌝ }
+    ensures laid { λ _. ⌜ now (out .exit) ≡ put (now (out .entry)) at (unaryField c) ⌝ }
+    ensures next { λ r. ⌜ r ≡ at + length (unaryField c) ⌝ }
 {
     put_bits(out, at, 4294967295, c);
     let p = at + c as usize;
@@ -67,12 +66,14 @@ pub fn put_unary(out: &mut [u8], at: usize, c: u32) -> usize
     p + 1
 }
 
-// The `count` low bits of v into a buffer of any length, from any place `at` of it on: the rest of the buffer, from the first unfinished byte, is
-// lent on. The place after them.
+// Lays the `count` low bits of v from any place of a buffer on, and answers the place after them. The rest of the buffer, from the first
+// unfinished byte, is lent on.
 pub fn lay_bits(out: &mut [u8], at: usize, v: u32, count: u32) -> usize
-    requires { ⌜ (at + count ≤ 8 * length (now out)) × (at ≤ 1073741824) ⌝ }
-    requires { ⌜ count ≤ 32 ⌝ }
-    ensures { λ r. ⌜ (now (out .exit) ≡ put (now (out .entry)) at (low count v)) × (r ≡ at + count) ⌝ }
+    requires room { ⌜ at + count ≤ 8 * length (now out) ⌝ }
+    requires place { ⌜ at ≤ 1073741824 ⌝ }
+    requires width { ⌜ count ≤ 32 ⌝ }
+    ensures laid { λ _. ⌜ now (out .exit) ≡ put (now (out .entry)) at (low count v) ⌝ }
+    ensures next { λ r. ⌜ r ≡ at + count ⌝ }
 {
     let a = at / 8;
     put_bits(&mut out[a..], at % 8, v, count);

@@ -10,7 +10,7 @@ use Rattle.bits.proofs.read.get_bit.Statement.{statement}
 use Rattle.bits.proofs.read.get_bit.Tie as tie
 use Rattle.bits.proofs.read.get_bit.Reads as reads
 use Rattle.bits.proofs.read.get_bit.Lts as lts
-use Rattle.bits.proofs.read.wide.Reads as wide-reads
+use Rattle.bits.proofs.load.wide.Reads as wide-reads
 
 returns : tie.Need-returns
 returns c =

@@ -15,7 +15,7 @@ use Rattle.bits.proofs.read.get_bits.Statement.{statement}
 use Rattle.bits.proofs.read.get_bits.Tie as tie
 use Rattle.bits.proofs.read.get_bits.Reads as reads
 use Rattle.bits.proofs.read.get_bits.Lts as lts
-use Rattle.bits.proofs.read.word.Reads as word-reads
+use Rattle.bits.proofs.load.window.Reads as window-reads
 
 returns : tie.Need-returns
 returns c = let a = c .before .before .before .args in rw (c .if2 .taken) (sym (bits-none (bitsOf (now (a .s))) (a .at)))
@@ -41,8 +41,8 @@ returns-3 c =
     let bits = bitsOf (now (a .s)) in
     sym (bits-no bits (a .at) (a .count) (omega (arith, length-drop (a .at) bits, length-bits (now (a .s)))))
 
-word-requires : tie.Need-word-requires
-word-requires c κs = search needs
+window-requires : tie.Need-window-requires
+window-requires c κs = search needs
 
 shr-x : tie.Need-shr-x
 shr-x c = search needs
@@ -50,13 +50,13 @@ shr-x c = search needs
 shl-x : tie.Need-shl-x
 shl-x c = search needs
 
-read : (c : tie.After-word) →
+read : (c : tie.After-window) →
     let a = c .before .before .before .before .args in
-    getBits (bitsOf (now (a .s))) (a .at) (a .count) ≡ Value (c .word .result / 2 ^ (a .at % 8) % 2 ^ a .count) (a .at + a .count)
+    getBits (bitsOf (now (a .s))) (a .at) (a .count) ≡ Value (c .window .result / 2 ^ (a .at % 8) % 2 ^ a .count) (a .at + a .count)
 read c =
     let a = c .before .before .before .before .args in
     let s = now (a .s) in
-    window-bits _ _ (8 * min 8 (length s - a .at / 8) - a .at % 8) _ (a .count) (tail-window s (a .at) _ (omega arith) (c .word .ensures)) (omega arith)
+    window-bits _ _ (8 * min 8 (length s - a .at / 8) - a .at % 8) _ (a .count) (tail-window s (a .at) _ (omega arith) (c .window .ensures)) (omega arith)
 
 rem-x : tie.Need-rem-x
 rem-x c = let k = c .before .before .before .before .args .count in omega (arith, shl-one k 64 (omega arith), pow-pos k)
@@ -80,7 +80,7 @@ get-bits-spec =
     mul-if3
     sub-if3-2
     returns-3
-    word-requires
+    window-requires
     shr-x
     shl-x
     rem-x

@@ -9,7 +9,7 @@ use Rattle.bits.proofs.write.join.Statement.{statement}
 use Rattle.bits.proofs.write.join.Tie as tie
 use Rattle.bits.proofs.write.join.Reads as reads
 use Rattle.bits.proofs.write.join.Lts as lts
-use Rattle.bits.proofs.write.wide.Reads as wide-reads
+use Rattle.bits.proofs.load.wide.Reads as wide-reads
 
 wide-requires : tie.Need-wide-requires
 wide-requires c κs = search needs

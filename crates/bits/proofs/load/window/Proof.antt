@@ -8,12 +8,12 @@ use lib.Seq.{take-all}
 use mathlib.Core.List.{List}
 use Rattle.bits.specs.Bits.{num, bitsOf}
 use Rattle.bits.proofs.Window.{More, more, nothing}
-use Rattle.bits.proofs.read.word.Statement.{statement}
-use Rattle.bits.proofs.read.word.Tie as tie
-use Rattle.bits.proofs.read.word.Reads as reads
-use Rattle.bits.proofs.read.word.Lts as lts
-use Rattle.bits.proofs.read.eight.Reads as eight-reads
-use Rattle.bits.proofs.read.wide64.Reads as wide64-reads
+use Rattle.bits.proofs.load.window.Statement.{statement}
+use Rattle.bits.proofs.load.window.Tie as tie
+use Rattle.bits.proofs.load.window.Reads as reads
+use Rattle.bits.proofs.load.window.Lts as lts
+use Rattle.bits.proofs.load.eight.Reads as eight-reads
+use Rattle.bits.proofs.load.wide64.Reads as wide64-reads
 
 abbrev Inv-loop : tie.InvT-loop
 Inv-loop s i n w₀ j₀ w j = (j ≤ n) × (n < 8) × (n ≡ length s - i) × (w ≡ num (bitsOf (take j (drop i s))))
@@ -78,8 +78,8 @@ returns-2 c =
     let n = length-drop (a .i) (now (a .s)) in
     l .inv .3 ∙ ap (λ (x : List ℕ). num (bitsOf x)) (take-all (l .j) r (omega arith) ∙ sym (take-all 8 r (omega arith)))
 
-pub word-spec : {M : Type 1} → statement M
-word-spec =
+pub window-spec : {M : Type 1} → statement M
+window-spec =
     tie.close
     (tie.spec
     Inv-loop

@@ -1,0 +1,34 @@
+use borrow.Author.Needs.{needs}
+use borrow.Author.Tests.{lt-ltb, le-ltb}
+use mathlib.Core.Path.{sym, _∙_}
+use Rattle.bits.specs.Checked.{bitRead}
+use Rattle.bits.proofs.checked.checked_get_bit.Statement.{statement}
+use Rattle.bits.proofs.checked.checked_get_bit.Tie as tie
+use Rattle.bits.proofs.checked.checked_get_bit.Reads as reads
+use Rattle.bits.proofs.checked.checked_get_bit.Lts as lts
+use Rattle.bits.proofs.read.get_bit.Reads as get-bit-reads
+
+returns : tie.Need-returns
+unfolding bitRead
+returns c = rw (lt-ltb _ _ (c .if1 .taken))
+
+get-bit-requires : tie.Need-get-bit-requires
+get-bit-requires c κs = search needs
+
+enum-known-v : tie.Need-enum-known-v
+enum-known-v c = search needs
+
+enum-told : tie.Need-enum-told
+enum-told c = search needs
+
+returns-2 : tie.Need-returns-2
+unfolding bitRead
+returns-2 c = rw (le-ltb _ _ (c .before .before .before .if1 .left), sym (c .before .before .get-bit .ensures) ∙ c .enum-told .given .1)
+
+returns-3 : tie.Need-returns-3
+unfolding bitRead
+returns-3 c = rw (le-ltb _ _ (c .before .before .before .before .if1 .left), sym (c .before .before .before .get-bit .ensures) ∙ c .before .v .given .1)
+
+pub checked-get-bit-spec : {M : Type 1} → statement M
+checked-get-bit-spec =
+    tie.close (tie.spec returns get-bit-requires enum-known-v enum-told returns-2 returns-3)

@@ -1,0 +1,62 @@
+use borrow.Author.Needs.{needs}
+use native.Mathlib.Omega.{arith}
+use mathlib.Core.Path.{_≡_, ap}
+use mathlib.Core.List.{[], _∷_}
+use Prim.Native.Nat.{ℕ}
+use denote.Ref.{now}
+use Rattle.bits.proofs.CheckedLaws.{written-large, written-wide, written-short, written-laid}
+use Rattle.bits.proofs.checked.checked_put_bits.Statement.{statement}
+use Rattle.bits.proofs.checked.checked_put_bits.Tie as tie
+
+returns : tie.Need-returns
+returns c =
+    let a = c .before .before .args in
+    let e = written-large (now (a .out)) (a .at) (a .v) (a .count) (omega arith) in
+    (rw e, rw e)
+
+returns-2 : tie.Need-returns-2
+returns-2 c =
+    let a = c .before .before .before .args in
+    let e = written-wide (now (a .out)) (a .at) (a .v) (a .count) (omega arith) (omega arith) in
+    (rw e, rw e)
+
+mul-end : tie.Need-mul-end
+mul-end c = search needs
+
+returns-3 : tie.Need-returns-3
+returns-3 c =
+    let a = c .before .before .before .before .args in
+    let e = written-short (now (a .out)) (a .at) (a .v) (a .count) (omega arith) (omega arith) (omega arith) in
+    (rw e, rw e)
+
+returns-4 : tie.Need-returns-4
+returns-4 c =
+    let a = c .before .before .before .before .before .args in
+    let e = written-short (now (a .out)) (a .at) (a .v) (a .count) (omega arith) (omega arith) (omega arith) in
+    (rw e, rw e)
+
+lay-bits-requires : tie.Need-lay-bits-requires
+lay-bits-requires c κs = search needs
+
+same-length : tie.Need-same-length
+same-length c = search needs
+
+returns-5 : tie.Need-returns-5
+returns-5 c =
+    let a = c .before .before .before .before .before .before .before .before .before .args in
+    let l = c .before .before .lay-bits in
+    let e = written-laid (now (a .out)) (a .at) (a .v) (a .count) (omega arith) (omega arith) (omega arith) in
+    (rw e (ap (λ (n : ℕ). 0 ∷ n ∷ []) (l .ensures .1)), rw e (l .ensures .0))
+
+pub checked-put-bits-spec : {M : Type 1} → statement M
+checked-put-bits-spec =
+    tie.close
+    (tie.spec
+    returns
+    returns-2
+    mul-end
+    returns-3
+    returns-4
+    lay-bits-requires
+    same-length
+    returns-5)

@@ -1,0 +1,66 @@
+-- What the entries tell for any slice, place and width: document 01's number of the answer, 0 for accepted, and then the values of its case.
+-- The limit is that of "Why each operation says no" (5): 4,194,304 bytes.
+-- Assumes nothing.
+use mathlib.Core.Bool.{Bool, true, false}
+use mathlib.Core.List.{List, [], _∷_}
+use Prim.Native.Nat.{ℕ, _+_, _*_}
+use lib.Dec.{ltb, leb}
+use lib.ListN.{length}
+use Rattle.bits.specs.Bits.{low, bitsOf}
+use Rattle.bits.specs.Fields.{getBits, unary}
+use Rattle.bits.specs.Laid.{put}
+use Rattle.bits.specs.declared.Field.{Field}
+use Rattle.bits.specs.declared.BitAnswer.{BitAnswer}
+use Rattle.bits.specs.declared.PutAnswer.{PutAnswer}
+
+-- a field: its value and the next place; 3 where a bit is missing
+abbrev pub fieldTold : Field → List ℕ
+fieldTold (Field.Value v next) = 0 ∷ v ∷ next ∷ []
+fieldTold Field.Truncated = 3 ∷ []
+
+abbrev pub told : BitAnswer → List ℕ
+told (BitAnswer.Value v next) = 0 ∷ v ∷ next ∷ []
+told BitAnswer.Truncated = 3 ∷ []
+told BitAnswer.TooLarge = 5 ∷ []
+
+-- a field that was laid: the next place; 11 where the buffer is too short
+abbrev pub putTold : PutAnswer → List ℕ
+putTold (PutAnswer.Next next) = 0 ∷ next ∷ []
+putTold PutAnswer.OutputTooShort = 11 ∷ []
+putTold PutAnswer.TooLarge = 5 ∷ []
+
+-- 5 where the test says too large, else the answer
+abbrev pub unless : Bool → List ℕ → List ℕ
+unless true answer = 5 ∷ []
+unless false answer = answer
+
+-- one bit, a field and a count of ones of a payload
+unfoldable pub bitRead : List ℕ → ℕ → List ℕ
+bitRead s p = unless (ltb 4194304 (length s)) (fieldTold (getBits (bitsOf s) p 1))
+
+unfoldable pub bitsRead : List ℕ → ℕ → ℕ → List ℕ
+bitsRead s p count = unless (ltb 4194304 (length s)) (unless (ltb 32 count) (fieldTold (getBits (bitsOf s) p count)))
+
+unfoldable pub unaryRead : List ℕ → ℕ → List ℕ
+unaryRead s p = unless (ltb 4194304 (length s)) (fieldTold (unary (bitsOf s) p))
+
+-- what laying a field leaves: what is told, and the buffer
+pub record Written : Type 0 where
+  pub answer : List ℕ
+  pub buffer : List ℕ
+
+-- the first where the test holds, else the second
+abbrev pub either : Bool → Written → Written → Written
+either true a b = a
+either false a b = b
+
+-- a refusal: the buffer keeps its bytes
+abbrev pub kept : ℕ → List ℕ → Written
+kept number buf = record { answer = number ∷ []; buffer = buf }
+
+-- the count low bits of v, laid into the buffer from p on
+unfoldable pub written : List ℕ → ℕ → ℕ → ℕ → Written
+written buf p v count =
+    either (ltb 4194304 (length buf)) (kept 5 buf) (
+    either (ltb 32 count) (kept 5 buf) (
+    either (leb (p + count) (8 * length buf)) (record { answer = 0 ∷ (p + count) ∷ []; buffer = put buf p (low count v) }) (kept 11 buf)))
