@@ -1,0 +1,33 @@
+-- Laws of adaptation that the code's proofs cite.
+-- Assumes nothing.
+use mathlib.Core.Path.{_≡_, refl, sym}
+use Prim.Native.Nat.{ℕ, zero, suc, _+_, _-_, _*_, _/_, _≤_, _<_}
+use native.Mathlib.Nat.{div-mul-le-self, mul-le-mul-left}
+use native.Mathlib.Omega.{arith}
+use Rattle.entropy.specs.Medians.{Medians}
+use Rattle.medians.specs.Adaptation.{hold, up, down, adapt}
+
+-- the clause for a count of 3 or more, at a count that is known only by its order
+pub adapt-many : (m : Medians) (k : ℕ) → 3 ≤ k → adapt m k ≡ record { m0 = up 128 (m .m0); m1 = up 64 (m .m1); m2 = up 32 (m .m2) }
+unfolding adapt
+adapt-many m zero h = absurd (omega arith)
+adapt-many m (suc zero) h = absurd (omega arith)
+adapt-many m (suc (suc zero)) h = absurd (omega arith)
+adapt-many m (suc (suc (suc j))) h = refl
+
+-- a number divided by 32 or more
+pub div-small : (x d : ℕ) → 32 ≤ d → x / d * 32 ≤ x
+div-small x d h = omega (arith, div-mul-le-self x d, mul-le-mul-left (x / d) h)
+
+-- the moves, from the inner sum as it is held
+pub up-is : (d m a : ℕ) → 32 ≤ d → a ≡ hold (m + d) → hold (m + a / d * 5) ≡ up d m
+unfolding up
+up-is d m a h e = rw (sym e) (omega (arith, div-small a d h))
+
+pub down-low : (d m a : ℕ) → 32 ≤ d → a ≡ hold (m + (d - 2)) → m < a / d * 2 → 0 ≡ down d m
+unfolding down
+down-low d m a h e l = rw (sym e) (omega (arith, div-small a d h))
+
+pub down-high : (d m a : ℕ) → 32 ≤ d → a ≡ hold (m + (d - 2)) → a / d * 2 ≤ m → m - a / d * 2 ≡ down d m
+unfolding down
+down-high d m a h e l = rw (sym e) (omega (arith, div-small a d h))

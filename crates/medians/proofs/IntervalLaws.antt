@@ -1,0 +1,51 @@
+-- Laws of the interval that the code's proofs and callers cite.
+-- Assumes nothing.
+use mathlib.Core.Path.{_≡_, refl, sym, ap, ap₂, _∙_}
+use Prim.Native.Nat.{ℕ, zero, suc, _+_, _-_, _*_, _%_, _≤_, _<_, max}
+use native.Mathlib.Nat.{mul-le-mul}
+use native.Mathlib.Omega.{arith}
+use Rattle.entropy.specs.Medians.{Medians}
+use Rattle.medians.specs.Interval.{g, base, width, wrapped, lowOf, highOf}
+
+-- the clauses for a count of 2 or more, at a count that is known only by its order
+pub base-many : (m : Medians) (k a b c n : ℕ) → 2 ≤ k → a ≡ g (m .m0) → b ≡ g (m .m1) → n ≡ k - 2 → c ≡ g (m .m2) → a + b + n * c ≡ base m k
+base-many m zero a b c n h ea eb en ec = absurd (omega arith)
+base-many m (suc zero) a b c n h ea eb en ec = absurd (omega arith)
+base-many m (suc (suc j)) a b c n h ea eb en ec = let e : n ≡ j = omega arith in rw (ea, eb, e, ec)
+
+pub width-many : (m : Medians) (k : ℕ) → 2 ≤ k → width m k ≡ g (m .m2)
+width-many m zero h = absurd (omega arith)
+width-many m (suc zero) h = absurd (omega arith)
+width-many m (suc (suc j)) h = refl
+
+-- a count of 32 bits times a width fits 64 bits
+pub product-small : (a b : ℕ) → a < 4294967296 → b ≤ 268435456 → a * b ≤ 1152921504338411520
+product-small a b h l = mul-le-mul {n₁ = a} {m₁ = b} {n₂ = 4294967295} {m₂ = 268435456} (omega arith) l
+
+-- the ends are in order and have 31 bits
+pub ends : (m : Medians) (k : ℕ) → (lowOf m k ≤ highOf m k) × (highOf m k < 2147483648)
+unfolding lowOf highOf
+ends m k = (omega arith, omega arith)
+
+-- two cuts are one
+wrap-is : (n : ℕ) → wrapped n ≡ n % 2147483648
+wrap-is n = omega arith
+
+max-left : (a b : ℕ) → b ≤ a → a ≡ max a b
+max-left a b h = omega arith
+
+max-right : (a b : ℕ) → a ≤ b → b ≡ max a b
+max-right a b h = omega arith
+
+-- the ends as the code works them out: high below low, and the other case
+pub cut-low : (b h : ℕ) → h % 2147483648 < b % 2147483648 → (b % 2147483648 ≡ wrapped b) × (b % 2147483648 ≡ max (wrapped b) (wrapped h))
+cut-low b h l = (sym (wrap-is b), rw (wrap-is b, wrap-is h) (max-left (b % 2147483648) (h % 2147483648) (omega arith)))
+
+pub cut-high : (b h : ℕ) → b % 2147483648 ≤ h % 2147483648 → (b % 2147483648 ≡ wrapped b) × (h % 2147483648 ≡ max (wrapped b) (wrapped h))
+cut-high b h l = (sym (wrap-is b), rw (wrap-is b, wrap-is h) (max-right (b % 2147483648) (h % 2147483648) l))
+
+-- an interval is told by its start and its width
+pub interval-is : (m : Medians) (k b w low high : ℕ) → b ≡ base m k → w ≡ width m k → low ≡ wrapped b → high ≡ max (wrapped b) (wrapped (b + w - 1))
+    → (low ≡ lowOf m k) × (high ≡ highOf m k)
+unfolding lowOf highOf
+interval-is m k b w low high e f l h = (l ∙ ap (λ (x : ℕ). wrapped x) e, h ∙ ap₂ (λ (x y : ℕ). max (wrapped x) (wrapped (x + y - 1))) e f)

@@ -1,0 +1,30 @@
+-- Document 01, "One word", the interval of a count k (I1, I2, I3): where it starts, how wide it is, and its low and high ends.
+-- Assumes nothing.
+use Prim.Native.Nat.{ℕ, zero, suc, _+_, _-_, _*_, _/_, _%_, max}
+use Rattle.entropy.specs.Medians.{Medians}
+
+-- document 01 (I1): "g_i = median_i div 16 + 1"
+abbrev pub g : ℕ → ℕ
+g median = median / 16 + 1
+
+-- document 01 (I2): "k = 0: from 0, width g0. k = 1: from g0, width g1. k of 2 or more: from g0 + g1 + (k - 2) times g2, width g2"
+abbrev pub base : Medians → ℕ → ℕ
+base m zero = 0
+base m (suc zero) = g (m .m0)
+base m (suc (suc j)) = g (m .m0) + g (m .m1) + j * g (m .m2)
+
+abbrev pub width : Medians → ℕ → ℕ
+width m zero = g (m .m0)
+width m (suc zero) = g (m .m1)
+width m (suc (suc j)) = g (m .m2)
+
+-- document 01 (I3): "Low and high (low + width - 1) wrap at 32 bits, then lose the top bit"
+abbrev pub wrapped : ℕ → ℕ
+wrapped n = n % 4294967296 % 2147483648
+
+unfoldable pub lowOf : Medians → ℕ → ℕ
+lowOf m k = wrapped (base m k)
+
+-- document 01 (I3): "high below low becomes low"
+unfoldable pub highOf : Medians → ℕ → ℕ
+highOf m k = max (wrapped (base m k)) (wrapped (base m k + width m k - 1))

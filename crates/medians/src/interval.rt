@@ -1,0 +1,54 @@
+// Implements document 01, "One word", the interval of a count.
+ghost use mathlib.Core.Path.{_≡_};
+ghost use Prim.Native.Nat.{_+_, _-_, _≤_, _<_, max};
+ghost use Rattle.entropy.specs.Medians.{mediansOf};
+ghost use Rattle.medians.specs.Interval.{g, wrapped, lowOf, highOf};
+use entropy::AdaptiveMedians;
+
+// The interval of a count: its first and its last number.
+pub struct SampleInterval {
+    pub low: u32,
+    pub high: u32,
+}
+
+fn wide(x: u32) -> u64
+    ensures { λ r. ⌜ r ≡ x ⌝ }
+{
+    x as u64
+}
+
+// The width that a median gives to its interval.
+fn get_med(median: u32) -> u64
+    ensures { λ r. ⌜ (r ≡ g median) × (0 < r) × (r ≤ 268435456) ⌝ }
+{
+    wide(median) / 16 + 1
+}
+
+// The interval of `width` numbers from `base` on, cut to 31 bits.
+fn cut(base: u64, width: u64) -> SampleInterval
+    requires { ⌜ (base < 2305843009213693952) × (0 < width) × (width ≤ 268435456) ⌝ }
+    ensures { λ r. ⌜ (r .low ≡ wrapped base) × (r .high ≡ max (wrapped base) (wrapped (base + width - 1))) ⌝ }
+{
+    let low = (base % 2147483648) as u32;
+    let high = ((base + width - 1) % 2147483648) as u32;
+    if high < low {
+        return SampleInterval { low, high: low };
+    }
+    SampleInterval { low, high }
+}
+
+// The interval of the count `ones_count`. Refuses nothing.
+pub fn sample_interval(medians: AdaptiveMedians, ones_count: u32) -> SampleInterval
+    ensures { λ r. ⌜ (r .low ≡ lowOf (mediansOf medians) «ones_count») × (r .high ≡ highOf (mediansOf medians) «ones_count») ⌝ }
+{
+    let values = medians.values;
+    if ones_count == 0 {
+        return cut(0, get_med(values[0]));
+    }
+    if ones_count == 1 {
+        return cut(get_med(values[0]), get_med(values[1]));
+    }
+    let width = get_med(values[2]);
+    let base = get_med(values[0]) + get_med(values[1]) + wide(ones_count - 2) * width;
+    cut(base, width)
+}
