@@ -1,0 +1,2 @@
+pub mod Exp2Table
+pub mod LogWord
