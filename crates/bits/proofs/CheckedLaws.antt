@@ -6,7 +6,7 @@ use Prim.Native.Nat.{ℕ, _+_, _*_, _≤_, _<_}
 use borrow.Author.Tests.{lt-ltb, le-ltb, le-leb, lt-leb}
 use lib.ListN.{length}
 use Rattle.bits.specs.Bits.{low}
-use Rattle.bits.specs.Checked.{Written, kept, written}
+use Rattle.bits.specs.Checked.{kept, written}
 use Rattle.bits.specs.Laid.{put}
 
 module _ (buf : List ℕ) (p v count : ℕ) where

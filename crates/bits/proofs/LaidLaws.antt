@@ -1,4 +1,4 @@
--- Laws of bits laid into bytes and into a buffer.
+-- Laws of bits laid into bytes and into a buffer. The few that carry the rest: `bits-laid`, `put-rest`, `put-byte` and `put-put`.
 -- Assumes nothing.
 use mathlib.Core.Path.{_≡_, refl, sym, ap, ap₂, _∙_}
 use mathlib.Core.Bool.{Bool, false}
@@ -16,11 +16,13 @@ use Rattle.bits.proofs.BitLaws.{length-low, length-bits, num-append, nu
 
 -- ---- bytes of bits
 
+-- as many bytes as asked for
 pub length-bytes : (n : ℕ) (w : List Bool) → length (bytesOf n w) ≡ n
 unfolding bytesOf
 length-bytes zero w = refl
 length-bytes (suc n) w = ap suc (length-bytes n (drop 8 w))
 
+-- as many bytes as the bits need
 pub length-laid : (w : List Bool) → length (laid w) ≡ (length w + 7) / 8
 unfolding laid
 length-laid w = length-bytes ((length w + 7) / 8) w
@@ -31,15 +33,16 @@ unfolding low
 low-zeros zero j = rw zero-add
 low-zeros (suc i) j = rw suc-add (ap (λ (l : List Bool). false ∷ l) (low-zeros i j))
 
--- a short list of bits, as more of them
+-- more low bits of a number than the bits that it is made of: zeros above them
 low-pad : (a : List Bool) (i : ℕ) → low (length a + i) (num a) ≡ a ++ low i 0
 low-pad a i = low-shifted (length a) i (num a) (num-lt a) ∙ ap (λ (l : List Bool). l ++ low i 0) (low-num a)
 
+-- no bits of a number
 pub low-none : (n : ℕ) → low 0 n ≡ []
 unfolding low
 low-none n = refl
 
--- a byte of bits, in front of zeros behind the rest
+-- the first byte of some bits, then the others and zeros: the bits and zeros
 byte-bits : (w : List Bool) (m : ℕ) → length w ≤ 8 + m → low 8 (num (take 8 w)) ++ (drop 8 w ++ low (m - length (drop 8 w)) 0) ≡ w ++ low (8 + m - length w) 0
 byte-bits w m h = go (decLe 8 (length w))
   where
@@ -57,7 +60,7 @@ byte-bits w m h = go (decLe 8 (length w))
         let t : low 8 (num w) ≡ w ++ low i 0 = ap (λ (k : ℕ). low k (num w)) e ∙ low-pad w i in
         rw (a, d, t, ← f, sub-zero) (append-assoc w (low i 0) (low m 0) ∙ ap (λ (x : List Bool). w ++ x) (low-zeros i m))
 
--- the bits of the bytes are the bits, and zeros
+-- the bits of n bytes made of w are w and zeros
 pub bits-bytes : (n : ℕ) (w : List Bool) → length w ≤ 8 * n → bitsOf (bytesOf n w) ≡ w ++ low (8 * n - length w) 0
 unfolding bytesOf bitsOf
 bits-bytes zero [] h = sym (low-none 0)
@@ -66,6 +69,7 @@ bits-bytes (suc n) w h =
     let e : 8 * suc n ≡ 8 + 8 * n = omega arith in
     rw (bits-bytes n (drop 8 w) (omega (arith, length-drop 8 w)), e) (byte-bits w (8 * n) (omega arith))
 
+-- the bits of the bytes that hold w are w and its spare bits, 0
 pub bits-laid : (w : List Bool) → bitsOf (laid w) ≡ w ++ low (8 * ((length w + 7) / 8) - length w) 0
 unfolding laid
 bits-laid w = bits-bytes ((length w + 7) / 8) w (omega arith)
@@ -76,11 +80,13 @@ bits-laid w = bits-bytes ((length w + 7) / 8) w (omega arith)
 abbrev pub Bytes : List ℕ → Type 0
 Bytes s = (i : ℕ) → getD s i 0 < 256
 
+-- the bits of joined bytes
 pub bits-append : (s t : List ℕ) → bitsOf (s ++ t) ≡ bitsOf s ++ bitsOf t
 unfolding bitsOf
 bits-append [] t = refl
 bits-append (b ∷ s) t = ap (λ (l : List Bool). low 8 b ++ l) (bits-append s t) ∙ sym (append-assoc (low 8 b) (bitsOf s) (bitsOf t))
 
+-- a whole byte in front is laid as itself
 pub laid-byte : (b : ℕ) (w : List Bool) → b < 256 → laid (low 8 b ++ w) ≡ b ∷ laid w
 unfolding laid bytesOf
 laid-byte b w h =
@@ -88,6 +94,7 @@ laid-byte b w h =
     let e : (length (low 8 b ++ w) + 7) / 8 ≡ suc ((length w + 7) / 8) = omega (arith, length-append (low 8 b) w) in
     rw (e, take-at (low 8 b) w 8 l, drop-at (low 8 b) w 8 l, num-low 8 b, mod-eq-of-lt h)
 
+-- so are whole bytes
 pub laid-bytes : (s : List ℕ) (w : List Bool) → Bytes s → laid (bitsOf s ++ w) ≡ s ++ laid w
 unfolding bitsOf
 laid-bytes [] w h = refl
@@ -96,12 +103,14 @@ laid-bytes (b ∷ s) w h =
 
 -- ---- a buffer
 
+-- bytes laid over a buffer whose first a bytes they repeat: only the rest is laid over
 over-behind : (buf x : List ℕ) (a : ℕ) → a ≤ length buf → over (take a buf ++ x) buf ≡ take a buf ++ over x (drop a buf)
 unfolding over
 over-behind buf x a h =
     let l : length (take a buf ++ x) ≡ a + length x = length-append (take a buf) x ∙ ap (λ (n : ℕ). n + length x) (length-take-le a buf h) in
     rw (l, drop-drop (length x) a buf) (append-assoc (take a buf) x (drop (a + length x) buf))
 
+-- laid over twice, the second time at least as far
 over-over : (x y buf : List ℕ) → length y ≤ length x → over x (over y buf) ≡ over x buf
 unfolding over
 over-over x y buf h =
@@ -117,6 +126,7 @@ take-bits buf a k h =
     ap₂ (λ (n : ℕ) (l : List Bool). take n l) e (ap bitsOf (sym (take-append-drop a buf)) ∙ bits-append (take a buf) (drop a buf))
     ∙ take-append-add (bitsOf (take a buf)) (bitsOf (drop a buf)) k
 
+-- the first bytes of bytes are bytes
 bytes-take : (buf : List ℕ) (a : ℕ) → Bytes buf → Bytes (take a buf)
 bytes-take buf zero h i = lit< tt
 bytes-take [] (suc a) h i = lit< tt
@@ -170,11 +180,12 @@ take-over w buf =
     ∙ append-assoc w z (bitsOf (drop (length (laid w)) buf)))
     ∙ take-append-seam w (z ++ bitsOf (drop (length (laid w)) buf))
 
+-- bits laid behind w are laid as if joined to it
 lay-more : (w g : List Bool) (buf : List ℕ) → over (laid (take (length w) (bitsOf (over (laid w) buf)) ++ g)) (over (laid w) buf) ≡ over (laid (w ++ g)) buf
 lay-more w g buf =
     rw (take-over w buf) (over-over (laid (w ++ g)) (laid w) buf (omega (arith, length-laid w, length-laid (w ++ g), length-append w g)))
 
--- bits after bits
+-- bits laid behind bits: both, joined
 pub put-put : (buf : List ℕ) (p : ℕ) (f g : List Bool) → p ≤ 8 * length buf → put (put buf p f) (p + length f) g ≡ put buf p (f ++ g)
 unfolding put
 put-put buf p [] g h = rw add-zero
@@ -185,22 +196,24 @@ put-put buf p (b ∷ f) (d ∷ g) h =
     omega (arith, length-append t (b ∷ f), length-take-le p (bitsOf buf) (omega (arith, length-bits buf))) in
     rw e (lay-more (t ++ b ∷ f) (d ∷ g) buf ∙ ap (λ (l : List Bool). over (laid l) buf) (append-assoc t (b ∷ f) (d ∷ g)))
 
--- from the start of a buffer
+-- from the start of a buffer: the bytes that hold the bits, over it
 pub put-start : (buf : List ℕ) (w : List Bool) → put buf 0 w ≡ over (laid w) buf
 unfolding put over laid bytesOf
 put-start buf [] = refl
 put-start buf (b ∷ w) = refl
 
--- no bits of a number, and more of them
+-- no bits of a number change nothing
 pub put-none : (buf : List ℕ) (p v : ℕ) → put buf p (low 0 v) ≡ buf
 unfolding put low
 put-none buf p v = refl
 
+-- the low bits of a number, then those above them
 pub put-low : (buf : List ℕ) (p i m v : ℕ) → p ≤ 8 * length buf → put (put buf p (low i v)) (p + i) (low m (v / 2 ^ i)) ≡ put buf p (low (i + m) v)
 put-low buf p i m v h =
     ap (λ (n : ℕ). put (put buf p (low i v)) (p + n) (low m (v / 2 ^ i))) (sym (length-low i v))
     ∙ put-put buf p (low i v) (low m (v / 2 ^ i)) h ∙ ap (put buf p) (sym (low-add i m v))
 
+-- no bits change nothing
 pub put-nil : (buf : List ℕ) (p : ℕ) → put buf p [] ≡ buf
 unfolding put
 put-nil buf p = refl

@@ -6,3 +6,4 @@ pub mod WriteLaws
 pub mod Window
 pub mod Trip
 pub mod CheckedLaws
+pub mod Cases

@@ -1,4 +1,4 @@
--- Bits that stand at a place as the low bits of a number in a register: a byte without its first bits, or eight bytes.
+-- Bits that stand at a place as the low bits of a number: a window of up to eight bytes, without the bits before the place.
 -- Assumes nothing.
 use mathlib.Core.Path.{_≡_, refl, sym, ap, ap₂, subst, _∙_}
 use mathlib.Core.Bool.{Bool}
@@ -44,7 +44,7 @@ window s i n k w h l e =
           ∙ ap₂ (λ (x y : List Bool). x ++ y) (ap (drop k) g ∙ drop-low k j w) (sym d);
     }
 
--- bits out of a window
+-- at most j bits are read out of a window of j
 pub window-bits : (bits : List Bool) (p j x m : ℕ) → Window bits p j x → m ≤ j → getBits bits p m ≡ Value (x % 2 ^ m) (p + m)
 window-bits bits p j x m v h =
     let w : j ≡ m + (j - m) = omega arith in
@@ -53,9 +53,9 @@ window-bits bits p j x m v h =
     ∙ ap (λ (n : ℕ). take m (low n x)) w ∙ take-low m (j - m) x in
     bits-yes bits p m (omega (arith, length-drop p bits, v .room)) ∙ ap (λ (n : ℕ). Value n (p + m)) (ap num t ∙ num-low m x)
 
--- ---- bytes gathered into a word
+-- ---- bytes gathered into one number
 
--- so many bytes, and so many behind them
+-- the number of a + b bytes from that of the first a and that of the b behind them
 pub gather : (s : List ℕ) (i a b : ℕ) → i + a ≤ length s
     → num (bitsOf (take (a + b) (drop i s))) ≡ num (bitsOf (take a (drop i s))) + num (bitsOf (take b (drop (i + a) s))) * 2 ^ (8 * a)
 gather s i a b h =
@@ -65,22 +65,25 @@ gather s i a b h =
     ∙ ap num (bits-append x (take b (drop (i + a) s))) ∙ num-append (bitsOf x) (bitsOf (take b (drop (i + a) s)))
     ∙ ap (λ (n : ℕ). num (bitsOf x) + num (bitsOf (take b (drop (i + a) s))) * 2 ^ n) l
 
+-- one byte is its own number
 one-byte : (s : List ℕ) (i : ℕ) → i < length s → getD s i 0 < 256 → num (bitsOf (take 1 (drop i s))) ≡ getD s i 0
 unfolding bitsOf
 one-byte s i h l =
     ap (λ (z : List ℕ). num (bitsOf (take 1 z))) (drop-cons s i 0 h) ∙ ap num (append-nil (low 8 (getD s i 0))) ∙ num-low 8 (getD s i 0) ∙ mod-eq-of-lt l
 
+-- a bytes stay below 2 ^ (8 a)
 bytes-lt : (x : List ℕ) (a : ℕ) → num (bitsOf (take a x)) < 2 ^ (8 * a)
 bytes-lt x a =
     lt-of-lt-of-le (num-lt (bitsOf (take a x)))
     (pow-mono {i = length (bitsOf (take a x))} {j = 8 * a} (omega (arith, length-bits (take a x), length-take a x)))
 
--- a word of a bytes, and a word of the a bytes behind them, joined in a word of 64 bits
+-- the number lo of a bytes and hi of the a bytes behind them, joined in 64 bits: the shift loses nothing, the sum fits, and it is the number of all
 pub record Joined (s : List ℕ) (i a lo hi : ℕ) : Type 0 where
   pub exact : hi * 2 ^ (8 * a) % 2 ^ 64 ≡ hi * 2 ^ (8 * a)
   pub small : lo + hi * 2 ^ (8 * a) < 2 ^ 64
   pub same : lo + hi * 2 ^ (8 * a) ≡ num (bitsOf (take (a + a) (drop i s)))
 
+-- so it is for at most four bytes and four
 pub joined : (s : List ℕ) (i a lo hi : ℕ) → i + a ≤ length s → a ≤ 4 → lo ≡ num (bitsOf (take a (drop i s))) → hi ≡ num (bitsOf (take a (drop (i + a) s)))
     → Joined s i a lo hi
 joined s i a lo hi h l e f =
@@ -91,11 +94,12 @@ joined s i a lo hi h l e f =
       same = g;
     }
 
+-- and for one byte and one
 pub joined-bytes : (s : List ℕ) (i lo hi : ℕ) → i + 1 < length s → lo ≡ getD s i 0 → hi ≡ getD s (i + 1) 0 → lo < 256 → hi < 256 → Joined s i 1 lo hi
 joined-bytes s i lo hi h e f le lf =
     joined s i 1 lo hi (omega arith) (omega arith) (e ∙ sym (one-byte s i (omega arith) (omega arith))) (f ∙ sym (one-byte s (i + 1) (omega arith) (omega arith)))
 
--- up to eight bytes, fewer at the end: the window that they are
+-- at most as many elements as there are
 take-min : (l : List ℕ) (n : ℕ) → take n l ≡ take (min n (length l)) l
 take-min l n = go (decLe n (length l))
   where
@@ -103,6 +107,7 @@ take-min l n = go (decLe n (length l))
     go (yes h) = let e : min n (length l) ≡ n = omega arith in rw e
     go (no h) = let e : min n (length l) ≡ length l = omega arith in rw e (take-all n l (omega arith) ∙ sym (take-all (length l) l (omega arith)))
 
+-- up to eight bytes from the byte of p on, fewer at the end, are a window at p
 pub tail-window : (s : List ℕ) (p w : ℕ) → p / 8 < length s → w ≡ num (bitsOf (take 8 (drop (p / 8) s)))
     → Window (bitsOf s) p (8 * min 8 (length s - p / 8) - p % 8) (w / 2 ^ (p % 8))
 tail-window s p w h e =
@@ -112,12 +117,13 @@ tail-window s p w h e =
     let f : w ≡ num (bitsOf (take n (drop i s))) = e ∙ ap (λ (l : List ℕ). num (bitsOf l)) (take-min (drop i s) 8) ∙ ap (λ (m : ℕ). num (bitsOf (take (min 8 m) (drop i s)))) (length-drop i s) in
     subst (λ (m : ℕ). Window (bitsOf s) m (8 * n - p % 8) (w / 2 ^ (p % 8))) q (window s i n (p % 8) w (omega arith) (omega arith) f)
 
--- one byte more
+-- the number w of j bytes and the byte b behind them, joined in 64 bits
 pub record More (s : List ℕ) (i j w b : ℕ) : Type 0 where
   pub exact : b * 2 ^ (8 * j) % 2 ^ 64 ≡ b * 2 ^ (8 * j)
   pub small : w + b * 2 ^ (8 * j) < 2 ^ 64
   pub same : w + b * 2 ^ (8 * j) ≡ num (bitsOf (take (j + 1) (drop i s)))
 
+-- so it is while there are fewer than eight
 pub more : (s : List ℕ) (i j w b : ℕ) → i + j < length s → j < 8 → w ≡ num (bitsOf (take j (drop i s))) → b ≡ getD s (i + j) 0 → b < 256 → More s i j w b
 more s i j w b h l e f lb =
     let g : w + b * 2 ^ (8 * j) ≡ num (bitsOf (take (j + 1) (drop i s))) =
@@ -128,6 +134,7 @@ more s i j w b h l e f lb =
       same = g;
     }
 
+-- no bytes make 0
 pub nothing : (l : List ℕ) → 0 ≡ num (bitsOf (take 0 l))
 unfolding num bitsOf
 nothing l = refl

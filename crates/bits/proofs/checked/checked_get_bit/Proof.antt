@@ -1,12 +1,10 @@
+-- `checked_get_bit` meets its contract: each test as it was met on the way, and what `get_bit` answers. Assumes nothing.
 use borrow.Author.Needs.{needs}
 use borrow.Author.Tests.{lt-ltb, le-ltb}
 use mathlib.Core.Path.{sym, _∙_}
 use Rattle.bits.specs.Checked.{bitRead}
 use Rattle.bits.proofs.checked.checked_get_bit.Statement.{statement}
 use Rattle.bits.proofs.checked.checked_get_bit.Tie as tie
-use Rattle.bits.proofs.checked.checked_get_bit.Reads as reads
-use Rattle.bits.proofs.checked.checked_get_bit.Lts as lts
-use Rattle.bits.proofs.read.get_bit.Reads as get-bit-reads
 
 returns : tie.Need-returns
 unfolding bitRead

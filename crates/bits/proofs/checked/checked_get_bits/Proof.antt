@@ -1,12 +1,10 @@
+-- `checked_get_bits` meets its contract: each test as it was met on the way, and what `get_bits` answers. Assumes nothing.
 use borrow.Author.Needs.{needs}
 use borrow.Author.Tests.{lt-ltb, le-ltb}
 use mathlib.Core.Path.{sym, _∙_}
 use Rattle.bits.specs.Checked.{bitsRead}
 use Rattle.bits.proofs.checked.checked_get_bits.Statement.{statement}
 use Rattle.bits.proofs.checked.checked_get_bits.Tie as tie
-use Rattle.bits.proofs.checked.checked_get_bits.Reads as reads
-use Rattle.bits.proofs.checked.checked_get_bits.Lts as lts
-use Rattle.bits.proofs.read.get_bits.Reads as get-bits-reads
 
 returns : tie.Need-returns
 unfolding bitsRead

@@ -1,12 +1,10 @@
+-- `checked_get_unary` meets its contract: each test as it was met on the way, and what `get_unary` answers. Assumes nothing.
 use borrow.Author.Needs.{needs}
 use borrow.Author.Tests.{lt-ltb, le-ltb}
 use mathlib.Core.Path.{sym, _∙_}
 use Rattle.bits.specs.Checked.{unaryRead}
 use Rattle.bits.proofs.checked.checked_get_unary.Statement.{statement}
 use Rattle.bits.proofs.checked.checked_get_unary.Tie as tie
-use Rattle.bits.proofs.checked.checked_get_unary.Reads as reads
-use Rattle.bits.proofs.checked.checked_get_unary.Lts as lts
-use Rattle.bits.proofs.read.get_unary.Reads as get-unary-reads
 
 returns : tie.Need-returns
 unfolding unaryRead

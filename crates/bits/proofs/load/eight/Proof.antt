@@ -1,12 +1,10 @@
+-- `eight` meets its contract: eight bytes make their number out of four and four, by `joined`. Assumes nothing.
 use borrow.Author.Needs.{needs}
 use native.Mathlib.Omega.{arith}
 use denote.Ref.{now}
 use Rattle.bits.proofs.Window.{Joined, joined}
 use Rattle.bits.proofs.load.eight.Statement.{statement}
 use Rattle.bits.proofs.load.eight.Tie as tie
-use Rattle.bits.proofs.load.eight.Reads as reads
-use Rattle.bits.proofs.load.eight.Lts as lts
-use Rattle.bits.proofs.load.four.Reads as four-reads
 
 four-requires : tie.Need-four-requires
 four-requires c κs = search needs

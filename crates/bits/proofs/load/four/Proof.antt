@@ -1,12 +1,10 @@
+-- `four` meets its contract: four bytes make their number out of two and two, by `joined`. Assumes nothing.
 use borrow.Author.Needs.{needs}
 use native.Mathlib.Omega.{arith}
 use denote.Ref.{now}
 use Rattle.bits.proofs.Window.{Joined, joined}
 use Rattle.bits.proofs.load.four.Statement.{statement}
 use Rattle.bits.proofs.load.four.Tie as tie
-use Rattle.bits.proofs.load.four.Reads as reads
-use Rattle.bits.proofs.load.four.Lts as lts
-use Rattle.bits.proofs.load.two.Reads as two-reads
 
 two-requires : tie.Need-two-requires
 two-requires c κs = search needs

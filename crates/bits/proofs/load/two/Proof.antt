@@ -1,3 +1,4 @@
+-- `two` meets its contract: two bytes make their number, by `joined-bytes`. Assumes nothing.
 use borrow.Author.Needs.{needs}
 use native.Mathlib.Omega.{arith}
 use Prim.Native.Nat.{_+_}
@@ -5,9 +6,6 @@ use denote.Ref.{now}
 use Rattle.bits.proofs.Window.{Joined, joined-bytes}
 use Rattle.bits.proofs.load.two.Statement.{statement}
 use Rattle.bits.proofs.load.two.Tie as tie
-use Rattle.bits.proofs.load.two.Reads as reads
-use Rattle.bits.proofs.load.two.Lts as lts
-use Rattle.bits.proofs.load.wide64.Reads as wide64-reads
 
 shared-slice-read-wide64 : tie.Need-shared-slice-read-wide64
 shared-slice-read-wide64 c = search needs

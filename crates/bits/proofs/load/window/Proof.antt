@@ -1,3 +1,4 @@
+-- `window` meets its contract: near the end the loop holds the number of the first j bytes, and `more` adds one. Assumes nothing.
 use borrow.Author.Needs.{needs}
 use native.Mathlib.Omega.{arith}
 use mathlib.Core.Path.{_≡_, refl, sym, ap, _∙_}
@@ -10,10 +11,6 @@ use Rattle.bits.specs.Bits.{num, bitsOf}
 use Rattle.bits.proofs.Window.{More, more, nothing}
 use Rattle.bits.proofs.load.window.Statement.{statement}
 use Rattle.bits.proofs.load.window.Tie as tie
-use Rattle.bits.proofs.load.window.Reads as reads
-use Rattle.bits.proofs.load.window.Lts as lts
-use Rattle.bits.proofs.load.eight.Reads as eight-reads
-use Rattle.bits.proofs.load.wide64.Reads as wide64-reads
 
 abbrev Inv-loop : tie.InvT-loop
 Inv-loop s i n w₀ j₀ w j = (j ≤ n) × (n < 8) × (n ≡ length s - i) × (w ≡ num (bitsOf (take j (drop i s))))

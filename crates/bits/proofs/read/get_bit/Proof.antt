@@ -1,3 +1,4 @@
+-- `get_bit` meets its contract: inside the payload by `bit-read`, past its end by `bits-no`. Assumes nothing.
 use borrow.Author.Needs.{needs}
 use native.Mathlib.Omega.{arith}
 use mathlib.Core.Path.{sym}
@@ -8,9 +9,6 @@ use Rattle.bits.proofs.BitLaws.{length-bits}
 use Rattle.bits.proofs.ReadLaws.{bits-no, bit-read}
 use Rattle.bits.proofs.read.get_bit.Statement.{statement}
 use Rattle.bits.proofs.read.get_bit.Tie as tie
-use Rattle.bits.proofs.read.get_bit.Reads as reads
-use Rattle.bits.proofs.read.get_bit.Lts as lts
-use Rattle.bits.proofs.load.wide.Reads as wide-reads
 
 returns : tie.Need-returns
 returns c =

@@ -1,3 +1,4 @@
+-- `get_bits` meets its contract: the bits come out of the window at the place, by `tail-window` and `window-bits`. Assumes nothing.
 use borrow.Author.Needs.{needs}
 use native.Mathlib.Omega.{arith}
 use mathlib.Core.Path.{_≡_, sym}
@@ -13,9 +14,6 @@ use Rattle.bits.proofs.ReadLaws.{bits-none, bits-no, bits-lt}
 use Rattle.bits.proofs.Window.{tail-window, window-bits}
 use Rattle.bits.proofs.read.get_bits.Statement.{statement}
 use Rattle.bits.proofs.read.get_bits.Tie as tie
-use Rattle.bits.proofs.read.get_bits.Reads as reads
-use Rattle.bits.proofs.read.get_bits.Lts as lts
-use Rattle.bits.proofs.load.window.Reads as window-reads
 
 returns : tie.Need-returns
 returns c = let a = c .before .before .before .args in rw (c .if2 .taken) (sym (bits-none (bitsOf (now (a .s))) (a .at)))

@@ -1,3 +1,4 @@
+-- `get_unary` meets its contract: the loop has passed ones only, and the bit at p ends it or is passed too. Assumes nothing.
 use native.Mathlib.Omega.{arith}
 use mathlib.Core.Path.{_≡_, sym, ap₂, _∙_}
 use Prim.Native.Nat.{_+_, _/_, _%_, _^_, _≤_}
@@ -9,8 +10,6 @@ use Rattle.bits.proofs.BitLaws.{length-bits}
 use Rattle.bits.proofs.ReadLaws.{Passed, passed, unary-yes, unary-no}
 use Rattle.bits.proofs.read.get_unary.Statement.{statement}
 use Rattle.bits.proofs.read.get_unary.Tie as tie
-use Rattle.bits.proofs.read.get_unary.Reads as reads
-use Rattle.bits.proofs.read.get_unary.Lts as lts
 
 -- from at up to p stand ones only
 abbrev Inv-loop : tie.InvT-loop

@@ -1,3 +1,4 @@
+-- `join` meets its contract: the two parts do not overlap, so that their sum is the byte and fits. Assumes nothing.
 use borrow.Author.Needs.{needs}
 use native.Mathlib.Omega.{arith}
 use native.Mathlib.Nat.{mod-lt}
@@ -7,9 +8,6 @@ use lib.Pow.{pow-pos, shl-exact}
 use Rattle.bits.proofs.BitLaws.{shl-one, join-lt}
 use Rattle.bits.proofs.write.join.Statement.{statement}
 use Rattle.bits.proofs.write.join.Tie as tie
-use Rattle.bits.proofs.write.join.Reads as reads
-use Rattle.bits.proofs.write.join.Lts as lts
-use Rattle.bits.proofs.load.wide.Reads as wide-reads
 
 wide-requires : tie.Need-wide-requires
 wide-requires c κs = search needs

@@ -1,3 +1,4 @@
+-- `lay_bits` meets its contract: a put into the lent rest is one into the buffer, by `put-lent`. Assumes nothing.
 use borrow.Author.Needs.{needs}
 use native.Mathlib.Omega.{arith}
 use mathlib.Core.Path.{refl}
@@ -6,9 +7,6 @@ use Rattle.bits.specs.Bits.{low}
 use Rattle.bits.proofs.WriteLaws.{put-lent}
 use Rattle.bits.proofs.write.lay_bits.Statement.{statement}
 use Rattle.bits.proofs.write.lay_bits.Tie as tie
-use Rattle.bits.proofs.write.lay_bits.Reads as reads
-use Rattle.bits.proofs.write.lay_bits.Lts as lts
-use Rattle.bits.proofs.write.put_bits.Reads as put-bits-reads
 
 sub-put-bits : tie.Need-sub-put-bits
 sub-put-bits c = search needs

@@ -1,3 +1,4 @@
+-- `put_bits` meets its contract: the loop has put the i low bits, and `put-low` adds those of one byte. Assumes nothing.
 use borrow.Author.Needs.{needs}
 use native.Mathlib.Omega.{arith}
 use mathlib.Core.Path.{_≡_, refl, sym, _∙_}
@@ -9,10 +10,6 @@ use Rattle.bits.specs.Laid.{put}
 use Rattle.bits.proofs.LaidLaws.{put-none, put-low}
 use Rattle.bits.proofs.write.put_bits.Statement.{statement}
 use Rattle.bits.proofs.write.put_bits.Tie as tie
-use Rattle.bits.proofs.write.put_bits.Reads as reads
-use Rattle.bits.proofs.write.put_bits.Lts as lts
-use Rattle.bits.proofs.write.least.Reads as least-reads
-use Rattle.bits.proofs.write.put_chunk.Reads as put-chunk-reads
 
 abbrev Inv-loop : tie.InvT-loop
 Inv-loop out₀ at v count i₀ p₀ out i p = (i ≤ count) × (p ≡ at + i) × (length out ≡ length out₀) × (out ≡ put out₀ at (low i v))

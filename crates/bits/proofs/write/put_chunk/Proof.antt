@@ -1,3 +1,4 @@
+-- `put_chunk` meets its contract: a store to one byte is a put of bits that lie within it, by `put-byte`. Assumes nothing.
 use borrow.Author.Needs.{needs}
 use native.Mathlib.Omega.{arith}
 use denote.Ref.{now}
@@ -6,9 +7,6 @@ use Rattle.bits.proofs.BitLaws.{length-low, num-low}
 use Rattle.bits.proofs.LaidLaws.{put-byte}
 use Rattle.bits.proofs.write.put_chunk.Statement.{statement}
 use Rattle.bits.proofs.write.put_chunk.Tie as tie
-use Rattle.bits.proofs.write.put_chunk.Reads as reads
-use Rattle.bits.proofs.write.put_chunk.Lts as lts
-use Rattle.bits.proofs.write.join.Reads as join-reads
 
 slice-read-join : tie.Need-slice-read-join
 slice-read-join c = search needs

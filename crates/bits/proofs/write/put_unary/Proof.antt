@@ -1,3 +1,4 @@
+-- `put_unary` meets its contract: two puts are one of both fields joined, by `put-two`. Assumes nothing.
 use borrow.Author.Needs.{needs}
 use native.Mathlib.Omega.{arith}
 use mathlib.Core.Path.{sym, ap, _∙_}
@@ -10,9 +11,6 @@ use Rattle.bits.proofs.WriteLaws.{put-two, unary-parts}
 use Rattle.bits.proofs.RoundTrip.{length-unary}
 use Rattle.bits.proofs.write.put_unary.Statement.{statement}
 use Rattle.bits.proofs.write.put_unary.Tie as tie
-use Rattle.bits.proofs.write.put_unary.Reads as reads
-use Rattle.bits.proofs.write.put_unary.Lts as lts
-use Rattle.bits.proofs.write.put_bits.Reads as put-bits-reads
 
 put-bits-requires : tie.Need-put-bits-requires
 put-bits-requires c κs = omega (arith, length-unary (c .before .before .args .c))
