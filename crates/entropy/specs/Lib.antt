@@ -1,1 +1,3 @@
 pub mod Medians
+pub mod Entropy
+pub mod Seed

@@ -1,0 +1,108 @@
+-- Laws of the seed medians: the three answers that a payload can call for, and the range of the medians.
+-- Assumes nothing.
+use mathlib.Core.Path.{_≡_, refl}
+use mathlib.Core.Bool.{Bool, true, false, _||_}
+use mathlib.Core.List.{List}
+use Prim.Native.Nat.{ℕ, zero, suc, _<_}
+use native.Mathlib.Omega.{arith}
+use lib.Dec.{T, eqb·suc-zero}
+use lib.IntN.{ℤ, pos, negsuc, natAbs}
+use lib.ListN.{getD}
+use lib.Signed.{nonNeg}
+use mir.Syntax.{w32}
+use mir.Val.{Fits, SFits, toZ, ofZ}
+use mir.ValLaws.{toZ-ofZ}
+use Rattle.answers.specs.declared.Refusal.{Refusal}
+use Rattle.answers.specs.declared.Outcome.{Outcome}
+use Rattle.answers.specs.Numbers.{numberOf, outcomeNumber}
+use Rattle.entropy.specs.declared.EntropyInfo.{EntropyInfo}
+use Rattle.entropy.specs.Medians.{Medians, MedianPair, zeroPair}
+use Rattle.entropy.specs.Entropy.{entropyInfo, entropyRefusal, isMono}
+use Rattle.entropy.specs.Seed.{isNegative, anyNegative, notStereo, seedRefusal, seedSet, seedPair, seedMedians}
+
+-- a refusal's number is not 0
+pub number-positive : (r : Refusal) → 0 < numberOf r
+number-positive Refusal.EntropyLength = omega arith
+number-positive Refusal.NotStereo = omega arith
+number-positive Refusal.Truncated = omega arith
+number-positive Refusal.EndOfStream = omega arith
+number-positive Refusal.TooLarge = omega arith
+number-positive Refusal.ListLength = omega arith
+number-positive Refusal.InvalidTerm = omega arith
+number-positive Refusal.SeedTooShort = omega arith
+number-positive Refusal.TooManyPasses = omega arith
+number-positive Refusal.ResidualOutOfSpan = omega arith
+number-positive Refusal.OutputTooShort = omega arith
+number-positive Refusal.InvalidChannel = omega arith
+
+-- the answer that a payload calls for
+abbrev pub Seeds : List ℕ → ℕ → MedianPair → Type 0
+Seeds payload n pair = (n ≡ seedRefusal payload) × (pair ≡ seedMedians payload)
+
+-- a payload of another length is refused with its number
+pub length-refused : (p : List ℕ) (n : ℕ) → 0 < n → n ≡ entropyRefusal p → Seeds p n zeroPair
+unfolding seedMedians seedRefusal
+length-refused p zero h e = absurd (omega arith)
+length-refused p (suc n) h e = rw (← e) (refl, simp eqb·suc-zero)
+
+-- a payload of the right length is refused with 2 where it is mono or has a negative median
+pub not-stereo : (p : List ℕ) → 0 ≡ entropyRefusal p → notStereo (entropyInfo p) ≡ true → Seeds p 2 zeroPair
+unfolding seedMedians seedRefusal
+not-stereo p e t = rw (← e, t) (refl, refl)
+
+-- and otherwise accepted, with its sets
+pub accepted : (p : List ℕ) → 0 ≡ entropyRefusal p → notStereo (entropyInfo p) ≡ false → Seeds p 0 (seedPair (entropyInfo p))
+unfolding seedMedians seedRefusal
+accepted p e t = rw (← e, t) (refl, refl)
+
+-- none of a set's medians is negative
+pub record NoneNegative (set : List ℤ) : Type 0 where
+  pub n0 : isNegative (getD set 0 (pos 0)) ≡ false
+  pub n1 : isNegative (getD set 1 (pos 0)) ≡ false
+  pub n2 : isNegative (getD set 2 (pos 0)) ≡ false
+
+or-left : (a b : Bool) → (a || b) ≡ false → a ≡ false
+or-left true b e = e
+or-left false b e = refl
+
+or-right : (a b : Bool) → (a || b) ≡ false → b ≡ false
+or-right true b e = cc
+or-right false b e = e
+
+pub none-negative : (set : List ℤ) → anyNegative set ≡ false → NoneNegative set
+unfolding anyNegative
+none-negative set e =
+    let a = isNegative (getD set 0 (pos 0)) in
+    let b = isNegative (getD set 1 (pos 0)) in
+    let d = isNegative (getD set 2 (pos 0)) in
+    let f : (a || b) ≡ false = or-left (a || b) d e in
+    record { n0 = or-left a b f; n1 = or-right a b f; n2 = or-right (a || b) d e }
+
+-- a stereo payload has no negative median
+pub record Stereo (info : EntropyInfo) : Type 0 where
+  pub left : anyNegative (info .«medians_left») ≡ false
+  pub right : anyNegative (info .«medians_right») ≡ false
+
+pub stereo : (info : EntropyInfo) → notStereo info ≡ false → Stereo info
+unfolding notStereo
+stereo info e =
+    let m = isMono info in
+    let a = anyNegative (info .«medians_left») in
+    let b = anyNegative (info .«medians_right») in
+    record { left = or-right m a (or-left (m || a) b e); right = or-right (m || a) b e }
+
+-- a number that is not negative keeps its value as an unsigned one
+pub natural : (z : ℤ) → SFits w32 z → isNegative z ≡ false → T (nonNeg (toZ w32 (ofZ w32 z))) × Fits w32 (natAbs (toZ w32 (ofZ w32 z)))
+natural (pos n) f e = rw (toZ-ofZ w32 (pos n) f) (tt, record { fits = omega (arith, f .sfits) })
+natural (negsuc n) f e = absurd (let z : _≡_ {A = ℕ} 0 1 = cc in omega arith)
+
+-- ---- the same, as the code comes by them: from the outcome o and the sets i of the expanded payload, an answer of outcome q and medians m
+pub length-refused-raw : (p : List ℕ) (o q : Outcome) (r : Refusal) (m : MedianPair) → q ≡ o → o ≡ Outcome.Refused r → outcomeNumber o ≡ entropyRefusal p → m ≡ zeroPair → Seeds p (outcomeNumber q) m
+length-refused-raw p o q r m e f g h =
+    rw (e, h) (length-refused p (outcomeNumber o) (rw f (number-positive r)) g)
+
+pub not-stereo-raw : (p : List ℕ) (o q : Outcome) (i : EntropyInfo) (m : MedianPair) → q ≡ Outcome.Refused Refusal.NotStereo → o ≡ Outcome.Accepted → outcomeNumber o ≡ entropyRefusal p → i ≡ entropyInfo p → notStereo i ≡ true → m ≡ zeroPair → Seeds p (outcomeNumber q) m
+not-stereo-raw p o q i m e f g j t h = rw (e, h) (not-stereo p (rw f at g) (rw j at t))
+
+pub accepted-raw : (p : List ℕ) (o : Outcome) (i : EntropyInfo) (a b : Medians) → o ≡ Outcome.Accepted → outcomeNumber o ≡ entropyRefusal p → i ≡ entropyInfo p → notStereo i ≡ false → a ≡ seedSet (i .«medians_left») → b ≡ seedSet (i .«medians_right») → Seeds p 0 (record { left = a; right = b })
+accepted-raw p o i a b f g j t ha hb = rw (ha, hb, j) (accepted p (rw f at g) (rw j at t))

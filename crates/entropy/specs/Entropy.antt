@@ -1,0 +1,45 @@
+-- Document 01, "Entropy": what an entropy payload holds.
+-- Assumes nothing.
+use Prim.Native.Nat.{ℕ, zero, suc}
+use mathlib.Core.Bool.{Bool, true, false, cond, _&&_, _||_}
+use mathlib.Core.List.{List, [], _∷_}
+use lib.Dec.{eqb}
+use lib.IntN.{ℤ, pos, negsuc}
+use lib.ListN.{length, getD, drop}
+use Rattle.logpack.specs.LogWord.{logWord, littleEndian}
+use Rattle.entropy.specs.declared.EntropyInfo.{EntropyInfo}
+
+-- document 01, "Entropy" (E1): the signed little-endian 16-bit log word at byte i, expanded
+abbrev pub wordAt : List ℕ → ℕ → ℤ
+wordAt bytes i = logWord (littleEndian (getD bytes i 0) (getD bytes (suc i) 0))
+
+-- three of them: a set of medians
+unfoldable pub wordSet : List ℕ → List ℤ
+wordSet bytes = wordAt bytes 0 ∷ wordAt bytes 2 ∷ wordAt bytes 4 ∷ []
+
+abbrev pub noSet : List ℤ
+noSet = pos 0 ∷ pos 0 ∷ pos 0 ∷ []
+
+-- document 01, "Entropy" (E1, E2): 6 bytes are mono, 12 stereo; the right set is the part from byte 6. A payload of another length holds no set.
+unfoldable pub entropyInfo : List ℕ → EntropyInfo
+entropyInfo payload =
+    cond (eqb (length payload) 6)
+    (record { «medians_left» = wordSet payload; «medians_right» = noSet })
+    (cond (eqb (length payload) 12)
+    (record { «medians_left» = wordSet payload; «medians_right» = wordSet (drop 6 payload) })
+    (record { «medians_left» = noSet; «medians_right» = noSet }))
+
+-- document 01, "Why each operation says no" (X1): 1, length not 6 or 12
+unfoldable pub entropyRefusal : List ℕ → ℕ
+entropyRefusal payload = cond (eqb (length payload) 6 || eqb (length payload) 12) 0 1
+
+abbrev pub isZero : ℤ → Bool
+isZero (pos zero) = true
+isZero (pos (suc n)) = false
+isZero (negsuc n) = false
+
+-- document 01, "Entropy" (E3): three zero right medians count as mono. They are judged as expanded.
+unfoldable pub isMono : EntropyInfo → Bool
+isMono info =
+    isZero (getD (info .«medians_right») 0 (pos 0)) && isZero (getD (info .«medians_right») 1 (pos 0))
+    && isZero (getD (info .«medians_right») 2 (pos 0))

@@ -1,0 +1,49 @@
+-- Document 01, "Why each operation says no": which entropy payloads reading and packing accept, and the medians that an accepted one seeds.
+-- Assumes nothing.
+use Prim.Native.Nat.{ℕ, zero, suc}
+use mathlib.Core.Path.{_≡_}
+use mathlib.Core.Bool.{Bool, true, false, cond, _||_}
+use mathlib.Core.List.{List}
+use lib.Dec.{eqb}
+use lib.IntN.{ℤ, pos, negsuc, natAbs}
+use lib.ListN.{getD}
+use Rattle.entropy.specs.declared.EntropyInfo.{EntropyInfo}
+use Rattle.entropy.specs.Medians.{Medians, MedianPair, zeroPair}
+use Rattle.entropy.specs.Entropy.{entropyInfo, entropyRefusal, isMono}
+
+abbrev pub isNegative : ℤ → Bool
+isNegative (pos n) = false
+isNegative (negsuc n) = true
+
+unfoldable pub anyNegative : List ℤ → Bool
+anyNegative set = isNegative (getD set 0 (pos 0)) || isNegative (getD set 1 (pos 0)) || isNegative (getD set 2 (pos 0))
+
+-- document 01 (X2): the test behind refusal 2, mono or a negative median
+unfoldable pub notStereo : EntropyInfo → Bool
+notStereo info = isMono info || anyNegative (info .«medians_left») || anyNegative (info .«medians_right»)
+
+-- the first of two refusals that applies: a later test is asked only where the earlier one found nothing
+abbrev pub orElse : ℕ → ℕ → ℕ
+orElse zero later = later
+orElse (suc earlier) later = suc earlier
+
+-- document 01 (X2): the refusals about the entropy payload, 1 before 2; 0 means accepted
+unfoldable pub seedRefusal : List ℕ → ℕ
+seedRefusal payload = orElse (entropyRefusal payload) (cond (notStereo (entropyInfo payload)) 2 0)
+
+-- document 01, "The words of demand 3" (M4): reading accepts an entropy payload when none of the refusals about it applies
+abbrev pub acceptsEntropy : List ℕ → Type 0
+acceptsEntropy payload = seedRefusal payload ≡ 0
+
+-- a set of signed medians, none of them negative, as the medians of a word state
+abbrev pub seedSet : List ℤ → Medians
+seedSet set =
+    record { m0 = natAbs (getD set 0 (pos 0)); m1 = natAbs (getD set 1 (pos 0)); m2 = natAbs (getD set 2 (pos 0)) }
+
+-- both sets of a payload
+abbrev pub seedPair : EntropyInfo → MedianPair
+seedPair info = record { left = seedSet (info .«medians_left»); right = seedSet (info .«medians_right») }
+
+-- document 01, "Reading, from the entry down" (R6): the medians that an accepted payload seeds; a refused one gives 0 for all six
+unfoldable pub seedMedians : List ℕ → MedianPair
+seedMedians payload = cond (eqb (seedRefusal payload) 0) (seedPair (entropyInfo payload)) zeroPair
