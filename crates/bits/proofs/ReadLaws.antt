@@ -6,8 +6,8 @@ use mathlib.Core.List.{List, _∷_, _++_}
 use Prim.Native.Nat.{ℕ, zero, suc, _+_, _-_, _*_, _/_, _%_, _^_, _≤_, _<_}
 use native.Mathlib.Nat.{lt-of-lt-of-le}
 use native.Mathlib.Omega.{arith}
-use borrow.Author.Tests.{lt-ltb, le-ltb, le-leb, lt-leb, leb-true}
-use lib.Dec.{leb}
+use borrow.Author.Tests.{lt-ltb, le-ltb, le-leb, lt-leb, leb-true, leb-false, ltb-false}
+use lib.Dec.{ltb, leb}
 use lib.ListN.{length, take, drop, getD}
 use lib.Pow.{pow-mono}
 use lib.Seq.{drop-drop, drop-cons, drop-append-le}
@@ -37,6 +37,16 @@ pub bits-no : (bits : List Bool) (p k : ℕ) → length (drop p bits) < k → ge
 unfolding getBits
 bits-no bits p k h = rw (lt-leb k (length (drop p bits)) h)
 
+-- that is the only reason to refuse
+pub bits-missing : (bits : List Bool) (p k : ℕ) → getBits bits p k ≡ Truncated → length (drop p bits) < k
+unfolding getBits
+bits-missing bits p k e = go (leb k (length (drop p bits))) refl e
+  where
+    go : (t : Bool) → leb k (length (drop p bits)) ≡ t → pick t (Value (num (take k (drop p bits))) (p + k)) Truncated ≡ Truncated
+        → length (drop p bits) < k
+    go true h e = let z : _≡_ {A = ℕ} 0 1 = cc in absurd (omega arith)
+    go false h e = leb-false k (length (drop p bits)) h
+
 -- no bits are read at any place
 pub bits-none : (bits : List Bool) (p : ℕ) → getBits bits p 0 ≡ Value 0 p
 unfolding num
@@ -56,6 +66,16 @@ unary-yes bits p h = rw (lt-ltb (ones (drop p bits)) (length (drop p bits)) h)
 pub unary-no : (bits : List Bool) (p : ℕ) → length (drop p bits) ≤ ones (drop p bits) → unary bits p ≡ Truncated
 unfolding unary
 unary-no bits p h = rw (le-ltb (ones (drop p bits)) (length (drop p bits)) h)
+
+-- that is the only reason to refuse
+pub unary-missing : (bits : List Bool) (p : ℕ) → unary bits p ≡ Truncated → length (drop p bits) ≤ ones (drop p bits)
+unfolding unary
+unary-missing bits p e = go (ltb (ones (drop p bits)) (length (drop p bits))) refl e
+  where
+    go : (t : Bool) → ltb (ones (drop p bits)) (length (drop p bits)) ≡ t
+        → pick t (Value (ones (drop p bits)) (p + ones (drop p bits) + 1)) Truncated ≡ Truncated → length (drop p bits) ≤ ones (drop p bits)
+    go true h e = let z : _≡_ {A = ℕ} 0 1 = cc in absurd (omega arith)
+    go false h e = ltb-false (ones (drop p bits)) (length (drop p bits)) h
 
 -- ---- the bit at a place
 
@@ -92,12 +112,13 @@ bit-read s p h =
     let x = getD s (p / 8) 0 / 2 ^ (p % 8) in
     bits-yes (bitsOf s) p 1 (omega (arith, ap length d)) ∙ ap (λ (v : ℕ). Value v (p + 1)) (ap (λ (l : List Bool). num (take 1 l)) d ∙ omega (arith, val-mod x))
 
--- what it says of the ones from p on
+-- what a bit x at p says of the ones from p on
 pub record Passed (bits : List Bool) (p x : ℕ) : Type 0 where
   pub left : length (drop p bits) ≡ 1 + length (drop (p + 1) bits)
   pub stop : x ≡ 0 → ones (drop p bits) ≡ 0
   pub on : (x ≡ 0 → ⊥) → ones (drop p bits) ≡ 1 + ones (drop (p + 1) bits)
 
+-- so it is for the bit of the byte there
 pub passed : (s : List ℕ) (p : ℕ) → p / 8 < length s → Passed (bitsOf s) p (getD s (p / 8) 0 / 2 ^ (p % 8) % 2)
 unfolding ones
 passed s p h =
