@@ -171,14 +171,19 @@ put-byte buf p f h l n w =
     ∙ ap (λ (x : List ℕ). take a buf ++ x) (sym (put-first c (drop (suc a) buf) k f n w) ∙ ap (λ (x : List ℕ). put x k f) (sym (drop-cons buf a 0 l)))
     ∙ sym (put-rest buf a k f h (omega arith)) ∙ ap (λ (x : ℕ). put buf x f) (sym e)
 
--- the bits of a buffer that w has been laid over begin with w
-take-over : (w : List Bool) (buf : List ℕ) → take (length w) (bitsOf (over (laid w) buf)) ≡ w
+-- the bits of a buffer that w has been laid over: w, its spare bits, and those of the bytes behind
+pub bits-over : (w : List Bool) (buf : List ℕ)
+    → bitsOf (over (laid w) buf) ≡ w ++ (low (8 * ((length w + 7) / 8) - length w) 0 ++ bitsOf (drop ((length w + 7) / 8) buf))
 unfolding over
-take-over w buf =
+bits-over w buf =
     let z = low (8 * ((length w + 7) / 8) - length w) 0 in
-    ap (take (length w)) (bits-append (laid w) (drop (length (laid w)) buf) ∙ ap (λ (l : List Bool). l ++ bitsOf (drop (length (laid w)) buf)) (bits-laid w)
-    ∙ append-assoc w z (bitsOf (drop (length (laid w)) buf)))
-    ∙ take-append-seam w (z ++ bitsOf (drop (length (laid w)) buf))
+    bits-append (laid w) (drop (length (laid w)) buf)
+    ∙ ap₂ (λ (x : List Bool) (n : ℕ). x ++ bitsOf (drop n buf)) (bits-laid w) (length-laid w)
+    ∙ append-assoc w z (bitsOf (drop ((length w + 7) / 8) buf))
+
+-- so they begin with w
+take-over : (w : List Bool) (buf : List ℕ) → take (length w) (bitsOf (over (laid w) buf)) ≡ w
+take-over w buf = ap (take (length w)) (bits-over w buf) ∙ take-append-seam w _
 
 -- bits laid behind w are laid as if joined to it
 lay-more : (w g : List Bool) (buf : List ℕ) → over (laid (take (length w) (bitsOf (over (laid w) buf)) ++ g)) (over (laid w) buf) ≡ over (laid (w ++ g)) buf
@@ -195,6 +200,14 @@ put-put buf p (b ∷ f) (d ∷ g) h =
     let e : p + length (b ∷ f) ≡ length (t ++ b ∷ f) =
     omega (arith, length-append t (b ∷ f), length-take-le p (bitsOf buf) (omega (arith, length-bits buf))) in
     rw e (lay-more (t ++ b ∷ f) (d ∷ g) buf ∙ ap (λ (l : List Bool). over (laid l) buf) (append-assoc t (b ∷ f) (d ∷ g)))
+
+-- what a field leaves in a buffer: the bits before it, the field, spare bits 0, and the bytes behind
+pub put-parts : (buf : List ℕ) (p : ℕ) (f : List Bool) → 0 < length f →
+    let w = take p (bitsOf buf) ++ f in
+    bitsOf (put buf p f) ≡ w ++ (low (8 * ((length w + 7) / 8) - length w) 0 ++ bitsOf (drop ((length w + 7) / 8) buf))
+unfolding put
+put-parts buf p [] h = absurd (omega arith)
+put-parts buf p (b ∷ f) h = bits-over (take p (bitsOf buf) ++ b ∷ f) buf
 
 -- from the start of a buffer: the bytes that hold the bits, over it
 pub put-start : (buf : List ℕ) (w : List Bool) → put buf 0 w ≡ over (laid w) buf

@@ -8,9 +8,9 @@ use native.Mathlib.Omega.{arith}
 use lib.ListN.{length, take, drop}
 use lib.Seq.{drop-append-seam, length-take-le}
 use Rattle.bits.specs.Bits.{low, bitsOf}
-use Rattle.bits.specs.Laid.{laid, over, put}
+use Rattle.bits.specs.Laid.{laid, put}
 use Rattle.bits.proofs.BitLaws.{length-bits}
-use Rattle.bits.proofs.LaidLaws.{bits-append, bits-laid}
+use Rattle.bits.proofs.LaidLaws.{bits-append, bits-laid, put-parts}
 use Rattle.bits.proofs.RoundTrip.{At}
 
 -- the bytes that hold the bits before, f and after hold f behind before
@@ -25,20 +25,17 @@ at-laid before f after =
 
 -- what has just been put into a buffer stands there
 pub at-put : (buf : List ℕ) (p : ℕ) (f : List Bool) → p ≤ 8 * length buf → At (bitsOf (put buf p f)) p f
-unfolding put over
-at-put buf p [] h = record { rest = drop p (bitsOf buf); stands = refl }
+at-put buf p [] h = record { rest = drop p (bitsOf (put buf p [])); stands = refl }
 at-put buf p (b ∷ f) h =
     let t = take p (bitsOf buf) in
     let w = t ++ b ∷ f in
-    let z = low (8 * ((length w + 7) / 8) - length w) 0 in
-    let y = bitsOf (drop (length (laid w)) buf) in
+    let z = low (8 * ((length w + 7) / 8) - length w) 0 ++ bitsOf (drop ((length w + 7) / 8) buf) in
     let e : p ≡ length t = sym (length-take-le p (bitsOf buf) (omega (arith, length-bits buf))) in
     record {
-      rest = z ++ y;
+      rest = z;
       stands =
-          ap₂ (λ (n : ℕ) (l : List Bool). drop n l) e
-          (bits-append (laid w) (drop (length (laid w)) buf) ∙ ap (λ (l : List Bool). l ++ y) (bits-laid w) ∙ append-assoc w z y ∙ append-assoc t (b ∷ f) (z ++ y))
-          ∙ drop-append-seam t (b ∷ f ++ (z ++ y));
+          ap₂ (λ (n : ℕ) (l : List Bool). drop n l) e (put-parts buf p (b ∷ f) (omega arith) ∙ append-assoc t (b ∷ f) z)
+          ∙ drop-append-seam t (b ∷ f ++ z);
     }
 
 -- the bytes that hold w hold it, whatever bytes follow

@@ -19,7 +19,7 @@ pub put-two : (buf mid : List ℕ) (p q : ℕ) (f g : List Bool) → mid ≡ put
     → put mid q g ≡ put buf p (f ++ g)
 put-two buf mid p q f g e h l = rw (e, h) (put-put buf p f g l)
 
--- a count is written as ones out of a word of ones, and a zero
+-- a count is the low bits of 32 ones, and a zero
 pub unary-parts : (c : ℕ) → c ≤ 32 → unaryField c ≡ low c 4294967295 ++ low 1 0
 unfolding unaryField
 unary-parts c h = ap₂ (λ (x y : List Bool). x ++ y) (sym (low-ones c 32 h)) (sym low-zero)

@@ -18,6 +18,7 @@ abbrev pub fieldTold : Field → List ℕ
 fieldTold (Field.Value v next) = 0 ∷ v ∷ next ∷ []
 fieldTold Field.Truncated = 3 ∷ []
 
+-- what an entry that reads answers; 5 where the payload or the field is too large
 abbrev pub told : BitAnswer → List ℕ
 told (BitAnswer.Value v next) = 0 ∷ v ∷ next ∷ []
 told BitAnswer.Truncated = 3 ∷ []
