@@ -1,0 +1,54 @@
+-- `capi::wv_term_byte` meets its contract.
+-- Assumes nothing.
+use mathlib.Core.List.{[], _∷_}
+use mir.Val.{toZ, ofZ}
+use mir.Syntax.{w8, w32}
+use mir.ValLaws.{toZ-ofZ}
+use Rattle.capi.specs.Answers.{termByteValues}
+use Rattle.capi.proofs.SlotLaws.{again, wider, short, enough}
+use borrow.Author.Needs.{needs}
+use Rattle.capi.proofs.wv_term_byte.Statement.{statement}
+use Rattle.capi.proofs.wv_term_byte.Tie as tie
+
+number-requires : tie.Need-number-requires
+number-requires c κs = search needs
+
+returns : tie.Need-returns
+returns c = short 2 (termByteValues (c .before .before .args .byte)) _ _ (c .number .ensures) (c .before .if1 .taken)
+
+decode-term-byte-requires : tie.Need-decode-term-byte-requires
+decode-term-byte-requires c κs = search needs
+
+cast-t10 : tie.Need-cast-t10
+cast-t10 c = rw (toZ-ofZ w8 (c .before .before .decode-term-byte .result .term) (search needs)) (wider (search needs))
+
+slice-aggregate-lay : tie.Need-slice-aggregate-lay
+slice-aggregate-lay c = search needs
+
+lay-requires : tie.Need-lay-requires
+lay-requires c κs = search needs
+
+same-length : tie.Need-same-length
+same-length c = search needs
+
+returns-2 : tie.Need-returns-2
+returns-2 c =
+    let x = c .before .before .before .before .before .before .decode-term-byte in
+    let term = x .result .term in
+    let delta = x .result .delta in
+    enough 2 (termByteValues (c .before .before .before .before .before .before .before .before .args .byte)) (again (toZ w8 (ofZ w8 term)) ∷ again delta ∷ []) (c .before .before .before .before .before .before .before .before .args .out .now) _ (c .before .lay .ensures)
+    (rw (toZ-ofZ w8 term (search needs), toZ-ofZ w32 term (wider (search needs)), toZ-ofZ w32 delta (search needs), x .ensures))
+    (c .before .before .before .before .before .before .before .if1 .left)
+
+pub wv-term-byte-spec : {M : Type 1} → statement M
+wv-term-byte-spec =
+    tie.close
+    (tie.spec
+    number-requires
+    returns
+    decode-term-byte-requires
+    cast-t10
+    slice-aggregate-lay
+    lay-requires
+    same-length
+    returns-2)
