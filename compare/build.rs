@@ -1,0 +1,15 @@
+//! Links the proved library, `libcapi.a`, from the folder that CAPI_FOLDER names or from where `rt staticlib` puts it.
+use std::env;
+use std::path::PathBuf;
+
+fn main() {
+    println!("cargo::rerun-if-env-changed=CAPI_FOLDER");
+    let here = PathBuf::from(env::var("CARGO_MANIFEST_DIR").unwrap());
+    let folder = match env::var("CAPI_FOLDER") {
+        Ok(named) => PathBuf::from(named),
+        Err(_) => here.join("../target/staticlib"),
+    };
+    println!("cargo::rerun-if-changed={}", folder.join("libcapi.a").display());
+    println!("cargo::rustc-link-search=native={}", folder.display());
+    println!("cargo::rustc-link-lib=static=capi");
+}

@@ -1,0 +1,98 @@
+//! Inputs on which both sides are run; a failing one is made small before it is shown.
+use crate::random::Random;
+use std::fmt::Debug;
+use std::iter::successors;
+
+/// How many smaller inputs are tried at most before a failing one is shown.
+const TRIES: usize = 20_000;
+
+/// An input, the comparison on it, and the inputs that are simpler by one step.
+pub trait Case: Clone + Debug {
+    /// The refusal number on which both sides agree, or what differs.
+    fn compare(&self) -> Result<u32, String>;
+    fn smaller(&self) -> Smaller<'_, Self>;
+}
+
+/// Simpler inputs, made one after the other.
+pub type Smaller<'a, C> = Box<dyn Iterator<Item = C> + 'a>;
+
+/// A comparison failed, and its smallest input was shown.
+pub struct Failed;
+
+/// Ok where the two are equal, else what differs.
+pub fn same<T: PartialEq + Debug>(what: &str, ours: &T, theirs: &T) -> Result<(), String> {
+    if ours == theirs {
+        return Ok(());
+    }
+    Err(format!("{what}: ours {ours:?}, the Rust's {theirs:?}"))
+}
+
+/// Ok where the two lists are equal, else the first place where they differ.
+pub fn same_list<T: PartialEq + Debug>(what: &str, ours: &[T], theirs: &[T]) -> Result<(), String> {
+    same(&format!("length of {what}"), &ours.len(), &theirs.len())?;
+    match (0..ours.len()).find(|&i| ours[i] != theirs[i]) {
+        Some(i) => same(&format!("{what}[{i}]"), &ours[i], &theirs[i]),
+        None => Ok(()),
+    }
+}
+
+/// The run of one kind: where its inputs come from, and on how many of them both sides agreed, for each refusal number.
+pub struct Run {
+    pub random: Random,
+    pub scale: usize,
+    pub agreed: [u64; 13],
+}
+
+impl Run {
+    pub fn new(seed: u64, scale: usize) -> Run {
+        Run { random: Random::new(seed), scale, agreed: [0; 13] }
+    }
+
+    /// Compares both sides on one input; shows the smallest failing input that it finds from there.
+    pub fn agree<C: Case>(&mut self, case: C) -> Result<(), Failed> {
+        match case.compare() {
+            Ok(refusal) => {
+                self.agreed[refusal as usize] += 1;
+                Ok(())
+            }
+            Err(said) => {
+                let (case, said) = smallest(case, said);
+                println!("DIFFERENCE {case:?}\n  {said}");
+                Err(Failed)
+            }
+        }
+    }
+}
+
+fn smallest<C: Case>(case: C, said: String) -> (C, String) {
+    let mut found = (case, said);
+    let mut tries = 0;
+    loop {
+        let case = found.0.clone();
+        let fails = |candidate: C| candidate.compare().err().map(|why| (candidate, why));
+        let rest = TRIES - tries;
+        match case.smaller().take(rest).inspect(|_| tries += 1).find_map(fails) {
+            Some(smaller) => found = smaller,
+            None => return found,
+        }
+    }
+}
+
+/// Lists with a part left out: the whole first, single elements last.
+pub fn shorter<T: Clone>(list: &[T]) -> impl Iterator<Item = Vec<T>> {
+    let parts = successors(Some(list.len()), |part| Some(part / 2)).take_while(|&part| part > 0);
+    parts.flat_map(move |part| {
+        let starts = (0..list.len()).step_by(part).take(64);
+        starts.map(move |start| [&list[..start], &list[(start + part).min(list.len())..]].concat())
+    })
+}
+
+/// Lists with one element made 0.
+pub fn plainer<T: Copy + PartialEq + Default>(list: &[T]) -> impl Iterator<Item = Vec<T>> {
+    let places = (0..list.len()).filter(|&i| list[i] != T::default()).take(64);
+    places.map(|i| {
+        let mut plain = list.to_vec();
+        plain[i] = T::default();
+        plain
+    })
+}

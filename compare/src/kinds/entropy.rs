@@ -1,0 +1,72 @@
+//! Entropy payloads of every length from 0 to 16, with random words and words at the ends of each rule.
+use crate::capi;
+use crate::case::{Case, Failed, Run, Smaller, plainer, same, shorter};
+use crate::lent::Lent;
+use crate::random::Random;
+use reference::entropy::expand_entropy;
+
+/// Log words at the ends of a rule: the canonical zero, the shift's pivot, the top bit of 32, the ends of 16 bits.
+const ENDS: [i16; 22] = [
+    0, 1, 255, 256, 257, 2303, 2304, 2559, 2560, 8191, 8192, 8447, 8448, 32767, -1, -255, -256, -257, -8191, -8192,
+    -32767, -32768,
+];
+
+#[derive(Clone, Debug)]
+struct Entropy {
+    payload: Vec<u8>,
+    slots: usize,
+}
+
+impl Case for Entropy {
+    fn compare(&self) -> Result<u32, String> {
+        let mut medians = Lent::marked(self.slots);
+        let refusal = capi::entropy(&self.payload, medians.list());
+        let theirs = if self.slots < 6 { Err(6) } else { expand_entropy(&self.payload).map_err(|_| 1) };
+        match theirs {
+            Ok(info) => {
+                same("refusal", &refusal, &0)?;
+                medians.written("medians", &[info.medians_left, info.medians_right].concat())?;
+            }
+            Err(number) => {
+                same("refusal", &refusal, &number)?;
+                medians.kept("medians")?;
+            }
+        }
+        Ok(refusal)
+    }
+
+    fn smaller(&self) -> Smaller<'_, Entropy> {
+        let payloads = shorter(&self.payload).chain(plainer(&self.payload));
+        Box::new(payloads.map(|payload| Entropy { payload, ..*self }))
+    }
+}
+
+/// A payload of `length` bytes whose words are random, at an end, or both.
+pub fn payload(random: &mut Random, length: usize) -> Vec<u8> {
+    let ends = random.below(3);
+    let mut out = random.bytes(length);
+    for pair in out.chunks_exact_mut(2) {
+        if ends == 2 || (ends == 1 && random.once_in(2)) {
+            pair.copy_from_slice(&random.pick(&ENDS).to_le_bytes());
+        }
+    }
+    out
+}
+
+pub fn run(run: &mut Run) -> Result<(), Failed> {
+    for round in 0..200_000 * run.scale {
+        let random = &mut run.random;
+        // The two lengths that are accepted come often, and a list of six medians too.
+        let length = if round % 4 == 0 { random.below(17) } else { random.pick(&[6, 12]) };
+        let slots = if random.once_in(8) { random.below(9) } else { 6 };
+        let payload = payload(random, length);
+        run.agree(Entropy { payload, slots })?;
+    }
+    for length in 0..=16 {
+        for slots in 0..=8 {
+            let payload = payload(&mut run.random, length);
+            run.agree(Entropy { payload, slots })?;
+        }
+    }
+    Ok(())
+}

@@ -1,0 +1,17 @@
+//! The kinds of comparison, one module each.
+use crate::case::{Failed, Run};
+
+pub mod entropy;
+mod log_words;
+mod pass_bytes;
+
+/// A kind: its name, and what runs it.
+pub type Kind = (&'static str, fn(&mut Run) -> Result<(), Failed>);
+
+/// Every kind, in the order in which they run.
+pub const KINDS: [Kind; 4] = [
+    ("log words", log_words::run),
+    ("term bytes", pass_bytes::run_terms),
+    ("weight bytes", pass_bytes::run_weights),
+    ("entropy payloads", entropy::run),
+];

@@ -1,0 +1,58 @@
+// Replays the stored answers of the published Rust (data/, whose README says how they were made) through the proved
+// functions, and prints for each kind how many there are and how many agree.
+mod bytes;
+mod kinds;
+mod payloads;
+
+use kinds::Kind;
+use kinds::Step;
+use libc::STDOUT_FILENO;
+
+// No file holds more records than this. A proved loop has to end, and nothing says that a file does.
+const MOST: u32 = 1000000;
+
+// How many records a file holds, and on how many of them the proved function answers as stored.
+struct Tally {
+    replayed: u32,
+    agreed: u32,
+}
+
+// Replays the records of one open file, to its end.
+fn replay(kind: Kind, fd: i32) -> Tally {
+    let mut replayed: u32 = 0;
+    let mut agreed: u32 = 0;
+    while replayed < MOST {
+        let step = kinds::next(kind, fd, replayed);
+        match step {
+            Step::End => break,
+            Step::Agrees => agreed += 1,
+            Step::Differs => {}
+        }
+        replayed += 1;
+    }
+    Tally { replayed, agreed }
+}
+
+// Replays one file and prints the line about it. A file that cannot be opened has a line of its own.
+fn replay_file(kind: Kind, path: &[u8]) {
+    io::write_all(STDOUT_FILENO, path);
+    let fd = os::open_read(path);
+    if fd < 0 {
+        io::write_all(STDOUT_FILENO, b": cannot be opened\n");
+        return;
+    }
+    let tally = replay(kind, fd);
+    libc::close(fd);
+    io::write_all(STDOUT_FILENO, b": ");
+    io::print_decimal(STDOUT_FILENO, tally.replayed as u64);
+    io::write_all(STDOUT_FILENO, b" replayed, ");
+    io::print_decimal(STDOUT_FILENO, tally.agreed as u64);
+    io::write_all(STDOUT_FILENO, b" agree\n");
+}
+
+fn main() {
+    replay_file(Kind::LogWords, b"log_words.bin");
+    replay_file(Kind::TermBytes, b"term_bytes.bin");
+    replay_file(Kind::WeightBytes, b"weight_bytes.bin");
+    replay_file(Kind::Entropy, b"entropy.bin");
+}

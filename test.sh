@@ -1,0 +1,42 @@
+#!/bin/sh
+# Runs every test: the proofs and programs from nothing, the C program over the proved library, and the comparison
+# with the published Rust. The last line is that of `rt ci` when all of them pass.
+#
+# The published Rust is looked for in ../shared/docs/src/src, or in the folder that WAVPACK_REFERENCE names. Where it
+# is missing the comparison is skipped with a message; with CI=true a missing reference is a failure.
+set -u
+cd "$(dirname "$0")" || exit 2
+
+fail() {
+    echo "test.sh: FAILED: $1"
+    exit 1
+}
+
+log=$(mktemp) || exit 2
+trap 'rm -f "$log"' EXIT
+
+{ rt ci 2>&1 || echo 'rt ci FAILED'; } | tee "$log"
+verdict=$(tail -n 1 "$log")
+case $verdict in
+*' passed, 0 failed') ;;
+*) fail 'rt ci' ;;
+esac
+
+rt staticlib capi || fail 'rt staticlib capi'
+library=target/staticlib
+
+"${CC:-cc}" -std=c11 -Wall -Wextra -Werror -Iinclude ctest/answers.c "$library/libcapi.a" -o target/ctest || fail 'the C program does not build'
+target/ctest || fail 'the C program'
+
+reference=${WAVPACK_REFERENCE:-../shared/docs/src/src}
+if [ -d "$reference" ]; then
+    WAVPACK_REFERENCE=$(cd "$reference" && pwd)
+    export WAVPACK_REFERENCE
+    cargo run --quiet --offline --locked --profile checked --manifest-path compare/Cargo.toml || fail 'the comparison with the published Rust'
+elif [ "${CI:-}" = true ]; then
+    fail "no published Rust at $reference"
+else
+    echo "test.sh: no published Rust at $reference: the comparison is skipped"
+fi
+
+echo "$verdict"
