@@ -22,3 +22,7 @@ cast64 x h = rw (toZ-ofZ w32 x h) (toZ-ofZ w64 x (widen h))
 -- a result of `narrow` that is returned
 pub narrowed : (z x y : ℤ) → z ≡ wrap32 x → x ≡ y → toZ w32 (ofZ w32 z) ≡ wrap32 y
 narrowed z x y e f = rw (e, f) (toZ-ofZ w32 (wrap32 y) (wrap-fits y))
+
+-- a signed number read back from its bits
+abbrev pub reread : ℤ → ℤ
+reread z = toZ w32 (ofZ w32 z)

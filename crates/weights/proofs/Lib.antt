@@ -1,0 +1,4 @@
+pub mod PredictLaws
+pub mod SignLaws
+pub mod UpdateLaws
+pub mod ClipLaws
