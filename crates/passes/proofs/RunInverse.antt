@@ -1,0 +1,94 @@
+-- Analysis and decorrelation undo one another, a pass and a list of passes at a time, with equal pass states, whatever the
+-- passes hold (P12). Assumes nothing.
+use mathlib.Core.Path.{_≡_, refl, ap, _∙_}
+use mathlib.Core.Bool.{Bool, true, false}
+use mathlib.Core.List.{List, [], _∷_}
+use Prim.Native.Nat.{ℕ, suc}
+use lib.IntN.{ℤ}
+use lib.ListN.{length}
+use mir.Syntax.{w32}
+use mir.Val.{SFits}
+use Rattle.passes.specs.Terms.{termOf}
+use Rattle.passes.specs.Step.{Stepped, step, unstep}
+use Rattle.passes.specs.Run.{Run, run, turn, passed, Chain, decorrelated, analysed}
+use Rattle.passes.specs.declared.DecorrPass.{DecorrPass}
+use Rattle.passes.specs.declared.Term.{Term}
+use Rattle.passes.proofs.StepInverse.{Undoes, Fitting, step-unstep, unstep-step, step-fits, unstep-fits}
+
+-- a list of 32-bit numbers: a recording, or a residual list
+abbrev pub Fit : List ℤ → Type 0
+Fit [] = Unit {0}
+Fit (x ∷ l) = SFits w32 x × Fit l
+
+-- ---- a pass from any history index
+run-undone : (F G : DecorrPass → ℕ → ℤ → ℤ → Stepped) → Undoes F G → (p : DecorrPass) (m : ℕ) (l : List ℤ) → Fit l → run F p m (run G p m l .buffer) ≡ record { pass = run G p m l .pass; buffer = l }
+unfolding Undoes
+run-undone F G u p m [] h = refl
+run-undone F G u p m (x ∷ []) h = refl
+run-undone F G u p m (x ∷ (y ∷ l)) h = rw (u p m x y (h .0) (h .1 .0), run-undone F G u (G p m x y .pass) (suc m) l (h .1 .1))
+
+run-fit : (F : DecorrPass → ℕ → ℤ → ℤ → Stepped) → Fitting F → (p : DecorrPass) (m : ℕ) (l : List ℤ) → Fit l → Fit (run F p m l .buffer)
+unfolding Fitting
+run-fit F f p m [] h = tt
+run-fit F f p m (x ∷ []) h = h
+run-fit F f p m (x ∷ (y ∷ l)) h = (f p m x y .0, (f p m x y .1, run-fit F f (F p m x y .pass) (suc m) l (h .1 .1)))
+
+run-length : (F : DecorrPass → ℕ → ℤ → ℤ → Stepped) (p : DecorrPass) (m : ℕ) (l : List ℤ) → length (run F p m l .buffer) ≡ length l
+run-length F p m [] = refl
+run-length F p m (x ∷ []) = refl
+run-length F p m (x ∷ (y ∷ l)) = ap (λ n. suc (suc n)) (run-length F (F p m x y .pass) (suc m) l)
+
+turn-fits : (analysis : Bool) (t : Term) → Fitting (turn analysis t)
+unfolding Fitting
+turn-fits true t p m x y = unstep-fits t p m x y
+turn-fits false t p m x y = step-fits t p m x y
+
+-- one direction of a pass undoes the other: the pass's term is the same at both ends
+pass-undone : (analysis other : Bool) → ((t : Term) → Undoes (turn analysis t) (turn other t)) → (p : DecorrPass) (l : List ℤ) → Fit l
+    → passed analysis p (passed other p l .buffer) ≡ record { pass = passed other p l .pass; buffer = l }
+unfolding passed
+pass-undone analysis other u p l h = run-undone (turn analysis (termOf (p .term))) (turn other (termOf (p .term))) (u (termOf (p .term))) p 0 l h
+
+-- a pass: analysis, then decorrelation
+pub decorrelates-back : (p : DecorrPass) (l : List ℤ) → Fit l → passed false p (passed true p l .buffer) ≡ record { pass = passed true p l .pass; buffer = l }
+decorrelates-back p l h = pass-undone false true step-unstep p l h
+
+-- a pass: decorrelation, then analysis
+pub analyses-back : (p : DecorrPass) (l : List ℤ) → Fit l → passed true p (passed false p l .buffer) ≡ record { pass = passed false p l .pass; buffer = l }
+analyses-back p l h = pass-undone true false unstep-step p l h
+
+-- a pass leaves 32-bit numbers, and as many as there were
+pub passed-fit : (analysis : Bool) (p : DecorrPass) (l : List ℤ) → Fit l → Fit (passed analysis p l .buffer)
+unfolding passed
+passed-fit analysis p l h = run-fit (turn analysis (termOf (p .term))) (turn-fits analysis (termOf (p .term))) p 0 l h
+
+pub passed-length : (analysis : Bool) (p : DecorrPass) (l : List ℤ) → length (passed analysis p l .buffer) ≡ length l
+unfolding passed
+passed-length analysis p l = run-length (turn analysis (termOf (p .term))) p 0 l
+
+-- ---- a list of passes
+pub decorrelated-fit : (ps : List DecorrPass) (l : List ℤ) → Fit l → Fit (decorrelated ps l .buffer)
+decorrelated-fit [] l h = h
+decorrelated-fit (p ∷ ps) l h = decorrelated-fit ps (passed false p l .buffer) (passed-fit false p l h)
+
+pub analysed-fit : (ps : List DecorrPass) (l : List ℤ) → Fit l → Fit (analysed ps l .buffer)
+analysed-fit [] l h = h
+analysed-fit (p ∷ ps) l h = passed-fit true p (analysed ps l .buffer) (analysed-fit ps l h)
+
+pub decorrelated-length : (ps : List DecorrPass) (l : List ℤ) → length (decorrelated ps l .buffer) ≡ length l
+decorrelated-length [] l = refl
+decorrelated-length (p ∷ ps) l = decorrelated-length ps (passed false p l .buffer) ∙ passed-length false p l
+
+pub analysed-length : (ps : List DecorrPass) (l : List ℤ) → length (analysed ps l .buffer) ≡ length l
+analysed-length [] l = refl
+analysed-length (p ∷ ps) l = passed-length true p (analysed ps l .buffer) ∙ analysed-length ps l
+
+-- decorrelating what analysis left returns the recording, and leaves the passes that analysis left
+pub decorrelated-analysed : (ps : List DecorrPass) (l : List ℤ) → Fit l → decorrelated ps (analysed ps l .buffer) ≡ record { passes = analysed ps l .passes; buffer = l }
+decorrelated-analysed [] l h = refl
+decorrelated-analysed (p ∷ ps) l h = rw (decorrelates-back p (analysed ps l .buffer) (analysed-fit ps l h), decorrelated-analysed ps l h)
+
+-- analysing what decorrelation left returns the residuals, and leaves the passes that decorrelation left
+pub analysed-decorrelated : (ps : List DecorrPass) (l : List ℤ) → Fit l → analysed ps (decorrelated ps l .buffer) ≡ record { passes = decorrelated ps l .passes; buffer = l }
+analysed-decorrelated [] l h = refl
+analysed-decorrelated (p ∷ ps) l h = rw (analysed-decorrelated ps (passed false p l .buffer) (passed-fit false p l h), analyses-back p l h)

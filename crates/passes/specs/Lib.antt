@@ -1,0 +1,4 @@
+pub mod Terms
+pub mod Step
+pub mod Run
+pub mod Making
