@@ -31,10 +31,9 @@ slot history i = getD history i (pos 0)
 abbrev pub shifted : List ℤ → ℤ → List ℤ
 shifted history x = set (set history 1 (slot history 0)) 0 x
 
--- the rule of a term, for a pass and its history index m. A term that is not valid predicts from 0 and keeps its histories:
--- no entry runs one
-abbrev pub ruleOf : Term → DecorrPass → ℕ → Rule
-ruleOf (Lag t) p m =
+-- a fixed lag of t frames, at history index m
+abbrev pub lagRule : ℕ → DecorrPass → ℕ → Rule
+lagRule t p m =
     record {
       sourceA = λ b. slot (p .«history_a») (m % 8);
       sourceB = λ a. slot (p .«history_b») (m % 8);
@@ -42,22 +41,24 @@ ruleOf (Lag t) p m =
       historyA = λ a b. set (p .«history_a») ((m + t) % 8) a;
       historyB = λ a b. set (p .«history_b») ((m + t) % 8) b;
     }
-ruleOf Seventeen p m =
+
+-- 17 and 18, from the last two samples by `source`
+abbrev pub twoRule : (ℤ → ℤ → ℤ) → DecorrPass → Rule
+twoRule source p =
     record {
-      sourceA = λ b. source17 (slot (p .«history_a») 0) (slot (p .«history_a») 1);
-      sourceB = λ a. source17 (slot (p .«history_b») 0) (slot (p .«history_b») 1);
+      sourceA = λ b. source (slot (p .«history_a») 0) (slot (p .«history_a») 1);
+      sourceB = λ a. source (slot (p .«history_b») 0) (slot (p .«history_b») 1);
       bFirst = false;
       historyA = λ a b. shifted (p .«history_a») a;
       historyB = λ a b. shifted (p .«history_b») b;
     }
-ruleOf Eighteen p m =
-    record {
-      sourceA = λ b. source18 (slot (p .«history_a») 0) (slot (p .«history_a») 1);
-      sourceB = λ a. source18 (slot (p .«history_b») 0) (slot (p .«history_b») 1);
-      bFirst = false;
-      historyA = λ a b. shifted (p .«history_a») a;
-      historyB = λ a b. shifted (p .«history_b») b;
-    }
+
+-- the rule of a term, for a pass and its history index. So that there is one for every number, a term that is not valid is
+-- treated as a lag of 0: no entry runs one
+abbrev pub ruleOf : Term → DecorrPass → ℕ → Rule
+ruleOf (Lag t) p m = lagRule t p m
+ruleOf Seventeen p m = twoRule source17 p
+ruleOf Eighteen p m = twoRule source18 p
 ruleOf MinusOne p m =
     record {
       sourceA = λ b. slot (p .«history_a») 0;
@@ -82,14 +83,7 @@ ruleOf MinusThree p m =
       historyA = λ a b. set (p .«history_a») 0 a;
       historyB = λ a b. set (p .«history_b») 0 b;
     }
-ruleOf Invalid p m =
-    record {
-      sourceA = λ b. pos 0;
-      sourceB = λ a. pos 0;
-      bFirst = false;
-      historyA = λ a b. p .«history_a»;
-      historyB = λ a b. p .«history_b»;
-    }
+ruleOf Invalid p m = lagRule 0 p m
 
 -- a weight after a step: "only cross terms clip" (P9)
 abbrev pub weighed : Bool → ℤ → ℤ → ℤ → ℤ → ℤ

@@ -48,7 +48,7 @@ returns-2 c =
     let s = c .before .before .before .before .before .before .before .before in
     let a = s .args in
     let k : Known (a .term) (c .before .before .before .before .before .before .before .term-of .result) (c .before .before .before .before .before .before .is-valid .result) (c .before .before .before .before .seed-count .result) =
-        record { term-is = rw (toZ-ofZ w8 _ (s .fits .term)) at (c .before .before .before .before .before .before .before .term-of .ensures); valid-is = c .before .before .before .before .before .before .is-valid .ensures; valid = not-false _ (c .before .before .before .before .before .if1 .left); count-is = c .before .before .before .before .seed-count .ensures } in
+    record { term-is = rw (toZ-ofZ w8 _ (s .fits .term)) at (c .before .before .before .before .before .before .before .term-of .ensures); valid-is = c .before .before .before .before .before .before .is-valid .ensures; valid = not-false _ (c .before .before .before .before .before .if1 .left); count-is = c .before .before .before .before .seed-count .ensures } in
     rw (c .refused2 .ensures)
     (made-short-a (a .term) (a .delta) (a .weight-a) (a .weight-b) (a .seed-a .now) (a .seed-b .now) k (c .before .before .before .seed-answer .ensures) (c .before .enum-told2 .given .1))
 
@@ -72,7 +72,7 @@ returns-3 c =
     let s = c .before .before .before .before .before .before .before .before .before .before .before .before in
     let a = s .args in
     let k : Known (a .term) (c .before .before .before .before .before .before .before .before .before .before .before .term-of .result) (c .before .before .before .before .before .before .before .before .before .before .is-valid .result) (c .before .before .before .before .before .before .before .before .seed-count .result) =
-        record { term-is = rw (toZ-ofZ w8 _ (s .fits .term)) at (c .before .before .before .before .before .before .before .before .before .before .before .term-of .ensures); valid-is = c .before .before .before .before .before .before .before .before .before .before .is-valid .ensures; valid = not-false _ (c .before .before .before .before .before .before .before .before .before .if1 .left); count-is = c .before .before .before .before .before .before .before .before .seed-count .ensures } in
+    record { term-is = rw (toZ-ofZ w8 _ (s .fits .term)) at (c .before .before .before .before .before .before .before .before .before .before .before .term-of .ensures); valid-is = c .before .before .before .before .before .before .before .before .before .before .is-valid .ensures; valid = not-false _ (c .before .before .before .before .before .before .before .before .before .if1 .left); count-is = c .before .before .before .before .before .before .before .before .seed-count .ensures } in
     rw (c .refused3 .ensures)
     (made-short-b (a .term) (a .delta) (a .weight-a) (a .weight-b) (a .seed-a .now) (a .seed-b .now) k (c .before .before .before .before .before .before .before .seed-answer .ensures) (c .before .before .before .before .before .enum-told .given .1) (c .before .before .before .before .is-cross .ensures) (c .before .before .before .seed-answer2 .ensures) (c .before .enum-told4 .given .1))
 
@@ -97,7 +97,7 @@ returns-4 c =
     let a = s .args in
     let f = s .fits in
     let k : Known (a .term) (c .before .before .before .before .before .before .before .before .before .before .before .before .before .term-of .result) (c .before .before .before .before .before .before .before .before .before .before .before .before .is-valid .result) (c .before .before .before .before .before .before .before .before .before .before .seed-count .result) =
-        record { term-is = rw (toZ-ofZ w8 _ (s .fits .term)) at (c .before .before .before .before .before .before .before .before .before .before .before .before .before .term-of .ensures); valid-is = c .before .before .before .before .before .before .before .before .before .before .before .before .is-valid .ensures; valid = not-false _ (c .before .before .before .before .before .before .before .before .before .before .before .if1 .left); count-is = c .before .before .before .before .before .before .before .before .before .before .seed-count .ensures } in
+    record { term-is = rw (toZ-ofZ w8 _ (s .fits .term)) at (c .before .before .before .before .before .before .before .before .before .before .before .before .before .term-of .ensures); valid-is = c .before .before .before .before .before .before .before .before .before .before .before .before .is-valid .ensures; valid = not-false _ (c .before .before .before .before .before .before .before .before .before .before .before .if1 .left); count-is = c .before .before .before .before .before .before .before .before .before .before .seed-count .ensures } in
     made-accepted (a .term) (a .delta) (a .weight-a) (a .weight-b) (a .seed-a .now) (a .seed-b .now) k (c .before .before .before .before .before .before .before .before .before .seed-answer .ensures) (c .before .before .before .before .before .before .before .enum-told .given .1) (c .before .before .before .before .before .before .is-cross .ensures) (c .before .before .before .before .before .seed-answer2 .ensures) (c .before .before .before .enum-told3 .given .1)
     (c .before .before .is-lag .ensures) (c .before .seed-history .ensures) (c .seed-history2 .ensures) (f .term) (f .delta) (f .weight-a) (f .weight-b)
 

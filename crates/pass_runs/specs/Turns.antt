@@ -1,0 +1,56 @@
+-- One channel's step in either direction, as the loops make it, and the pass with the numbers that a loop carries. The
+-- definition of a step stands in `passes`. Assumes nothing.
+use mathlib.Core.Bool.{Bool, true, false}
+use mathlib.Core.List.{List, _∷_}
+use lib.IntN.{ℤ}
+use lib.ListN.{drop}
+use Rattle.weights.specs.Weights.{sample, residual, source17, source18}
+use Rattle.passes.specs.Step.{weighed}
+use Rattle.passes.specs.declared.DecorrPass.{DecorrPass}
+use Rattle.passes.specs.declared.Term.{Term}
+use Rattle.passes.specs.declared.Term.the-variants.{Seventeen, Eighteen, MinusOne, MinusTwo}
+use Rattle.pass_runs.specs.declared.Turned.{Turned}
+
+-- a channel with this weight and source, at the buffer's element x: analysis, or decorrelation
+abbrev pub turned : Bool → Bool → ℤ → ℤ → ℤ → ℤ → Turned
+turned true clip weight delta source x =
+    let r = residual weight source x in
+    record { weight = weighed clip weight delta source r; element = r; sample = x }
+turned false clip weight delta source x =
+    let s = sample weight source x in
+    record { weight = weighed clip weight delta source x; element = s; sample = s }
+
+-- terms 18 and 17
+abbrev pub twoTerm : Bool → Term
+twoTerm true = Eighteen
+twoTerm false = Seventeen
+
+abbrev pub twoSource : Bool → ℤ → ℤ → ℤ
+twoSource true last before = source18 last before
+twoSource false last before = source17 last before
+
+-- terms -2 and -1
+abbrev pub crossTerm : Bool → Term
+crossTerm true = MinusTwo
+crossTerm false = MinusOne
+
+abbrev pub eitherOf : Bool → ℤ → ℤ → ℤ
+eitherOf true x y = y
+eitherOf false x y = x
+
+-- a pass with the numbers that the loop of the fixed lags carries
+abbrev pub lagAt : DecorrPass → ℤ → ℤ → List ℤ → List ℤ → DecorrPass
+lagAt p wa wb ha hb = record { term = p .term; delta = p .delta; «weight_a» = wa; «weight_b» = wb; «history_a» = ha; «history_b» = hb }
+
+-- the loop of 17 and 18
+abbrev pub twoAt : DecorrPass → ℤ → ℤ → ℤ → ℤ → ℤ → ℤ → DecorrPass
+twoAt p wa wb a0 a1 b0 b1 = lagAt p wa wb (a0 ∷ (a1 ∷ drop 2 (p .«history_a»))) (b0 ∷ (b1 ∷ drop 2 (p .«history_b»)))
+
+-- the loop of -1 and -2, where the channel that is made first has weight u
+abbrev pub crossAt : Bool → DecorrPass → ℤ → ℤ → ℤ → DecorrPass
+crossAt true p u v h = lagAt p v u (p .«history_a») (h ∷ drop 1 (p .«history_b»))
+crossAt false p u v h = lagAt p u v (h ∷ drop 1 (p .«history_a»)) (p .«history_b»)
+
+-- the loop of -3
+abbrev pub swapAt : DecorrPass → ℤ → ℤ → ℤ → ℤ → DecorrPass
+swapAt p wa wb ha hb = lagAt p wa wb (ha ∷ drop 1 (p .«history_a»)) (hb ∷ drop 1 (p .«history_b»))
