@@ -1,23 +1,24 @@
 -- The three answers of `wv_entropy`.
 -- Assumes nothing.
 use mathlib.Core.Path.{_≡_, refl, ap, _∙_}
-use mathlib.Core.Bool.{Bool, true, false, cond}
+use mathlib.Core.Bool.{false}
 use mathlib.Core.List.{List, [], _∷_, _++_}
 use Prim.Native.Nat.{ℕ, zero, suc, _≤_, _<_}
 use native.Mathlib.Omega.{arith}
 use lib.Dec.{eqb, eqb·suc-zero}
 use lib.IntN.{ℤ, pos}
-use lib.ListN.{length, getD, drop}
+use lib.ListN.{length, getD}
 use borrow.Author.Tests.{lt-ltb, le-ltb}
 use Rattle.answers.specs.declared.Outcome.{Outcome}
 use Rattle.answers.specs.declared.Refusal.{Refusal}
 use Rattle.answers.specs.Numbers.{outcomeNumber}
 use Rattle.entropy.specs.declared.EntropyInfo.{EntropyInfo}
-use Rattle.entropy.specs.Entropy.{wordSet, noSet, entropyInfo, entropyRefusal}
+use Rattle.entropy.specs.Entropy.{wordSet, entropyInfo, entropyRefusal}
+use Rattle.entropy.proofs.EntropyLaws.{info-cases}
 use Rattle.entropy.proofs.SeedLaws.{number-positive}
 use Rattle.capi.specs.Slots.{laid, laidIf}
 use Rattle.capi.specs.Answers.{entropyValues, entropyAnswer}
-use Rattle.capi.proofs.SlotLaws.{again}
+use Rattle.logpack.proofs.Negation.{again}
 
 -- the six medians, one by one
 abbrev pub six : EntropyInfo → List ℤ
@@ -31,19 +32,10 @@ sixAgain info =
     again (getD (info .«medians_left») 0 (pos 0)) ∷ again (getD (info .«medians_left») 1 (pos 0)) ∷ again (getD (info .«medians_left») 2 (pos 0))
     ∷ again (getD (info .«medians_right») 0 (pos 0)) ∷ again (getD (info .«medians_right») 1 (pos 0)) ∷ again (getD (info .«medians_right») 2 (pos 0)) ∷ []
 
-abbrev joined : EntropyInfo → List ℤ
-joined info = info .«medians_left» ++ info .«medians_right»
-
-by-length : (a b : Bool) (p : List ℕ) → let i : EntropyInfo = cond a (record { «medians_left» = wordSet p; «medians_right» = noSet }) (cond b (record { «medians_left» = wordSet p; «medians_right» = wordSet (drop 6 p) }) (record { «medians_left» = noSet; «medians_right» = noSet })) in six i ≡ joined i
-unfolding wordSet
-by-length true b p = refl
-by-length false true p = refl
-by-length false false p = refl
-
 -- a payload has three left medians and three right ones
 six-values : (p : List ℕ) → six (entropyInfo p) ≡ entropyValues p
-unfolding entropyInfo
-six-values p = by-length (eqb (length p) 6) (eqb (length p) 12) p
+unfolding wordSet
+six-values p = info-cases (λ info. six info ≡ info .«medians_left» ++ info .«medians_right») p refl refl refl
 
 -- what `wv_entropy` answers, and leaves in the list of medians
 abbrev pub EntropyAnswered : List ℕ → List ℤ → ℕ → List ℤ → Type 0
@@ -53,6 +45,7 @@ EntropyAnswered p slots r after = (r ≡ entropyAnswer p slots) × (after ≡ la
 pub entropy-short : (p : List ℕ) (slots : List ℤ) (r : ℕ) → r ≡ 6 → length slots < 6 → EntropyAnswered p slots r slots
 entropy-short p slots r e h = rw (lt-ltb (length slots) 6 h, e) (refl, refl)
 
+-- a number that is a refusal's is not 0
 refused : (n r : ℕ) → 0 < n → r ≡ n → eqb r 0 ≡ false
 refused zero r h e = absurd (omega arith)
 refused (suc n) r h e = rw (e, eqb·suc-zero n)

@@ -8,13 +8,9 @@ use lib.ListN.{length, getD, set, take, drop}
 use lib.IntN.{ℤ}
 use lib.Seq.{take-length}
 use mir.Syntax.{w8, w32}
-use mir.Val.{SFits, toZ, ofZ}
+use mir.Val.{SFits}
 use borrow.Author.Tests.{lt-ltb, le-ltb}
 use Rattle.capi.specs.Slots.{slotRefusal, laid, laidIf}
-
--- a signed number, written to its bits and read back
-abbrev pub again : ℤ → ℤ
-again z = toZ w32 (ofZ w32 z)
 
 -- a number of 8 bits is one of 32
 pub wider : {z : ℤ} → SFits w8 z → SFits w32 z

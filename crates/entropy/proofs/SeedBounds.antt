@@ -7,7 +7,7 @@ use Prim.Native.Nat.{ℕ, zero, suc, _<_}
 use native.Mathlib.Omega.{arith}
 use lib.Dec.{eqb, eqb·suc-zero}
 use lib.IntN.{ℤ, pos, negsuc, natAbs}
-use lib.ListN.{length, getD, drop}
+use lib.ListN.{getD, drop}
 use mir.Syntax.{w32}
 use mir.Val.{SFits}
 use Rattle.logpack.proofs.LogWordLaws.{logWord-fits}
@@ -15,6 +15,7 @@ use Rattle.entropy.specs.declared.EntropyInfo.{EntropyInfo}
 use Rattle.entropy.specs.Medians.{Medians, MedianPair, zeroPair}
 use Rattle.entropy.specs.Entropy.{wordSet, noSet, entropyInfo, entropyRefusal}
 use Rattle.entropy.specs.Seed.{isNegative, notStereo, orElse, seedRefusal, seedSet, seedPair, seedMedians}
+use Rattle.entropy.proofs.EntropyLaws.{info-cases}
 use Rattle.entropy.proofs.SeedLaws.{NoneNegative, none-negative, stereo}
 
 -- each median of a set is below 2^31
@@ -44,14 +45,11 @@ words-fit p = record { s0 = logWord-fits _; s1 = logWord-fits _; s2 = logWord-fi
 zeros-fit : Signed32 noSet
 zeros-fit = record { s0 = record { sfits = omega arith }; s1 = record { sfits = omega arith }; s2 = record { sfits = omega arith } }
 
-by-length : (a b : Bool) (p : List ℕ) → InfoFits (cond a (record { «medians_left» = wordSet p; «medians_right» = noSet }) (cond b (record { «medians_left» = wordSet p; «medians_right» = wordSet (drop 6 p) }) (record { «medians_left» = noSet; «medians_right» = noSet })))
-by-length true b p = record { left = words-fit p; right = zeros-fit }
-by-length false true p = record { left = words-fit p; right = words-fit (drop 6 p) }
-by-length false false p = record { left = zeros-fit; right = zeros-fit }
-
 info-fits : (p : List ℕ) → InfoFits (entropyInfo p)
-unfolding entropyInfo
-info-fits p = by-length (eqb (length p) 6) (eqb (length p) 12) p
+info-fits p =
+    info-cases InfoFits p (record { left = words-fit p; right = zeros-fit })
+    (record { left = words-fit p; right = words-fit (drop 6 p) })
+    (record { left = zeros-fit; right = zeros-fit })
 
 -- a number of 32 bits that is not negative is below 2^31
 below : (z : ℤ) → SFits w32 z → isNegative z ≡ false → natAbs z < 2147483648

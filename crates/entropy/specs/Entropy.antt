@@ -20,14 +20,22 @@ wordSet bytes = wordAt bytes 0 ∷ wordAt bytes 2 ∷ wordAt bytes 4 ∷ []
 abbrev pub noSet : List ℤ
 noSet = pos 0 ∷ pos 0 ∷ pos 0 ∷ []
 
--- document 01, "Entropy" (E1, E2): 6 bytes are mono, 12 stereo; the right set is the part from byte 6. A payload of another length holds no set.
+-- "6 bytes are mono": there is no right set
+abbrev pub monoInfo : List ℕ → EntropyInfo
+monoInfo payload = record { «medians_left» = wordSet payload; «medians_right» = noSet }
+
+-- "12 stereo": "the right set is the part from byte 6" (E2)
+abbrev pub stereoInfo : List ℕ → EntropyInfo
+stereoInfo payload = record { «medians_left» = wordSet payload; «medians_right» = wordSet (drop 6 payload) }
+
+-- a payload of another length holds no set
+abbrev pub noInfo : EntropyInfo
+noInfo = record { «medians_left» = noSet; «medians_right» = noSet }
+
+-- document 01, "Entropy" (E1): by the length
 unfoldable pub entropyInfo : List ℕ → EntropyInfo
 entropyInfo payload =
-    cond (eqb (length payload) 6)
-    (record { «medians_left» = wordSet payload; «medians_right» = noSet })
-    (cond (eqb (length payload) 12)
-    (record { «medians_left» = wordSet payload; «medians_right» = wordSet (drop 6 payload) })
-    (record { «medians_left» = noSet; «medians_right» = noSet }))
+    cond (eqb (length payload) 6) (monoInfo payload) (cond (eqb (length payload) 12) (stereoInfo payload) noInfo)
 
 -- document 01, "Why each operation says no" (X1): 1, length not 6 or 12
 unfoldable pub entropyRefusal : List ℕ → ℕ

@@ -31,6 +31,7 @@ passed test (x ∷ xs) i e zero h = rw (add-zero i) (first (test i x) (passes te
 passed test (x ∷ xs) i e (suc k) h =
     rw (add-suc i k, ← suc-add i k) (passed test xs (suc i) (second (test i x) (passes test (suc i) xs) e) k (omega arith))
 
+-- counted from the first entry on
 each : (test : ℕ → ℕ → Bool) (xs : List ℕ) → passes test 0 xs ≡ true → (k : ℕ) → k < length xs → test k (getD xs k 0) ≡ true
 each test xs e k h = rw (zero-add k) at (passed test xs 0 e k h)
 
@@ -42,21 +43,23 @@ pub entry-byte : (i : ℕ) → i < 256 → getD exp2Table i 0 < 256
 unfolding exp2Table byte
 entry-byte i h = ltb-true (getD exp2Table i 0) 256 (each byte exp2Table refl i h)
 
-above : ℕ → ℕ → Bool
-above i t = ltb ((2 * (256 + t) - 1) ^ 256) (512 ^ 256 * 2 ^ i)
+-- the one test: both bounds of the rule
+rounded : ℕ → ℕ → Bool
+rounded i t =
+    ltb ((2 * (256 + t) - 1) ^ 256) (512 ^ 256 * 2 ^ i) && ltb (512 ^ 256 * 2 ^ i) ((2 * (256 + t) + 1) ^ 256)
 
-below : ℕ → ℕ → Bool
-below i t = ltb (512 ^ 256 * 2 ^ i) ((2 * (256 + t) + 1) ^ 256)
-
--- a number that passes both tests meets the rule
-meets : (i t : ℕ) → above i t ≡ true → below i t ≡ true → Rounded i t
-unfolding above below
-meets i t a b = record { above = ltb-true _ _ a; below = ltb-true _ _ b }
+-- a number that passes it meets the rule
+meets : (i t : ℕ) → rounded i t ≡ true → Rounded i t
+unfolding rounded
+meets i t e =
+    let a = ltb ((2 * (256 + t) - 1) ^ 256) (512 ^ 256 * 2 ^ i) in
+    let b = ltb (512 ^ 256 * 2 ^ i) ((2 * (256 + t) + 1) ^ 256) in
+    record { above = ltb-true _ _ (first a b e); below = ltb-true _ _ (second a b e) }
 
 -- entry i is round(256 · 2^(i/256)) - 256
 pub table-rule : (i : ℕ) → i < 256 → Rounded i (getD exp2Table i 0)
-unfolding exp2Table above below
-table-rule i h = meets i (getD exp2Table i 0) (each above exp2Table refl i h) (each below exp2Table refl i h)
+unfolding exp2Table rounded
+table-rule i h = meets i (getD exp2Table i 0) (each rounded exp2Table refl i h)
 
 -- one rounded entry is not below another
 ordered : (i t u : ℕ) → Rounded i t → Rounded i u → (t < u → ⊥)

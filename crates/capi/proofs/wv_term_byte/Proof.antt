@@ -5,7 +5,8 @@ use mir.Val.{toZ, ofZ}
 use mir.Syntax.{w8, w32}
 use mir.ValLaws.{toZ-ofZ}
 use Rattle.capi.specs.Answers.{termByteValues}
-use Rattle.capi.proofs.SlotLaws.{again, wider, short, enough}
+use Rattle.logpack.proofs.Negation.{again}
+use Rattle.capi.proofs.SlotLaws.{wider, short, enough}
 use borrow.Author.Needs.{needs}
 use Rattle.capi.proofs.wv_term_byte.Statement.{statement}
 use Rattle.capi.proofs.wv_term_byte.Tie as tie

@@ -4,7 +4,8 @@ use mathlib.Core.List.{[], _∷_}
 use mir.Syntax.{w32}
 use mir.ValLaws.{toZ-ofZ}
 use Rattle.capi.specs.Answers.{weightByteValues}
-use Rattle.capi.proofs.SlotLaws.{again, short, enough}
+use Rattle.logpack.proofs.Negation.{again}
+use Rattle.capi.proofs.SlotLaws.{short, enough}
 use borrow.Author.Needs.{needs}
 use Rattle.capi.proofs.wv_weight_byte.Statement.{statement}
 use Rattle.capi.proofs.wv_weight_byte.Tie as tie
