@@ -1,0 +1,9 @@
+pub mod SignLaws
+pub mod PartLaws
+pub mod JoinLaws
+pub mod ReadingLaws
+pub mod HeldLaws
+pub mod WordLaws
+pub mod LoopLaws
+pub mod EntryLaws
+pub mod Cases

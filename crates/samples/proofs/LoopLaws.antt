@@ -1,0 +1,111 @@
+-- The reading loop: its invariant, and what a turn and each way out make of it.
+-- Assumes nothing.
+use mathlib.Core.Path.{_≡_, refl, sym, ap, ap₂, _∙_}
+use mathlib.Core.Bool.{Bool, true, false}
+use mathlib.Core.List.{List, [], _∷_, _++_}
+use Prim.Native.Nat.{ℕ, zero, suc, _+_, _-_, _%_, _≤_, _<_}
+use native.Mathlib.Numerals.{add-one}
+use native.Mathlib.Omega.{arith}
+use lib.IntN.{ℤ, pos}
+use lib.ListN.{length, take, drop, getD, set, length-set, take-append-drop}
+use lib.Seq.{take-suc-set, drop-set-lt, drop-drop, length-take-le}
+use Rattle.bits.specs.Bits.{bitsOf}
+use Rattle.entropy.specs.declared.AdaptiveMedians.{AdaptiveMedians}
+use Rattle.entropy.specs.Medians.{Medians, mediansOf, pairOf, zeroSet}
+use Rattle.medians.specs.Adaptation.{adapt}
+use Rattle.samples.specs.State.{State, start, paid}
+use Rattle.samples.specs.Word.{Report, given, refused, word}
+use Rattle.samples.specs.Reading.{Reading, reading}
+use Rattle.samples.specs.Parts.{eligible, codedWord, CodedIs}
+use Rattle.samples.specs.View.{ReadTold, toldReading}
+use Rattle.samples.specs.declared.coded.Coded.{Coded}
+use Rattle.samples.proofs.ReadingLaws.{prepend, reading-on, reading-stop, reading-end}
+use Rattle.samples.proofs.HeldLaws.{noSet, there, Held, held-start, held-due, held-paid, held-run, held-sample}
+use Rattle.samples.proofs.WordLaws.{word-paid, word-fresh}
+
+-- before word i: the locals hold a state, the first i elements are written, the others are as they were, and what is written joined to the reading of
+-- the words that are left is the whole reading
+pub record Loop (payload : List ℕ) (out₀ : List ℤ) (s₀ : State) (out : List ℤ) (ms : List AdaptiveMedians) (owed : ℕ) (b z o : Bool) (p i : ℕ) : Type 0 where
+  pub state : State
+  pub held : Held state ms owed b z o i
+  pub here : i ≤ length out₀
+  pub same : length out ≡ length out₀
+  pub is : prepend (take i out) (reading (bitsOf payload) (length out₀ - i) p state) ≡ reading (bitsOf payload) (length out₀) 0 s₀
+  pub others : drop i out ≡ drop i out₀
+
+pub loop-start : (payload : List ℕ) (out : List ℤ) (ms : List AdaptiveMedians) → length ms ≡ 2
+    → Loop payload out (start (pairOf ms .left) (pairOf ms .right)) out ms 0 false false false 0 0
+loop-start payload out ms l =
+    let e : length out - 0 ≡ length out = omega arith in
+    record { state = start (pairOf ms .left) (pairOf ms .right); held = held-start ms l; here = omega arith; same = refl; is = rw e; others = refl }
+
+module _ (payload : List ℕ) (out₀ : List ℤ) (s₀ : State) (out : List ℤ) (ms : List AdaptiveMedians) (owed : ℕ) (b z o : Bool) (p i : ℕ) (l : Loop payload out₀ s₀ out ms owed b z o p i) where
+  -- an accepted word: its sample is written, and the locals hold the state after it
+  step : (v : ℤ) (q : ℕ) (t : State) (x : Report) (ns : List AdaptiveMedians) (d : ℕ) (b' z' o' : Bool) → i < length out
+      → word (bitsOf payload) p (l .state) ≡ given v q t x → Held t ns d b' z' o' (i + 1) → Loop payload out₀ s₀ (set out i v) ns d b' z' o' q (i + 1)
+  step v q t x ns d b' z' o' h e g =
+      let n = length out₀ - (i + 1) in
+      let m : length out₀ - i ≡ suc n = omega (arith, l .same) in
+      let k : take (i + 1) (set out i v) ≡ take i out ++ v ∷ [] = rw add-one (take-suc-set out i v h) in
+      record {
+        state = t;
+        held = g;
+        here = omega (arith, l .same);
+        same = length-set out i v ∙ l .same;
+        is =
+            rw k (sym (reading-on (bitsOf payload) n p q (l .state) t v x (take i out) e)
+            ∙ ap (λ (x : ℕ). prepend (take i out) (reading (bitsOf payload) x p (l .state))) (sym m) ∙ l .is);
+        others = drop-set-lt (i + 1) out i v (omega arith) ∙ sym (drop-drop 1 i out) ∙ ap (drop 1) (l .others) ∙ drop-drop 1 i out₀;
+      }
+
+  -- what the answer tells where the words so far are the whole reading
+  told : (c : ℕ) → i ≤ length out → record { refusal = c; samples = take i out; place = p; state = l .state } ≡ reading (bitsOf payload) (length out₀) 0 s₀
+      → record { refusal = c; bits = p; medians = pairOf ms; written = i; list = out } ≡ toldReading out₀ (reading (bitsOf payload) (length out₀) 0 s₀)
+  told c h e =
+      let n : length (take i out) ≡ i = length-take-le i out h in
+      let f : out ≡ take i out ++ drop (length (take i out)) out₀ =
+      sym (take-append-drop i out) ∙ ap (λ (x : List ℤ). take i out ++ x) (l .others) ∙ ap (λ (x : ℕ). take i out ++ drop x out₀) (sym n) in
+      ap₂ (λ (x : ℕ) (y : List ℤ). record { refusal = c; bits = p; medians = pairOf ms; written = x; list = y }) (sym n) f
+      ∙ ap₂ (λ (x y : Medians). record { refusal = c; bits = p; medians = record { left = x; right = y }; written = length (take i out); list = take i out ++ drop (length (take i out)) out₀ })
+      (sym (l .held .left-is)) (sym (l .held .right-is))
+      ∙ ap (toldReading out₀) e
+
+  -- the end of the list
+  pub loop-end : length out ≤ i → record { refusal = 0; bits = p; medians = pairOf ms; written = i; list = out } ≡ toldReading out₀ (reading (bitsOf payload) (length out₀) 0 s₀)
+  loop-end h =
+      let m : length out₀ - i ≡ 0 = omega (arith, l .same) in
+      told 0 (omega (arith, l .here, l .same)) (sym (reading-end (bitsOf payload) p (l .state) (take i out))
+      ∙ ap (λ (x : ℕ). prepend (take i out) (reading (bitsOf payload) x p (l .state))) (sym m) ∙ l .is)
+
+  -- a zero that is owed
+  pub loop-paid : 0 < owed → i < length out → Loop payload out₀ s₀ (set out i (pos 0)) ms (owed - 1) b z o p (i + 1)
+  loop-paid n h =
+      let e = word-paid (bitsOf payload) p (l .state) (omega (arith, l .held .debt-is)) in
+      let d : l .state .debt - 1 ≡ owed - 1 = omega (arith, l .held .debt-is) in
+      step (pos 0) p (paid (owed - 1) (l .state)) _ ms (owed - 1) b z o h (rw d at e) (held-paid (l .state) ms owed b z o i (l .held) (owed - 1))
+
+  module _ (r : Coded) (run : Bool) (n : owed ≡ 0) (h : i < length out) (f : run ≡ eligible (mediansOf (getD ms 0 noSet) .m0) (mediansOf (getD ms 1 noSet) .m0) b z o)
+      (c : CodedIs (bitsOf payload) p run (mediansOf (getD ms (i % 2) noSet)) z o r) where
+    -- where none is owed, the word is what was read
+    coded : codedWord (l .state) r ≡ word (bitsOf payload) p (l .state)
+    coded =
+        let t = l .held in
+        c .is (l .state) (rw (t .left-is, t .right-is, t .break-is, t .zero-is, t .one-is, ← there ms 0 (t .pair) (omega arith), ← there ms 1 (t .pair) (omega arith)) (sym f)) (held-due (l .state) ms owed b z o i t) (t .zero-is) (t .one-is)
+        ∙ sym (word-fresh (bitsOf payload) p (l .state) (t .debt-is ∙ n))
+
+    pub loop-run : (d q : ℕ) → r ≡ Coded.Run d q → Loop payload out₀ s₀ (set out i (pos 0)) (zeroSet ∷ zeroSet ∷ []) d true z o q (i + 1)
+    loop-run d q e =
+        step (pos 0) q _ _ (zeroSet ∷ zeroSet ∷ []) d true z o h (sym coded ∙ ap (codedWord (l .state)) e) (held-run (l .state) ms owed b z o i (l .held) d)
+
+    pub loop-sample : (v : ℤ) (k q : ℕ) (z' o' : Bool) (x : AdaptiveMedians) → r ≡ Coded.Sample v k q z' o' → mediansOf x ≡ adapt (mediansOf (getD ms (i % 2) noSet)) k
+        → Loop payload out₀ s₀ (set out i v) (set ms (i % 2) x) owed false z' o' q (i + 1)
+    loop-sample v k q z' o' x e a =
+        step v q _ _ (set ms (i % 2) x) owed false z' o' h (sym coded ∙ ap (codedWord (l .state)) e) (held-sample (l .state) ms owed b z o i (l .held) k x z' o' a)
+
+    pub loop-stop : (w : ℕ) → codedWord (l .state) r ≡ refused w
+        → record { refusal = w; bits = p; medians = pairOf ms; written = i; list = out } ≡ toldReading out₀ (reading (bitsOf payload) (length out₀) 0 s₀)
+    loop-stop w e =
+        let n = length out₀ - (i + 1) in
+        let m : length out₀ - i ≡ suc n = omega (arith, l .same) in
+        told w (omega arith) (sym (reading-stop (bitsOf payload) n p w (l .state) (take i out) (sym coded ∙ e))
+        ∙ ap (λ (x : ℕ). prepend (take i out) (reading (bitsOf payload) x p (l .state))) (sym m) ∙ l .is)

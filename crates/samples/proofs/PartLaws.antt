@@ -1,0 +1,138 @@
+-- The ways out of each part of a word: what was read on the way makes the part right for every state that holds the numbers it was given.
+-- Assumes nothing.
+use mathlib.Core.Path.{_≡_, refl, sym, ap, _∙_}
+use mathlib.Core.Bool.{Bool, true, false, not, cond, _&&_, and-false}
+use mathlib.Core.List.{List, [], _∷_}
+use Prim.Native.Nat.{ℕ, zero, suc, _+_, _-_, _/_, _%_, _≤_, _<_}
+use native.Mathlib.Omega.{arith}
+use borrow.Author.Tests.{le-leb, lt-leb}
+use denote.Enum.Declared.{tagOf}
+use lib.Dec.{leb}
+use lib.IntN.{pos}
+use types.Run.{OneOf, miss}
+use Rattle.bits.specs.Bits.{val, bitOf}
+use Rattle.bits.specs.Fields.{getBits}
+use Rattle.bits.specs.declared.Field.the-variants.{Value, Truncated}
+use Rattle.entropy.specs.Medians.{Medians}
+use Rattle.fields.specs.Code.{truncatedBinary}
+use Rattle.fields.specs.Counts.{runLength, prefix}
+use Rattle.fields.specs.declared.Prefix.{Prefix}
+use Rattle.fields.proofs.Prefix.{the-type}
+use Rattle.medians.specs.Interval.{lowOf, highOf}
+use Rattle.samples.specs.State.{State, withRun, inRun, unbroken, cleared, flagged, runDue}
+use Rattle.samples.specs.Word.{Word, given, none, over, zoneOf, onField, onZeros, signed, value, plain, fresh}
+use Rattle.samples.specs.Parts.{ValueIs, CountIs, notCounted, eligible, runRead, RunIs}
+use Rattle.samples.specs.declared.coded.OnesCount.{OnesCount}
+use Rattle.samples.specs.declared.coded.SignedValue.{SignedValue}
+use Rattle.samples.specs.declared.coded.ZeroRun.{ZeroRun}
+
+-- ---- code and sign, in an interval from lo to hi
+
+module _ (bits : List Bool) (p k : ℕ) (m : Medians) (lo hi : ℕ) (a : lo ≡ lowOf m k) (b : hi ≡ highOf m k) where
+  pub value-no-code : truncatedBinary bits p (hi - lo) ≡ Truncated → ValueIs bits p m k SignedValue.Truncated
+  unfolding value
+  value-no-code e = record { is = λ s d. rw (d, ← a, ← b, e) }
+
+  pub value-no-sign : (c q : ℕ) → truncatedBinary bits p (hi - lo) ≡ Value c q → getBits bits q 1 ≡ Truncated → ValueIs bits p m k SignedValue.Truncated
+  unfolding value
+  value-no-sign c q e f = record { is = λ s d. rw (d, ← a, ← b, e, f) }
+
+  pub value-read : (c q t n : ℕ) → truncatedBinary bits p (hi - lo) ≡ Value c q → getBits bits q 1 ≡ Value t n
+      → ValueIs bits p m k (SignedValue.Sample (signed t (lo + c)) n)
+  unfolding value
+  value-read c q t n e f = record { is = λ s d. rw (d, ← a, ← b, e, f) }
+
+-- ---- the count
+
+-- last_zero set
+pub count-zero : (bits : List Bool) (p : ℕ) (o : Bool) → CountIs bits p true o (OnesCount.Count 0 p false o)
+unfolding plain cleared
+count-zero bits p o = record { is = λ s z e. rw (z, e) }
+
+-- a prefix that was read
+pub count-read : (bits : List Bool) (p : ℕ) (o : Bool) (r q : ℕ) → prefix bits p ≡ Prefix.Value r q
+    → CountIs bits p false o (OnesCount.Count (r / 2 + val o) q (not (bitOf (r % 2))) (bitOf (r % 2)))
+unfolding plain flagged
+count-read bits p o r q h = record { is = λ s z e. rw (z, h, e) }
+
+-- a prefix that has no value
+pub count-none : (bits : List Bool) (p : ℕ) (o : Bool) (x : Prefix) → prefix bits p ≡ x → OneOf (1 ∷ 2 ∷ []) (tagOf the-type x) → CountIs bits p false o (notCounted x)
+unfolding plain
+count-none bits p o (Prefix.Value r q) h t = absurd (miss (1 ∷ 2 ∷ []) 0 tt t)
+count-none bits p o Prefix.EndOfStream h t = record { is = λ s z e. rw (z, h) }
+count-none bits p o Prefix.Truncated h t = record { is = λ s z e. rw (z, h) }
+
+-- ---- the run length
+
+clash : {A : Type 0} {b : Bool} → b ≡ true → b ≡ false → A
+clash {b = b} e f = let z : _≡_ {A = ℕ} 0 1 = ap val (sym f ∙ e) in absurd (omega arith)
+
+-- where run_break is not set, clearing it changes nothing
+same-unbroken : (s : State) → s .runBreak ≡ false → s ≡ unbroken s
+unfolding unbroken
+same-unbroken s e = ap (λ (b : Bool). withRun b (s .everRun) s) e
+
+-- no run length is read: step 3 follows at the same place
+fresh-word : (bits : List Bool) (p : ℕ) (s : State) → runRead s ≡ false → fresh bits p s ≡ plain bits p (unbroken s)
+unfolding fresh runDue
+fresh-word bits p s e = go (s .runBreak) (runDue s) refl e
+  where
+    read : Word
+    read = onField (runLength bits p) λ n q. onZeros n (λ d. given (pos 0) q (inRun d s) none) (plain bits q s)
+
+    go : (b d : Bool) → s .runBreak ≡ b → (not b && d) ≡ false → cond b (plain bits p (unbroken s)) (cond d read (plain bits p s)) ≡ plain bits p (unbroken s)
+    go true d f h = refl
+    go false true f h = clash refl h
+    go false false f h = ap (plain bits p) (same-unbroken s f)
+
+-- a run length is read
+fresh-run : (bits : List Bool) (p : ℕ) (s : State) → runRead s ≡ true
+    → fresh bits p s ≡ onField (runLength bits p) (λ n q. onZeros n (λ d. given (pos 0) q (inRun d s) none) (plain bits q (unbroken s)))
+unfolding fresh runDue
+fresh-run bits p s e = go (s .runBreak) (runDue s) refl e
+  where
+    read : State → Word
+    read t = onField (runLength bits p) λ n q. onZeros n (λ d. given (pos 0) q (inRun d s) none) (plain bits q t)
+
+    go : (b d : Bool) → s .runBreak ≡ b → (not b && d) ≡ true → cond b (plain bits p (unbroken s)) (cond d (read s) (plain bits p s)) ≡ read (unbroken s)
+    go true d f h = clash h refl
+    go false true f h = ap read (same-unbroken s f)
+    go false false f h = clash h refl
+
+pub run-skipped : (bits : List Bool) (p : ℕ) → RunIs bits p false (ZeroRun.Word p)
+run-skipped bits p = record { is = λ s e. sym (fresh-word bits p s e) }
+
+pub run-missing : (bits : List Bool) (p : ℕ) → runLength bits p ≡ Truncated → RunIs bits p true ZeroRun.Truncated
+run-missing bits p h = record { is = λ s e. rw (fresh-run bits p s e, h) }
+
+pub run-zero : (bits : List Bool) (p n q : ℕ) → runLength bits p ≡ Value n q → n ≡ 0 → RunIs bits p true (ZeroRun.Word q)
+run-zero bits p n q h z = record { is = λ s e. rw (fresh-run bits p s e, h, z) }
+
+zeros-some : {A : Type 0} (n : ℕ) (f : ℕ → A) (a : A) → 0 < n → f (n - 1) ≡ onZeros n f a
+zeros-some zero f a h = absurd (omega arith)
+zeros-some (suc d) f a h = ap f (omega arith)
+
+pub run-some : (bits : List Bool) (p n q : ℕ) → runLength bits p ≡ Value n q → 0 < n → RunIs bits p true (ZeroRun.Run (n - 1) q)
+run-some bits p n q h l = record { is = λ s e. rw (fresh-run bits p s e, h) (zeros-some n (λ d. given (pos 0) q (inRun d s) none) (plain bits q (unbroken s)) l) }
+
+-- ---- whether a run length is read, test by test
+
+module _ (l r : ℕ) (b z o : Bool) where
+  pub eligible-left : 1 < l → false ≡ eligible l r b z o
+  eligible-left h = rw (lt-leb l 1 h, and-false (not b))
+
+  pub eligible-right : 1 < r → false ≡ eligible l r b z o
+  eligible-right h = rw (lt-leb r 1 h, and-false (leb l 1), and-false (not b))
+
+  pub eligible-zero : z ≡ true → false ≡ eligible l r b z o
+  eligible-zero h = rw (h, and-false (leb l 1 && leb r 1), and-false (not b))
+
+  pub eligible-one : l ≤ 1 → r ≤ 1 → b ≡ false → z ≡ false → not o ≡ eligible l r b z o
+  eligible-one h k f g = rw (le-leb l 1 h, le-leb r 1 k, f, g)
+
+-- the zone of a count of 3 or more, at a count that is known only by its order
+pub zone-many : (k : ℕ) → 3 ≤ k → over k ≡ zoneOf k
+zone-many zero h = absurd (omega arith)
+zone-many (suc zero) h = absurd (omega arith)
+zone-many (suc (suc zero)) h = absurd (omega arith)
+zone-many (suc (suc (suc j))) h = refl

@@ -1,0 +1,71 @@
+-- A word by its first step, and the one-word entry by its refusals.
+-- Assumes nothing.
+use mathlib.Core.Path.{_≡_, refl, sym, ap, _∙_}
+use mathlib.Core.Bool.{Bool}
+use mathlib.Core.List.{List}
+use Prim.Native.Nat.{ℕ, zero, suc, _-_, _≤_, _<_}
+use native.Mathlib.Omega.{arith}
+use borrow.Author.Tests.{lt-ltb, le-ltb}
+use lib.IntN.{pos}
+use lib.ListN.{length, getD}
+use Rattle.bits.specs.Bits.{bitsOf}
+use Rattle.entropy.specs.Medians.{mediansOf}
+use Rattle.samples.specs.State.{State, flip, due, paid}
+use Rattle.samples.specs.Word.{Word, given, refused, none, onZeros, fresh, word}
+use Rattle.samples.specs.Parts.{eligible, codedWord, CodedIs}
+use Rattle.samples.specs.View.{stateOf, toldWord, oneWord}
+use Rattle.samples.specs.declared.StereoDecodeState.{StereoDecodeState}
+use Rattle.samples.specs.declared.coded.Coded.{Coded}
+use Rattle.samples.proofs.HeldLaws.{noSet, there, picked}
+
+zeros-some : {A : Type 0} (n : ℕ) (f : ℕ → A) (a : A) → 0 < n → onZeros n f a ≡ f (n - 1)
+zeros-some zero f a h = absurd (omega arith)
+zeros-some (suc d) f a h = ap f (omega arith)
+
+zeros-none : {A : Type 0} (n : ℕ) (f : ℕ → A) (a : A) → n ≡ 0 → onZeros n f a ≡ a
+zeros-none zero f a h = refl
+zeros-none (suc d) f a h = absurd (omega arith)
+
+-- a zero is owed
+pub word-paid : (bits : List Bool) (p : ℕ) (s : State) → 0 < s .debt → word bits p s ≡ given (pos 0) p (paid (s .debt - 1) s) none
+unfolding word
+word-paid bits p s h = zeros-some (s .debt) (λ d. given (pos 0) p (paid d s) none) (fresh bits p s) h
+
+-- no zero is owed
+pub word-fresh : (bits : List Bool) (p : ℕ) (s : State) → s .debt ≡ 0 → word bits p s ≡ fresh bits p s
+unfolding word
+word-fresh bits p s h = zeros-none (s .debt) (λ d. given (pos 0) p (paid d s) none) (fresh bits p s) h
+
+-- the entry: a payload that is too large, a channel that is none, and the word itself
+pub one-large : (payload : List ℕ) (p : ℕ) (s : State) → 4194304 < length payload → toldWord p s (refused 5) ≡ oneWord payload p s
+unfolding oneWord
+one-large payload p s h = rw (lt-ltb 4194304 (length payload) h)
+
+pub one-channel : (payload : List ℕ) (p : ℕ) (s : State) → length payload ≤ 4194304 → 1 < s .channel → toldWord p s (refused 12) ≡ oneWord payload p s
+unfolding oneWord
+one-channel payload p s h l = rw (le-ltb 4194304 (length payload) h, lt-ltb 1 (s .channel) l)
+
+pub one-word : (payload : List ℕ) (p : ℕ) (s : State) (w : Word) → length payload ≤ 4194304 → s .channel ≤ 1 → w ≡ word (bitsOf payload) p s → toldWord p s w ≡ oneWord payload p s
+unfolding oneWord
+one-word payload p s w h l e = rw (le-ltb 4194304 (length payload) h, le-ltb 1 (s .channel) l) (ap (toldWord p s) e)
+
+-- the channel that the code flips to
+pub flip-is : (c : ℕ) → c < 2 → 1 - c ≡ flip c
+flip-is zero h = refl
+flip-is (suc zero) h = refl
+flip-is (suc (suc c)) h = absurd (omega arith)
+
+-- the entry, where no zero is owed: the word is what was read
+pub one-coded : (payload : List ℕ) (p : ℕ) (st : StereoDecodeState) (run : Bool) (r : Coded)
+    → length payload ≤ 4194304 → st .«next_channel» ≤ 1 → st .«zero_run_pending» ≡ 0 → length (st .medians) ≡ 2
+    → run ≡ eligible (mediansOf (getD (st .medians) 0 noSet) .m0) (mediansOf (getD (st .medians) 1 noSet) .m0) (st .«run_break») (st .«last_zero») (st .«last_one»)
+    → CodedIs (bitsOf payload) p run (mediansOf (getD (st .medians) (st .«next_channel») noSet)) (st .«last_zero») (st .«last_one») r
+    → toldWord p (stateOf st) (codedWord (stateOf st) r) ≡ oneWord payload p (stateOf st)
+one-coded payload p st run r h l n m e c =
+    let ms = st .medians in
+    let f = there ms 0 m (omega arith) in
+    let g = there ms 1 m (omega arith) in
+    let d = ap mediansOf (there ms (st .«next_channel») m (omega arith)) in
+    one-word payload p (stateOf st) (codedWord (stateOf st) r) h l
+    (c .is (stateOf st) (sym (rw (f, g) at e)) (picked ms (st .«next_channel») (omega arith) ∙ sym d) refl refl
+    ∙ sym (word-fresh (bitsOf payload) p (stateOf st) n))

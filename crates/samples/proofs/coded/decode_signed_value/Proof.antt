@@ -1,0 +1,122 @@
+-- `samples::coded::decode_signed_value` meets its contract. A code lies within its interval, so low plus code has 31 bits.
+-- Assumes nothing.
+use borrow.Author.Needs.{needs}
+use native.Mathlib.Omega.{arith}
+use mathlib.Core.Path.{_≡_, sym, _∙_}
+use Prim.Native.Nat.{_+_, _-_, _≤_, _<_}
+use denote.Ref.{now}
+use mir.Facts.{toZ-ofZ}
+use mir.Syntax.{w32}
+use mir.Val.{SFits}
+use Rattle.bits.specs.Bits.{bitsOf}
+use Rattle.bits.specs.Fields.{getBits}
+use Rattle.bits.specs.declared.Field.the-variants.{Value}
+use Rattle.entropy.specs.Medians.{mediansOf}
+use Rattle.fields.specs.Code.{truncatedBinary}
+use Rattle.fields.proofs.CodeLaws.{code-most}
+use Rattle.medians.proofs.IntervalLaws.{ends}
+use Rattle.samples.proofs.PartLaws.{value-no-code, value-no-sign, value-read}
+use Rattle.samples.proofs.coded.decode_signed_value.Statement.{statement}
+use Rattle.samples.proofs.coded.decode_signed_value.Tie as tie
+
+sample-interval-requires : tie.Need-sample-interval-requires
+sample-interval-requires c κs = search needs
+
+-- low and high are in order and have 31 bits
+ordered : (c : tie.After-struct-known) →
+    (c .before .sample-interval .result .low ≤ c .before .sample-interval .result .high) × (c .before .sample-interval .result .high < 2147483648)
+ordered c =
+    let a = c .before .before .before .args in
+    let e = c .before .sample-interval .ensures in
+    rw (e .0, e .1) (ends (mediansOf (a .medians)) (a .ones-count))
+
+code-is : (c : tie.After-code) →
+    let a = c .before .before .before .before .before .before .args in
+    let i = c .before .before .before .before .sample-interval .result in
+    truncatedBinary (bitsOf (now (a .payload))) (a .place) (i .high - i .low) ≡ Value (c .code .given .0 .0) (c .code .given .0 .1 .0)
+code-is c = sym (c .before .before .read-truncated-binary .ensures) ∙ c .code .given .1
+
+sign-is : (c : tie.After-sign) →
+    let a = c .before .before .before .before .before .before .before .before .before .before .args in
+    getBits (bitsOf (now (a .payload))) (c .before .before .before .before .code .given .0 .1 .0) 1 ≡ Value (c .sign .given .0 .0) (c .sign .given .0 .1 .0)
+sign-is c = sym (c .before .before .get-bit .ensures) ∙ c .sign .given .1
+
+sum-lt : (c : tie.After-code) → c .before .before .before .before .sample-interval .result .low + c .code .given .0 .0 < 2147483648
+sum-lt c =
+    let k = c .before .before .before in
+    let a = k .before .before .before .args in
+    let i = k .before .sample-interval .result in
+    let m = code-most (bitsOf (now (a .payload))) (a .place) (i .high - i .low) _ _ (omega (arith, ordered k)) (code-is c) in
+    omega (arith, ordered k)
+
+sub-read-truncated-binary : tie.Need-sub-read-truncated-binary
+sub-read-truncated-binary c = ordered c .0
+
+read-truncated-binary-requires : tie.Need-read-truncated-binary-requires
+read-truncated-binary-requires c κs = (omega arith, omega (arith, ordered c))
+
+enum-known-code : tie.Need-enum-known-code
+enum-known-code c = search needs
+
+enum-told : tie.Need-enum-told
+enum-told c = search needs
+
+returns : tie.Need-returns
+returns c =
+    let k = c .before .before .before in
+    let a = k .before .before .before .args in
+    let e = k .before .sample-interval .ensures in
+    value-no-code (bitsOf (now (a .payload))) (a .place) (a .ones-count) (mediansOf (a .medians)) _ _ (e .0) (e .1)
+    (sym (c .before .before .read-truncated-binary .ensures) ∙ c .enum-told .given .1)
+
+get-bit-requires : tie.Need-get-bit-requires
+get-bit-requires c κs = search needs
+
+enum-known-sign : tie.Need-enum-known-sign
+enum-known-sign c = search needs
+
+enum-told-2 : tie.Need-enum-told-2
+enum-told-2 c = search needs
+
+returns-2 : tie.Need-returns-2
+returns-2 c =
+    let d = c .before .before .before .before in
+    let k = d .before .before .before in
+    let a = k .before .before .before .args in
+    let e = k .before .sample-interval .ensures in
+    value-no-sign (bitsOf (now (a .payload))) (a .place) (a .ones-count) (mediansOf (a .medians)) _ _ (e .0) (e .1) _ _ (code-is d)
+    (sym (c .before .before .get-bit .ensures) ∙ c .enum-told2 .given .1)
+
+add-apply-sign : tie.Need-add-apply-sign
+add-apply-sign c = omega (arith, sum-lt (c .before .before .before .before .before))
+
+apply-sign-requires : tie.Need-apply-sign-requires
+apply-sign-requires c κs = omega (arith, sum-lt (c .before .before .before .before .before))
+
+returns-3 : tie.Need-returns-3
+returns-3 c =
+    let d = c .before .before .before .before .before .before in
+    let k = d .before .before .before in
+    let a = k .before .before .before .args in
+    let e = k .before .sample-interval .ensures in
+    let f : SFits w32 (c .apply-sign .result) = search needs in
+    rw (toZ-ofZ f, c .apply-sign .ensures)
+    (value-read (bitsOf (now (a .payload))) (a .place) (a .ones-count) (mediansOf (a .medians)) _ _ (e .0) (e .1) _ _ _ _ (code-is d) (sign-is (c .before .before)))
+
+pub decode-signed-value-spec : {M : Type 1} → statement M
+decode-signed-value-spec =
+    tie.close
+    (tie.spec
+    sample-interval-requires
+    sub-read-truncated-binary
+    read-truncated-binary-requires
+    enum-known-code
+    enum-told
+    returns
+    get-bit-requires
+    enum-known-sign
+    enum-told-2
+    returns-2
+    add-apply-sign
+    apply-sign-requires
+    returns-3)

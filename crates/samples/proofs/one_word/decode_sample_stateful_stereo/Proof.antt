@@ -1,0 +1,190 @@
+-- `samples::one_word::decode_sample_stateful_stereo` meets its contract: each way out is a law of the entry.
+-- Assumes nothing.
+use borrow.Author.Needs.{needs}
+use native.Mathlib.Omega.{arith}
+use mathlib.Core.Path.{_≡_, sym, ap, _∙_}
+use denote.Ref.{now}
+use lib.IntN.{pos}
+use lib.ListN.{length}
+use mir.Facts.{toZ-ofZ}
+use mir.Syntax.{w32}
+use mir.Val.{SFits}
+use Rattle.bits.specs.Bits.{bitsOf}
+use Rattle.samples.specs.State.{State}
+use Rattle.samples.specs.Word.{given, none, zoneOf}
+use Rattle.samples.specs.Parts.{codedWord}
+use Rattle.samples.specs.View.{stateOf, toldWord, oneWord}
+use Rattle.samples.specs.declared.coded.Coded.{Coded}
+use Rattle.samples.proofs.HeldLaws.{length-mapped}
+use Rattle.samples.proofs.WordLaws.{one-large, one-channel, one-word, word-paid, one-coded}
+use Rattle.samples.proofs.one_word.decode_sample_stateful_stereo.Statement.{statement}
+use Rattle.samples.proofs.one_word.decode_sample_stateful_stereo.Tie as tie
+
+refused-requires : tie.Need-refused-requires
+refused-requires c κs = search needs
+
+returns : tie.Need-returns
+returns c =
+    let a = c .before .before .before .args in
+    c .refused .ensures ∙ one-large (now (a .payload)) (a .place) (stateOf (a .state)) (omega arith)
+
+refused-requires-2 : tie.Need-refused-requires-2
+refused-requires-2 c κs = search needs
+
+returns-2 : tie.Need-returns-2
+returns-2 c =
+    let a = c .before .before .before .before .before .args in
+    c .refused2 .ensures ∙ one-channel (now (a .payload)) (a .place) (stateOf (a .state)) (omega arith) (omega arith)
+
+sub-paid : tie.Need-sub-paid
+sub-paid c = search needs
+
+paid-requires : tie.Need-paid-requires
+paid-requires c κs = search needs
+
+zero-requires : tie.Need-zero-requires
+zero-requires c κs = search needs
+
+returns-3 : tie.Need-returns-3
+returns-3 c =
+    let a = c .before .before .before .before .before .before .before .args in
+    let s = stateOf (a .state) in
+    c .zero .ensures ∙ ap (λ (t : State). toldWord (a .place) s (given (pos 0) (a .place) t none)) (c .before .paid .ensures)
+    ∙ one-word (now (a .payload)) (a .place) s _ (omega arith) (omega arith) (sym (word-paid (bitsOf (now (a .payload))) (a .place) s (omega arith)))
+
+cast-channel : tie.Need-cast-channel
+cast-channel c = search needs
+
+array-copy-out-l : tie.Need-array-copy-out-l
+array-copy-out-l c = search needs
+
+array-copy-out-r : tie.Need-array-copy-out-r
+array-copy-out-r c = search needs
+
+element-copy-out-zero-run-eligible : tie.Need-element-copy-out-zero-run-eligible
+element-copy-out-zero-run-eligible c = search needs
+
+element-copy-out-zero-run-eligible-2 : tie.Need-element-copy-out-zero-run-eligible-2
+element-copy-out-zero-run-eligible-2 c = search needs
+
+zero-run-eligible-requires : tie.Need-zero-run-eligible-requires
+zero-run-eligible-requires c κs = search needs
+
+mul-read-word : tie.Need-mul-read-word
+mul-read-word c = search needs
+
+array-copy-out-read-word : tie.Need-array-copy-out-read-word
+array-copy-out-read-word c = search needs
+
+read-word-requires : tie.Need-read-word-requires
+read-word-requires c κs = search needs
+
+-- the word that was read is the entry's word
+read : (c : tie.After-read-word) →
+    let a = c .before .before .before .before .before .before .before .before .before .before .before .before .before .before .args in
+    let s = stateOf (a .state) in
+    toldWord (a .place) s (codedWord s (c .read-word .result)) ≡ oneWord (now (a .payload)) (a .place) s
+read c =
+    let a = c .before .before .before .before .before .before .before .before .before .before .before .before .before .before .args in
+    let l : length (a .state .medians) ≡ 2 = search (needs, length-mapped) in
+    one-coded (now (a .payload)) (a .place) (a .state) _ _ (omega arith) (omega arith) (omega arith) l (c .before .before .zero-run-eligible .ensures) (c .read-word .ensures)
+
+enum-known-word : tie.Need-enum-known-word
+enum-known-word c = search needs
+
+in-run-requires : tie.Need-in-run-requires
+in-run-requires c κs = search needs
+
+zero-requires-2 : tie.Need-zero-requires-2
+zero-requires-2 c κs = search needs
+
+enum-known-word-2 : tie.Need-enum-known-word-2
+enum-known-word-2 c = search needs
+
+adapted-requires : tie.Need-adapted-requires
+adapted-requires c κs = search needs
+
+given-requires : tie.Need-given-requires
+given-requires c κs = search needs
+
+enum-told : tie.Need-enum-told
+enum-told c = search needs
+
+refused-requires-3 : tie.Need-refused-requires-3
+refused-requires-3 c κs = search needs
+
+enum-told-2 : tie.Need-enum-told-2
+enum-told-2 c = search needs
+
+refused-requires-4 : tie.Need-refused-requires-4
+refused-requires-4 c κs = search needs
+
+returns-4 : tie.Need-returns-4
+returns-4 c =
+    let k = c .before .before .before .before .before in
+    let a = c .before .before .before .before .before .before .before .before .before .before .before .before .before .before .before .before .before .before .before .args in
+    let s = stateOf (a .state) in
+    let w = c .before .before .before .word .given in
+    c .zero2 .ensures ∙ ap (λ (t : State). toldWord (a .place) s (given (pos 0) (w .0 .1 .0) t none)) (c .before .in-run .ensures)
+    ∙ ap (λ (x : Coded). toldWord (a .place) s (codedWord s x)) (sym (w .1)) ∙ read k
+
+returns-5 : tie.Need-returns-5
+returns-5 c =
+    let k = c .before .before .before .before .before in
+    let a = c .before .before .before .before .before .before .before .before .before .before .before .before .before .before .before .before .before .before .before .args in
+    let s = stateOf (a .state) in
+    let w = c .before .before .before .word2 .given in
+    let f : SFits w32 (w .0 .0) = search needs in
+    rw (toZ-ofZ f) at (c .given .ensures)
+    ∙ ap (λ (t : State). toldWord (a .place) s (given (w .0 .0) (w .0 .1 .1 .0) t (zoneOf (w .0 .1 .0)))) (c .before .adapted .ensures)
+    ∙ ap (λ (x : Coded). toldWord (a .place) s (codedWord s x)) (sym (w .1)) ∙ read k
+
+returns-6 : tie.Need-returns-6
+returns-6 c =
+    let k = c .before .before .before in
+    let a = c .before .before .before .before .before .before .before .before .before .before .before .before .before .before .before .before .before .args in
+    let s = stateOf (a .state) in
+    c .refused3 .ensures ∙ ap (λ (x : Coded). toldWord (a .place) s (codedWord s x)) (sym (c .before .enum-told .given .1)) ∙ read k
+
+returns-7 : tie.Need-returns-7
+returns-7 c =
+    let k = c .before .before .before in
+    let a = c .before .before .before .before .before .before .before .before .before .before .before .before .before .before .before .before .before .args in
+    let s = stateOf (a .state) in
+    c .refused4 .ensures ∙ ap (λ (x : Coded). toldWord (a .place) s (codedWord s x)) (sym (c .before .enum-told2 .given .1)) ∙ read k
+
+pub decode-sample-stateful-stereo-spec : {M : Type 1} → statement M
+decode-sample-stateful-stereo-spec =
+    tie.close
+    (tie.spec
+    refused-requires
+    returns
+    refused-requires-2
+    returns-2
+    sub-paid
+    paid-requires
+    zero-requires
+    returns-3
+    cast-channel
+    array-copy-out-l
+    array-copy-out-r
+    element-copy-out-zero-run-eligible
+    element-copy-out-zero-run-eligible-2
+    zero-run-eligible-requires
+    mul-read-word
+    array-copy-out-read-word
+    read-word-requires
+    enum-known-word
+    in-run-requires
+    zero-requires-2
+    enum-known-word-2
+    adapted-requires
+    given-requires
+    enum-told
+    refused-requires-3
+    enum-told-2
+    refused-requires-4
+    returns-4
+    returns-5
+    returns-6
+    returns-7)

@@ -1,0 +1,18 @@
+-- `samples::one_word::paid` meets its contract.
+-- Assumes nothing.
+use borrow.Author.Needs.{needs}
+use native.Mathlib.Omega.{arith}
+use Rattle.samples.specs.State.{paid}
+use Rattle.samples.proofs.WordLaws.{flip-is}
+use Rattle.samples.proofs.one_word.paid.Statement.{statement}
+use Rattle.samples.proofs.one_word.paid.Tie as tie
+
+sub-next : tie.Need-sub-next
+sub-next c = search needs
+
+returns : tie.Need-returns
+unfolding paid
+returns c = rw (flip-is (c .before .args .state .«next_channel») (omega arith))
+
+pub paid-spec : {M : Type 1} → statement M
+paid-spec = tie.close (tie.spec sub-next returns)

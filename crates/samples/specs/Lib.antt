@@ -1,0 +1,5 @@
+pub mod State
+pub mod Word
+pub mod Reading
+pub mod Parts
+pub mod View

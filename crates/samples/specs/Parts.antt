@@ -1,0 +1,77 @@
+-- What the parts of a word that the code reads one after another stand for: each is right for every state that holds the numbers it was given.
+-- Assumes nothing.
+use mathlib.Core.Path.{_≡_}
+use mathlib.Core.Bool.{Bool, not, _&&_}
+use mathlib.Core.List.{List}
+use Prim.Native.Nat.{ℕ}
+use lib.Dec.{leb}
+use lib.IntN.{pos}
+use Rattle.entropy.specs.Medians.{Medians}
+use Rattle.fields.specs.declared.Prefix.{Prefix}
+use Rattle.samples.specs.State.{State, due, withFlags, inRun, unbroken, after}
+use Rattle.samples.specs.Word.{Word, given, refused, none, zoneOf, value, plain, fresh}
+use Rattle.samples.specs.declared.coded.OnesCount.{OnesCount}
+use Rattle.samples.specs.declared.coded.SignedValue.{SignedValue}
+use Rattle.samples.specs.declared.coded.ZeroRun.{ZeroRun}
+use Rattle.samples.specs.declared.coded.Coded.{Coded}
+
+-- step 4: the sample of a word with the count k
+abbrev pub valueWord : ℕ → State → SignedValue → Word
+valueWord k s (SignedValue.Sample v q) = given v q (after k s) (zoneOf k)
+valueWord k s SignedValue.Truncated = refused 3
+
+pub record ValueIs (bits : List Bool) (p : ℕ) (medians : Medians) (k : ℕ) (r : SignedValue) : Type 0 where
+  pub is : (s : State) → due s ≡ medians → valueWord k s r ≡ value bits p k s
+
+-- step 3: the count of a word, and the flags after it
+abbrev pub countWord : List Bool → State → OnesCount → Word
+countWord bits s (OnesCount.Count k q z o) = value bits q k (withFlags z o s)
+countWord bits s OnesCount.EndOfStream = refused 4
+countWord bits s OnesCount.Truncated = refused 3
+
+pub record CountIs (bits : List Bool) (p : ℕ) (lastZero lastOne : Bool) (r : OnesCount) : Type 0 where
+  pub is : (s : State) → s .lastZero ≡ lastZero → s .lastOne ≡ lastOne → countWord bits s r ≡ plain bits p s
+
+-- a prefix without a value, as a count without one
+abbrev pub notCounted : Prefix → OnesCount
+notCounted (Prefix.Value r q) = OnesCount.Truncated
+notCounted Prefix.EndOfStream = OnesCount.EndOfStream
+notCounted Prefix.Truncated = OnesCount.Truncated
+
+-- step 2: whether a run length is read
+abbrev pub eligible : ℕ → ℕ → Bool → Bool → Bool → Bool
+eligible l r broken z o = not broken && (leb l 1 && leb r 1 && not z && not o)
+
+abbrev pub runRead : State → Bool
+runRead s = eligible (s .left .m0) (s .right .m0) (s .runBreak) (s .lastZero) (s .lastOne)
+
+-- a run that starts here, or the place of steps 3 and 4
+
+abbrev pub runWord : List Bool → State → ZeroRun → Word
+runWord bits s (ZeroRun.Run d q) = given (pos 0) q (inRun d s) none
+runWord bits s (ZeroRun.Word q) = plain bits q (unbroken s)
+runWord bits s ZeroRun.Truncated = refused 3
+
+pub record RunIs (bits : List Bool) (p : ℕ) (read : Bool) (r : ZeroRun) : Type 0 where
+  pub is : (s : State) → runRead s ≡ read → runWord bits s r ≡ fresh bits p s
+
+-- a count without a value, as a word without a sample
+abbrev pub notCoded : OnesCount → Coded
+notCoded (OnesCount.Count k q z o) = Coded.Truncated
+notCoded OnesCount.EndOfStream = Coded.EndOfStream
+notCoded OnesCount.Truncated = Coded.Truncated
+
+-- a word where no zero is owed: a run, or a sample
+abbrev pub codedWord : State → Coded → Word
+codedWord s (Coded.Run d q) = given (pos 0) q (inRun d s) none
+codedWord s (Coded.Sample v k q z o) = given v q (after k (withFlags z o (unbroken s))) (zoneOf k)
+codedWord s Coded.EndOfStream = refused 4
+codedWord s Coded.Truncated = refused 3
+
+-- steps 3 and 4
+pub record PlainIs (bits : List Bool) (p : ℕ) (medians : Medians) (lastZero lastOne : Bool) (r : Coded) : Type 0 where
+  pub is : (s : State) → due s ≡ medians → s .lastZero ≡ lastZero → s .lastOne ≡ lastOne → codedWord s r ≡ plain bits p (unbroken s)
+
+-- steps 2 to 4
+pub record CodedIs (bits : List Bool) (p : ℕ) (read : Bool) (medians : Medians) (lastZero lastOne : Bool) (r : Coded) : Type 0 where
+  pub is : (s : State) → runRead s ≡ read → due s ≡ medians → s .lastZero ≡ lastZero → s .lastOne ≡ lastOne → codedWord s r ≡ fresh bits p s

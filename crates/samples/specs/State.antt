@@ -1,0 +1,86 @@
+-- Document 01, "One word", the state (W0), and what a word does to it. Reader and packer walk the same state by the same named steps.
+-- Assumes nothing.
+use mathlib.Core.Bool.{Bool, true, false, not, _&&_}
+use Prim.Native.Nat.{ℕ, zero, suc}
+use lib.Dec.{leb}
+use Rattle.entropy.specs.Medians.{Medians, zeroSet, mediansOf}
+use Rattle.medians.specs.Adaptation.{adapt}
+
+-- document 01 (W0): two sets of three medians, last_zero, last_one, zero_run_pending (the debt), run_break, ever_took_zero_run, next_channel
+pub record State : Type 0 where
+  pub left : Medians
+  pub right : Medians
+  pub lastZero : Bool
+  pub lastOne : Bool
+  pub debt : ℕ
+  pub runBreak : Bool
+  pub everRun : Bool
+  pub channel : ℕ
+
+-- document 01 (W0): "It starts at zero and false", with the seed medians
+abbrev pub start : Medians → Medians → State
+start l r = record { left = l; right = r; lastZero = false; lastOne = false; debt = 0; runBreak = false; everRun = false; channel = 0 }
+
+-- the first of two for channel 0, else the second
+abbrev pub side : {A : Type 0} → ℕ → A → A → A
+side zero a b = a
+side (suc n) a b = b
+
+-- document 01 (W0): the medians "picked by the channel due", and those of the other channel
+abbrev pub due : State → Medians
+due s = side (s .channel) (s .left) (s .right)
+
+abbrev pub other : State → Medians
+other s = side (s .channel) (s .right) (s .left)
+
+-- ---- the state with a part of it set
+
+abbrev pub withMedians : Medians → Medians → State → State
+withMedians l r s = record { left = l; right = r; lastZero = s .lastZero; lastOne = s .lastOne; debt = s .debt; runBreak = s .runBreak; everRun = s .everRun; channel = s .channel }
+
+abbrev pub withFlags : Bool → Bool → State → State
+withFlags z o s = record { left = s .left; right = s .right; lastZero = z; lastOne = o; debt = s .debt; runBreak = s .runBreak; everRun = s .everRun; channel = s .channel }
+
+abbrev pub withDebt : ℕ → State → State
+withDebt d s = record { left = s .left; right = s .right; lastZero = s .lastZero; lastOne = s .lastOne; debt = d; runBreak = s .runBreak; everRun = s .everRun; channel = s .channel }
+
+abbrev pub withRun : Bool → Bool → State → State
+withRun b e s = record { left = s .left; right = s .right; lastZero = s .lastZero; lastOne = s .lastOne; debt = s .debt; runBreak = b; everRun = e; channel = s .channel }
+
+abbrev pub withChannel : ℕ → State → State
+withChannel c s = record { left = s .left; right = s .right; lastZero = s .lastZero; lastOne = s .lastOne; debt = s .debt; runBreak = s .runBreak; everRun = s .everRun; channel = c }
+
+-- ---- what a word does to the state
+
+-- document 01 (W5): "Each given sample flips next_channel"
+abbrev pub flip : ℕ → ℕ
+flip zero = 1
+flip (suc n) = 0
+
+-- document 01 (W1): "Debt above 0: lower it, give 0"; d is the debt that is left
+unfoldable pub paid : ℕ → State → State
+paid d s = withChannel (flip (s .channel)) (withDebt d s)
+
+-- document 01 (W2): "zero all six medians, set ever_took_zero_run and run_break, debt n - 1, give 0"; d is n - 1
+unfoldable pub inRun : ℕ → State → State
+inRun d s = withChannel (flip (s .channel)) (withDebt d (withRun true true (withMedians (mediansOf zeroSet) (mediansOf zeroSet) s)))
+
+-- document 01 (W2): "run_break set: clear it"
+unfoldable pub unbroken : State → State
+unbroken s = withRun false (s .everRun) s
+
+-- document 01 (W3): "last_zero set: clear it"
+unfoldable pub cleared : State → State
+cleared s = withFlags false (s .lastOne) s
+
+-- document 01 (W3): "last_one becomes r's low bit, last_zero its opposite"
+unfoldable pub flagged : Bool → State → State
+flagged b s = withFlags (not b) b s
+
+-- document 01 (W4, W5): the medians due adapt to the count k, and the sample flips the channel
+unfoldable pub after : ℕ → State → State
+after k s = withChannel (flip (s .channel)) (withMedians (side (s .channel) (adapt (s .left) k) (s .left)) (side (s .channel) (s .right) (adapt (s .right) k)) s)
+
+-- document 01 (W2): "if both first medians are at most 1 and neither flag is set, read a run length"
+unfoldable pub runDue : State → Bool
+runDue s = leb (s .left .m0) 1 && leb (s .right .m0) 1 && not (s .lastZero) && not (s .lastOne)

@@ -1,0 +1,108 @@
+-- What the structs of the two entries stand for, and what each entry answers (X2, X3).
+-- Assumes nothing.
+use mathlib.Core.Bool.{Bool, cond, _||_}
+use mathlib.Core.List.{List, _++_}
+use Prim.Native.Nat.{ℕ, zero, suc, _*_}
+use lib.Dec.{ltb, eqb}
+use lib.IntN.{ℤ, pos}
+use lib.ListN.{length, drop}
+use Rattle.answers.specs.Numbers.{outcomeNumber}
+use Rattle.bits.specs.Bits.{bitsOf}
+use Rattle.entropy.specs.Medians.{MedianPair, pairOf, zeroPair}
+use Rattle.entropy.specs.Seed.{seedRefusal, seedMedians}
+use Rattle.samples.specs.State.{State, start}
+use Rattle.samples.specs.Word.{Report, none, zone0, zone1, zone2, over, Word, given, refused, word}
+use Rattle.samples.specs.Reading.{Reading, reading}
+use Rattle.samples.specs.declared.StereoDecodeState.{StereoDecodeState}
+use Rattle.samples.specs.declared.Zone.{Zone}
+use Rattle.samples.specs.declared.MaybeZone.{MaybeZone}
+use Rattle.samples.specs.declared.WordAnswer.{WordAnswer}
+use Rattle.samples.specs.declared.ReadAnswer.{ReadAnswer}
+
+-- ---- one word
+
+-- the state that the struct holds
+abbrev pub stateOf : StereoDecodeState → State
+stateOf s = record {
+  left = pairOf (s .medians) .left;
+  right = pairOf (s .medians) .right;
+  lastZero = s .«last_zero»;
+  lastOne = s .«last_one»;
+  debt = s .«zero_run_pending»;
+  runBreak = s .«run_break»;
+  everRun = s .«ever_took_zero_run»;
+  channel = s .«next_channel»;
+}
+
+-- the report that an enum of zones is
+abbrev pub reportOfZone : Zone → Report
+reportOfZone Zone.Zone0 = zone0
+reportOfZone Zone.Zone1 = zone1
+reportOfZone Zone.Zone2 = zone2
+reportOfZone (Zone.Zone2Overflow k) = over k
+
+abbrev pub reportOf : MaybeZone → Report
+reportOf MaybeZone.None = none
+reportOf (MaybeZone.Some z) = reportOfZone z
+
+-- what the entry answers: the refusal's number (0: accepted), sample, place, state and report
+pub record WordTold : Type 0 where
+  pub refusal : ℕ
+  pub sample : ℤ
+  pub place : ℕ
+  pub state : State
+  pub report : Report
+
+-- the answer that the entry's struct holds
+abbrev pub wordToldOf : WordAnswer → WordTold
+wordToldOf r = record { refusal = outcomeNumber (r .outcome); sample = r .sample; place = r .place; state = stateOf (r .state); report = reportOf (r .report .zone) }
+
+-- document 01 (X3): "A refusal gives sample 0 and the old state and place"
+abbrev pub toldWord : ℕ → State → Word → WordTold
+toldWord p s (given v q t z) = record { refusal = 0; sample = v; place = q; state = t; report = z }
+toldWord p s (refused c) = record { refusal = c; sample = pos 0; place = p; state = s; report = none }
+
+-- document 01 (X3): "One word: 5, the payload bytes only; 12, next_channel above 1; 3; 4"
+unfoldable pub oneWord : List ℕ → ℕ → State → WordTold
+oneWord payload p s =
+    toldWord p s (cond (ltb 4194304 (length payload)) (refused 5) (cond (ltb 1 (s .channel)) (refused 12) (word (bitsOf payload) p s)))
+
+-- ---- reading
+
+-- what reading answers: the refusal's number (0: accepted), bits used, medians after, samples written; and what the lent list then holds
+pub record ReadTold : Type 0 where
+  pub refusal : ℕ
+  pub bits : ℕ
+  pub medians : MedianPair
+  pub written : ℕ
+  pub list : List ℤ
+
+-- the answer that the entry's struct holds, with the lent list as it is left
+abbrev pub readToldOf : ReadAnswer → List ℤ → ReadTold
+readToldOf r list = record { refusal = outcomeNumber (r .outcome); bits = r .bits; medians = pairOf (r .medians); written = r .written; list = list }
+
+-- the samples of a reading stand first in the lent list; the rest of it is as it was
+abbrev pub toldReading : List ℤ → Reading → ReadTold
+toldReading list r = record {
+  refusal = r .refusal;
+  bits = r .place;
+  medians = record { left = r .state .left; right = r .state .right };
+  written = length (r .samples);
+  list = r .samples ++ drop (length (r .samples)) list;
+}
+
+-- document 01 (X2): "Reading: 5, over 131,072 frames or 4,194,304 payload bytes; 6, list length; 1; 2, mono or a negative median"; 0: words follow
+unfoldable pub readRefusal : List ℕ → List ℕ → ℕ → List ℤ → ℕ
+readRefusal entropy payload frames list =
+    cond (ltb 131072 frames || ltb 4194304 (length payload)) 5 (cond (eqb (length list) (2 * frames)) (seedRefusal entropy) 6)
+
+-- document 01 (R6): "One that comes before any word is tried tells 0 for bits and medians"; else what follows
+abbrev pub unlessRefused : List ℤ → ℕ → ReadTold → ReadTold
+unlessRefused list zero told = told
+unlessRefused list (suc c) told = record { refusal = suc c; bits = 0; medians = zeroPair; written = 0; list = list }
+
+-- document 01, "Reading, from the entry down" (R1 to R6): 2 times frames words from the seed medians on
+unfoldable pub readEntry : List ℕ → List ℕ → ℕ → List ℤ → ReadTold
+readEntry entropy payload frames list =
+    unlessRefused list (readRefusal entropy payload frames list)
+    (toldReading list (reading (bitsOf payload) (2 * frames) 0 (start (seedMedians entropy .left) (seedMedians entropy .right))))

@@ -1,0 +1,223 @@
+// Implements document 01, "One word", steps 2 to 4, from numbers alone: the payload, the place, the medians due and the two flags.
+// No part hands a whole state on, which would cost more than the reading itself; and each part is called at one place of the next.
+ghost use mathlib.Core.Path.{_≡_};
+ghost use mathlib.Core.Bool.{not, _&&_};
+ghost use Prim.Native.Nat.{_+_, _%_, _≤_, _<_};
+ghost use lib.Dec.{leb};
+ghost use lib.ListN.{length};
+ghost use Rattle.bits.specs.Bits.{bitsOf, val, bitOf};
+ghost use Rattle.entropy.specs.Medians.{mediansOf};
+ghost use Rattle.samples.specs.Word.{signed};
+ghost use Rattle.samples.specs.Parts.{ValueIs, notCounted, CountIs, notCoded, PlainIs, eligible, RunIs, CodedIs};
+use bits::Field;
+use bits::read::get_bit;
+use entropy::AdaptiveMedians;
+use fields::Prefix;
+use fields::code::read_truncated_binary;
+use fields::counts::read_raw_prefix;
+use fields::counts::read_zero_run_length;
+use medians::interval::sample_interval;
+
+// A sample and the place after it.
+pub enum SignedValue {
+    Sample(i32, usize),
+    Truncated,
+}
+
+// A count, the place after it, and last_zero and last_one after it.
+pub enum OnesCount {
+    Count(u32, usize, bool, bool),
+    EndOfStream,
+    Truncated,
+}
+
+// A run with the zeros owed after its first and the place after its length; or the place of a word.
+pub enum ZeroRun {
+    Run(u32, usize),
+    Word(usize),
+    Truncated,
+}
+
+// A run as above; or a sample, its count, the place after it, and last_zero and last_one after it.
+pub enum Coded {
+    Run(u32, usize),
+    Sample(i32, u32, usize, bool, bool),
+    EndOfStream,
+    Truncated,
+}
+
+// A magnitude, or with the sign bit its complement.
+fn apply_sign(magnitude: u32, sign: u32) -> i32
+    requires { ⌜ magnitude < 2147483648 ⌝ }
+    ensures { λ r. ⌜ r ≡ signed sign magnitude ⌝ }
+{
+    let x = magnitude as i32;
+    if sign == 0 {
+        return x;
+    }
+    -1 - x
+}
+
+// Step 4: code and sign in the interval of the count, which is formed before the medians adapt.
+fn decode_signed_value(
+    payload: &[u8],
+    place: usize,
+    medians: AdaptiveMedians,
+    ones_count: u32,
+) -> SignedValue
+    requires { ⌜ length (now payload) ≤ 4194304 ⌝ }
+    ensures { λ r. ⌜ ValueIs (bitsOf (now (payload .entry))) place (mediansOf medians) «ones_count» r ⌝ }
+{
+    let interval = sample_interval(medians, ones_count);
+    let low = interval.low;
+    let Field::Value(code, next) = read_truncated_binary(payload, place, interval.high - low) else {
+        return SignedValue::Truncated;
+    };
+    let Field::Value(sign, after) = get_bit(payload, next) else {
+        return SignedValue::Truncated;
+    };
+    SignedValue::Sample(apply_sign(low + code, sign), after)
+}
+
+fn one_if(flag: bool) -> u32
+    ensures { λ r. ⌜ (r ≡ val flag) × (r ≤ 1) ⌝ }
+{
+    if flag { 1 } else { 0 }
+}
+
+fn is_odd(x: u32) -> bool
+    ensures { λ r. ⌜ r ≡ bitOf (x % 2) ⌝ }
+{
+    if x % 2 == 0 { false } else { true }
+}
+
+// Why a prefix has no value.
+fn not_counted(prefix: Prefix) -> OnesCount
+    ensures { λ r. ⌜ r ≡ notCounted prefix ⌝ }
+{
+    match prefix {
+        Prefix::Value(_, _) => OnesCount::Truncated,
+        Prefix::EndOfStream => OnesCount::EndOfStream,
+        Prefix::Truncated => OnesCount::Truncated,
+    }
+}
+
+// Step 3: the count of a word, folded with the flags that the word before it left, and the flags after it.
+fn read_folded_ones_count(
+    payload: &[u8],
+    place: usize,
+    last_zero: bool,
+    last_one: bool,
+) -> OnesCount
+    requires { ⌜ length (now payload) ≤ 4194304 ⌝ }
+    ensures { λ r. ⌜ CountIs (bitsOf (now (payload .entry))) place «last_zero» «last_one» r ⌝ }
+{
+    if last_zero {
+        return OnesCount::Count(0, place, false, last_one);
+    }
+    let prefix = read_raw_prefix(payload, place);
+    let Prefix::Value(raw, next) = prefix else {
+        return not_counted(prefix);
+    };
+    let odd = is_odd(raw);
+    OnesCount::Count(raw / 2 + one_if(last_one), next, !odd, odd)
+}
+
+// Whether step 2 reads a run length, from the first medians of both channels and what the words before left.
+pub fn zero_run_eligible(
+    left_median: u32,
+    right_median: u32,
+    run_break: bool,
+    last_zero: bool,
+    last_one: bool,
+) -> bool
+    ensures { λ r. ⌜ r ≡ eligible «left_median» «right_median» «run_break» «last_zero» «last_one» ⌝ }
+{
+    if left_median > 1 {
+        return false;
+    }
+    if right_median > 1 {
+        return false;
+    }
+    if run_break {
+        return false;
+    }
+    if last_zero {
+        return false;
+    }
+    !last_one
+}
+
+// Step 2, where `eligible` tells whether a run length is read.
+fn try_zero_run_path_stereo(payload: &[u8], place: usize, eligible: bool) -> ZeroRun
+    requires { ⌜ length (now payload) ≤ 4194304 ⌝ }
+    ensures { λ r. ⌜ RunIs (bitsOf (now (payload .entry))) place eligible r ⌝ }
+{
+    if !eligible {
+        return ZeroRun::Word(place);
+    }
+    let Field::Value(run, next) = read_zero_run_length(payload, place) else {
+        return ZeroRun::Truncated;
+    };
+    if run == 0 {
+        return ZeroRun::Word(next);
+    }
+    ZeroRun::Run(run - 1, next)
+}
+
+// Why a count has no value.
+fn not_coded(count: OnesCount) -> Coded
+    ensures { λ r. ⌜ r ≡ notCoded count ⌝ }
+{
+    match count {
+        OnesCount::Count(_, _, _, _) => Coded::Truncated,
+        OnesCount::EndOfStream => Coded::EndOfStream,
+        OnesCount::Truncated => Coded::Truncated,
+    }
+}
+
+// Steps 3 and 4: a word outside a run.
+fn read_coded(
+    payload: &[u8],
+    place: usize,
+    medians: AdaptiveMedians,
+    last_zero: bool,
+    last_one: bool,
+) -> Coded
+    requires { ⌜ length (now payload) ≤ 4194304 ⌝ }
+    ensures { λ r. ⌜ PlainIs (bitsOf (now (payload .entry))) place (mediansOf medians) «last_zero» «last_one» r ⌝ }
+{
+    let count = read_folded_ones_count(payload, place, last_zero, last_one);
+    let OnesCount::Count(ones_count, behind, zero_after, one_after) = count else {
+        return not_coded(count);
+    };
+    let SignedValue::Sample(sample, next) = decode_signed_value(
+        payload,
+        behind,
+        medians,
+        ones_count,
+    ) else {
+        return Coded::Truncated;
+    };
+    Coded::Sample(sample, ones_count, next, zero_after, one_after)
+}
+
+// Steps 2 to 4: a word where no zero is owed.
+pub fn read_word(
+    payload: &[u8],
+    place: usize,
+    eligible: bool,
+    medians: AdaptiveMedians,
+    last_zero: bool,
+    last_one: bool,
+) -> Coded
+    requires { ⌜ length (now payload) ≤ 4194304 ⌝ }
+    ensures { λ r. ⌜ CodedIs (bitsOf (now (payload .entry))) place eligible (mediansOf medians) «last_zero» «last_one» r ⌝ }
+{
+    let run = try_zero_run_path_stereo(payload, place, eligible);
+    match run {
+        ZeroRun::Run(owed, next) => Coded::Run(owed, next),
+        ZeroRun::Word(next) => read_coded(payload, next, medians, last_zero, last_one),
+        ZeroRun::Truncated => Coded::Truncated,
+    }
+}

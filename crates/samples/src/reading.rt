@@ -1,0 +1,135 @@
+// Implements document 01, "Reading": the refusals that come before any word, then word after word into a lent list. The medians are a local array that is indexed by
+// channel, and the rest of the state is in locals, so that the compiler keeps it in registers.
+ghost use mathlib.Core.Path.{_≡_};
+ghost use Prim.Native.Nat.{_≤_};
+ghost use lib.ListN.{length};
+ghost use Rattle.bits.specs.Bits.{bitsOf};
+ghost use Rattle.entropy.specs.Medians.{pairOf, zeroPair};
+ghost use Rattle.samples.specs.State.{start};
+ghost use Rattle.samples.specs.Reading.{reading};
+ghost use Rattle.samples.specs.View.{readToldOf, toldReading, readEntry};
+use crate::ReadAnswer;
+use crate::coded::Coded;
+use crate::coded::read_word;
+use crate::coded::zero_run_eligible;
+use answers::Outcome;
+use answers::Refusal;
+use entropy::AdaptiveMedians;
+use entropy::stereo_pair_from_entropy;
+use medians::adaptation::adapt;
+
+// The answer of a reading that a word ended: what the accepted words used, left and gave.
+fn stopped(
+    refusal: Refusal,
+    bits: usize,
+    medians: [AdaptiveMedians; 2],
+    written: usize,
+) -> ReadAnswer
+    ensures { λ r. ⌜ r ≡ record { outcome = Outcome.Refused refusal; bits = bits; medians = medians; written = written } ⌝ }
+{
+    ReadAnswer {
+        outcome: Outcome::Refused(refusal),
+        bits,
+        medians,
+        written,
+    }
+}
+
+// Words into all of `out`, the first of them for the left channel. What it holds behind a refused word stays.
+pub fn decode_packed_samples_stereo(
+    payload: &[u8],
+    seeds: [AdaptiveMedians; 2],
+    out: &mut [i32],
+) -> ReadAnswer
+    requires { ⌜ length (now payload) ≤ 4194304 ⌝ }
+    ensures { λ r. ⌜ readToldOf r (now (out .exit)) ≡ toldReading (now (out .entry)) (reading (bitsOf (now (payload .entry))) (length (now (out .entry))) 0 (start (pairOf seeds .left) (pairOf seeds .right))) ⌝ }
+{
+    let none = AdaptiveMedians { values: [0, 0, 0] };
+    let mut medians = seeds;
+    let mut owed: u32 = 0;
+    let mut run_break = false;
+    let mut last_zero = false;
+    let mut last_one = false;
+    let mut bits: usize = 0;
+    let mut written: usize = 0;
+    while written < out.len() {
+        let mut sample: i32 = 0;
+        if owed > 0 {
+            owed = owed - 1;
+        } else {
+            let l = medians[0];
+            let r = medians[1];
+            let due = medians[written % 2];
+            let run = zero_run_eligible(l.values[0], r.values[0], run_break, last_zero, last_one);
+            let word = read_word(payload, bits, run, due, last_zero, last_one);
+            match word {
+                Coded::Run(behind, next) => {
+                    medians = [none, none];
+                    run_break = true;
+                    owed = behind;
+                    bits = next;
+                }
+                Coded::Sample(value, ones_count, next, zero, one) => {
+                    medians[written % 2] = adapt(due, ones_count);
+                    run_break = false;
+                    last_zero = zero;
+                    last_one = one;
+                    bits = next;
+                    sample = value;
+                }
+                Coded::EndOfStream => return stopped(Refusal::EndOfStream, bits, medians, written),
+                Coded::Truncated => return stopped(Refusal::Truncated, bits, medians, written),
+            }
+        }
+        out[written] = sample;
+        written = written + 1;
+    }
+    ReadAnswer {
+        outcome: Outcome::Accepted,
+        bits,
+        medians,
+        written,
+    }
+}
+
+// The answer of a reading that ended before any word.
+fn not_read(outcome: Outcome) -> ReadAnswer
+    ensures { λ r. ⌜ (r .outcome ≡ outcome) × (r .bits ≡ 0) × (pairOf (r .medians) ≡ zeroPair) × (r .written ≡ 0) ⌝ }
+{
+    let none = AdaptiveMedians { values: [0, 0, 0] };
+    ReadAnswer {
+        outcome,
+        bits: 0,
+        medians: [none, none],
+        written: 0,
+    }
+}
+
+// The samples of `frames` frames, left then right, into `out`. Refuses with 5 over 131,072 frames or 4,194,304 payload bytes, with 6 where `out`
+// has not two elements a frame, with 1 or 2 what is wrong with the entropy payload, then with 3 or 4 what a word runs into. Only a refusal in a
+// word leaves samples in `out`, those before it.
+pub fn decode_packed_samples_stereo_from_entropy(
+    entropy: &[u8],
+    payload: &[u8],
+    frames: usize,
+    out: &mut [i32],
+) -> ReadAnswer
+    ensures { λ r. ⌜ readToldOf r (now (out .exit)) ≡ readEntry (now (entropy .entry)) (now (payload .entry)) frames (now (out .entry)) ⌝ }
+{
+    if frames > 131072 {
+        return not_read(Outcome::Refused(Refusal::TooLarge));
+    }
+    if payload.len() > 4194304 {
+        return not_read(Outcome::Refused(Refusal::TooLarge));
+    }
+    if out.len() != 2 * frames {
+        return not_read(Outcome::Refused(Refusal::ListLength));
+    }
+    let seeds = stereo_pair_from_entropy(entropy);
+    let outcome = seeds.outcome;
+    let Outcome::Accepted = outcome else {
+        return not_read(outcome);
+    };
+    let medians = seeds.medians;
+    decode_packed_samples_stereo(payload, medians, out)
+}
