@@ -1,4 +1,4 @@
--- A table of worked cases: each row has what a definition gives and what is expected of it. Assumes nothing.
+-- A table of worked cases, in groups of rows: a row has what a definition gives and what is expected of it. Assumes nothing.
 use mathlib.Core.Path.{_≡_}
 use mathlib.Core.List.{List, [], _∷_}
 use Prim.Native.Nat.{ℕ}
@@ -18,7 +18,12 @@ _gives_ {A} x y = record { Value = A; computed = x; expected = y }
 abbrev pub minus : ℕ → ℤ
 minus n = negℤ (pos n)
 
--- every row of a table holds
+-- every row of a group holds
 abbrev pub Hold : List Row → Type 0
 Hold [] = Unit {0}
 Hold (row ∷ rows) = (row .computed ≡ row .expected) × Hold rows
+
+-- every group of a table holds
+abbrev pub HoldAll : List (List Row) → Type 0
+HoldAll [] = Unit {0}
+HoldAll (group ∷ groups) = Hold group × HoldAll groups

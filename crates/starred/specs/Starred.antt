@@ -1,9 +1,13 @@
 -- Document 01, "Proved cases (*) and others": the starred cases, group by group (C11).
 -- Assumes nothing.
-use mathlib.Core.List.{List, [], _∷_, _++_}
+use mathlib.Core.Bool.{false}
+use mathlib.Core.List.{List, [], _∷_}
 use lib.IntN.{pos}
 use Rattle.logpack.specs.LogWord.{logWord}
 use Rattle.medians.specs.Adaptation.{up, down}
+use Rattle.weights.specs.Weights.{predict, updated, updatedClip}
+use Rattle.passes.specs.Making.{Made, made}
+use Rattle.passes.specs.Run.{Run, passed}
 use Rattle.starred.specs.Row.{Row, _gives_, minus}
 
 -- "Log words 0, 256, -256, 2304, 8191, 8192, -32768 give 0, 1, -1, 256, 2143289344, -2147483648, -2147483648" (C1)
@@ -23,6 +27,40 @@ abbrev pub medians : List Row
 medians =
     (up 128 0 gives 5) ∷ (down 128 2 gives 0) ∷ (down 128 1 gives 1) ∷ (up 128 4294967295 gives 4294967295) ∷ []
 
+-- "Prediction at weight 1024 of 5 is 5; -512 of 1 is 0; -512 of 3 is -1" (C3)
+abbrev pub predictions : List Row
+predictions =
+    (predict (pos 1024) (pos 5) gives pos 5)
+    ∷ (predict (minus 512) (pos 1) gives pos 0)
+    ∷ (predict (minus 512) (pos 3) gives minus 1)
+    ∷ []
+
+-- "Cross weight 1022, delta 7, equal signs: 1024; an uncut term: 1029" (C4). Equal signs are those of source and residual.
+abbrev pub weights : List Row
+weights =
+    (updatedClip (pos 1022) (pos 7) (pos 1) (pos 1) gives pos 1024)
+    ∷ (updatedClip (pos 1022) (pos 7) (minus 1) (minus 1) gives pos 1024)
+    ∷ (updated (pos 1022) (pos 7) (pos 1) (pos 1) gives pos 1029)
+    ∷ (updated (pos 1022) (pos 7) (minus 1) (minus 1) gives pos 1029)
+    ∷ []
+
+-- "Term 18, weights 1024, delta 2, seeds A 10, 4 and B 1, -2"
+abbrev pub pass18 : Made
+pass18 = made (pos 18) (pos 2) (pos 1024) (pos 1024) (pos 10 ∷ pos 4 ∷ []) (pos 1 ∷ minus 2 ∷ [])
+
+-- "residuals 1, -1"
+abbrev pub run18 : Run
+run18 = passed false (pass18 .pass) (pos 1 ∷ minus 1 ∷ [])
+
+-- ": samples 14, 1; weights 1026, 1022" (C5)
+abbrev pub term18 : List Row
+term18 =
+    (pass18 .refusal gives 0)
+    ∷ (run18 .buffer gives (pos 14 ∷ pos 1 ∷ []))
+    ∷ (run18 .pass .«weight_a» gives pos 1026)
+    ∷ (run18 .pass .«weight_b» gives pos 1022)
+    ∷ []
+
 -- the table
-abbrev pub starred : List Row
-starred = logWords ++ medians
+abbrev pub starred : List (List Row)
+starred = logWords ∷ medians ∷ predictions ∷ weights ∷ term18 ∷ []
