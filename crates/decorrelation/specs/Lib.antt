@@ -1,1 +1,2 @@
 pub mod PassBytes
+pub mod Lists

@@ -1,6 +1,15 @@
-// Implements document 01, "Passes": the term byte and the weight byte of a pass. Neither refuses.
+// Implements document 01, "Passes": the term byte and the weight byte, and decorrelation and analysis by a lent list of passes.
+//
+// The list stays lent: `run_list` walks it, takes each pass out, runs it over the buffer and stores it back. All tests and all
+// arithmetic stand in functions of plain values.
 ghost use mathlib.Core.Path.{_≡_};
+ghost use Prim.Native.Nat.{_<_};
+ghost use Rattle.answers.specs.Numbers.{outcomeNumber};
 ghost use Rattle.decorrelation.specs.PassBytes.{termOfByte, deltaOfByte, weightOfByte};
+ghost use Rattle.decorrelation.specs.Lists.{validPass, allValid, decorrelationNumber, analysisNumber, numberBy, acceptedBy, placeOf, chained, listed, decorrelation, analysis};
+use answers::Outcome;
+use answers::Refusal;
+pub use passes::DecorrPass;
 
 // What a term byte holds.
 pub struct TermDelta {
@@ -29,4 +38,134 @@ pub fn expand_weight_byte(byte: u8) -> i32
         let n = (256 - byte as u32) * 8;
         0 - n as i32
     }
+}
+
+// Whether the term of a pass is valid.
+pub fn valid_pass(p: DecorrPass) -> bool
+    ensures { λ r. ⌜ r ≡ validPass p ⌝ }
+{
+    passes::is_valid(passes::term_of(p.term))
+}
+
+// What decorrelation says of a list, by its passes and the buffer's elements.
+pub fn decorrelation_outcome(valid: bool, count: usize, elements: usize) -> Outcome
+    ensures { λ r. ⌜ outcomeNumber r ≡ decorrelationNumber valid count elements ⌝ }
+{
+    if 262144 < elements {
+        return Outcome::Refused(Refusal::TooLarge);
+    }
+    if 16 < count {
+        return Outcome::Refused(Refusal::TooManyPasses);
+    }
+    if valid {
+        Outcome::Accepted
+    } else {
+        Outcome::Refused(Refusal::InvalidTerm)
+    }
+}
+
+// What analysis says of a list: a test of its own.
+pub fn analysis_outcome(valid: bool, count: usize, elements: usize) -> Outcome
+    ensures { λ r. ⌜ outcomeNumber r ≡ analysisNumber valid count elements ⌝ }
+{
+    if 262144 < elements {
+        return Outcome::Refused(Refusal::TooLarge);
+    }
+    if 16 < count {
+        return Outcome::Refused(Refusal::TooManyPasses);
+    }
+    if valid {
+        Outcome::Accepted
+    } else {
+        Outcome::Refused(Refusal::InvalidTerm)
+    }
+}
+
+// What analysis, where `back` is set, or decorrelation says of a list.
+pub fn list_outcome(back: bool, valid: bool, count: usize, elements: usize) -> Outcome
+    ensures { λ r. ⌜ outcomeNumber r ≡ numberBy back valid count elements ⌝ }
+{
+    if back {
+        analysis_outcome(valid, count, elements)
+    } else {
+        decorrelation_outcome(valid, count, elements)
+    }
+}
+
+// Whether an outcome is acceptance.
+pub fn is_accepted(outcome: Outcome) -> bool
+    ensures { λ r. ⌜ r ≡ acceptedBy outcome ⌝ }
+{
+    match outcome {
+        Outcome::Accepted => true,
+        Outcome::Refused(_) => false,
+    }
+}
+
+// The pass that turn i of n works on.
+pub fn place(back: bool, n: usize, i: usize) -> usize
+    requires { ⌜ i < n ⌝ }
+    ensures { λ r. ⌜ r ≡ placeOf back n i ⌝ }
+{
+    if back { n - 1 - i } else { i }
+}
+
+// Whether all terms of a list are valid.
+pub fn all_valid(passes: &[DecorrPass]) -> bool
+    ensures { λ r. ⌜ r ≡ allValid (now (passes .entry)) ⌝ }
+{
+    let n = passes.len();
+    let mut i: usize = 0;
+    while i < n {
+        let p = passes[i];
+        if !valid_pass(p) {
+            return false;
+        }
+        i += 1;
+    }
+    true
+}
+
+// Runs every pass of a list over the buffer: analysis, the last one first, where `back` is set, else decorrelation, the first
+// one first. It refuses nothing.
+pub fn run_list(back: bool, passes: &mut [DecorrPass], buffer: &mut [i32])
+    ensures { λ _. ⌜ record { passes = now (passes .exit); buffer = now (buffer .exit) } ≡ chained back (now (passes .entry)) (now (buffer .entry)) ⌝ }
+{
+    let n = passes.len();
+    let mut i: usize = 0;
+    while i < n {
+        let j = place(back, n, i);
+        let p = passes[j];
+        let r = pass_runs::run_pass(back, p, buffer);
+        passes[j] = r;
+        i += 1;
+    }
+}
+
+// The same where the list is accepted: else nothing changes.
+pub fn run_checked(back: bool, passes: &mut [DecorrPass], buffer: &mut [i32]) -> Outcome
+    ensures { λ r. ⌜ record { refusal = outcomeNumber r; passes = now (passes .exit); buffer = now (buffer .exit) } ≡ listed back (now (passes .entry)) (now (buffer .entry)) ⌝ }
+{
+    let valid = all_valid(passes);
+    let outcome = list_outcome(back, valid, passes.len(), buffer.len());
+    if is_accepted(outcome) {
+        run_list(back, passes, buffer);
+    }
+    outcome
+}
+
+// Decorrelation: turns the residuals of the buffer into samples, each pass in turn, and leaves the passes' states. Refuses a
+// buffer of more than 262,144 elements (5), more than 16 passes (9) and an invalid term (7), and then changes nothing.
+pub fn decorrelate_stereo(passes: &mut [DecorrPass], buffer: &mut [i32]) -> Outcome
+    ensures { λ r. ⌜ record { refusal = outcomeNumber r; passes = now (passes .exit); buffer = now (buffer .exit) } ≡ decorrelation (now (passes .entry)) (now (buffer .entry)) ⌝ }
+{
+    run_checked(false, passes, buffer)
+}
+
+// Analysis: turns the samples of the buffer into residuals, the last pass first, and leaves the passes as decorrelation would.
+// Refuses as decorrelation does.
+pub fn recorrelate_stereo(passes: &mut [DecorrPass], buffer: &mut [i32]) -> Outcome
+    ensures { λ r. ⌜ record { refusal = outcomeNumber r; passes = now (passes .exit); buffer = now (buffer .exit) } ≡ analysis (now (passes .entry)) (now (buffer .entry)) ⌝ }
+{
+    run_checked(true, passes, buffer)
 }
