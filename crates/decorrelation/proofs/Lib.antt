@@ -5,3 +5,4 @@ pub mod Answers
 pub mod Calls
 pub mod CheckCalls
 pub mod CheckedCall
+pub mod Theorems

@@ -1,0 +1,93 @@
+-- What holds of the two entries together. A recording, or a residual list, is a list of 32-bit numbers (`Fit`); passes are well-made when
+-- every term is valid, whatever their weights, deltas and histories hold. Assumes nothing.
+use mathlib.Core.Path.{_≡_, refl, sym, ap, _∙_}
+use mathlib.Core.Bool.{true}
+use mathlib.Core.List.{List}
+use Prim.Native.Nat.{ℕ, zero, suc, _≤_}
+use borrow.Author.Tests.{le-ltb}
+use lib.IntN.{ℤ}
+use lib.ListN.{length}
+use Rattle.passes.specs.Run.{Chain, decorrelated, analysed}
+use Rattle.passes.specs.declared.DecorrPass.{DecorrPass}
+use Rattle.passes.proofs.RunInverse.{Fit, analysed-fit, analysed-length, decorrelated-fit, decorrelated-length, decorrelated-analysed, analysed-decorrelated}
+use Rattle.passes.proofs.Unique.{residuals-unique}
+use Rattle.passes.proofs.Bounds.{AllBounded, decorrelated-bounded, analysed-bounded}
+use Rattle.decorrelation.specs.Lists.{allValid, decorrelationNumber, analysisNumber, Answer, answerBy, decorrelation, analysis}
+
+-- what both entries accept: at most 16 well-made passes, and at most 262,144 elements
+pub record Accepted (ps : List DecorrPass) (l : List ℤ) : Type 0 where
+  pub well-made : allValid ps ≡ true
+  pub few : length ps ≤ 16
+  pub short : length l ≤ 262144
+
+-- an answer with nothing refused
+abbrev pub done : Chain → Answer
+done c = record { refusal = 0; passes = c .passes; buffer = c .buffer }
+
+pub decorrelation-accepts : (ps : List DecorrPass) (l : List ℤ) → Accepted ps l → decorrelation ps l ≡ done (decorrelated ps l)
+unfolding decorrelation decorrelationNumber
+decorrelation-accepts ps l h = rw (le-ltb 262144 (length l) (h .short), le-ltb 16 (length ps) (h .few), h .well-made)
+
+pub analysis-accepts : (ps : List DecorrPass) (l : List ℤ) → Accepted ps l → analysis ps l ≡ done (analysed ps l)
+unfolding analysis analysisNumber
+analysis-accepts ps l h = rw (le-ltb 262144 (length l) (h .short), le-ltb 16 (length ps) (h .few), h .well-made)
+
+module _ (ps : List DecorrPass) (l : List ℤ) (h : Accepted ps l) (fit : Fit l) where
+  after-analysis : Accepted ps (analysed ps l .buffer)
+  after-analysis = record { well-made = h .well-made; few = h .few; short = rw (analysed-length ps l) (h .short) }
+
+  after-decorrelation : Accepted ps (decorrelated ps l .buffer)
+  after-decorrelation = record { well-made = h .well-made; few = h .few; short = rw (decorrelated-length ps l) (h .short) }
+
+  -- analysis, then decorrelation, returns the recording, and leaves the passes that analysis left
+  pub decorrelation-analysis : decorrelation ps (analysis ps l .buffer) ≡ record { refusal = 0; passes = analysis ps l .passes; buffer = l }
+  decorrelation-analysis =
+      rw (analysis-accepts ps l h, decorrelation-accepts ps (analysed ps l .buffer) after-analysis) (ap done (decorrelated-analysed ps l fit))
+
+  -- decorrelation, then analysis, returns the residuals, and leaves the passes that decorrelation left
+  pub analysis-decorrelation : analysis ps (decorrelation ps l .buffer) ≡ record { refusal = 0; passes = decorrelation ps l .passes; buffer = l }
+  analysis-decorrelation =
+      rw (decorrelation-accepts ps l h, analysis-accepts ps (decorrelated ps l .buffer) after-decorrelation) (ap done (analysed-decorrelated ps l fit))
+
+unique-by : (n : ℕ) (ps : List DecorrPass) (r s : List ℤ) → Fit r → Fit s → answerBy n (decorrelated ps r) ps r .buffer ≡ answerBy n (decorrelated ps s) ps s .buffer → r ≡ s
+unique-by zero ps r s hr hs e = residuals-unique ps r s hr hs e
+unique-by (suc n) ps r s hr hs e = e
+
+-- two residual lists of one length that decorrelate to one recording are equal, for any list of passes
+pub decorrelation-unique : (ps : List DecorrPass) (r s : List ℤ) → length r ≡ length s → Fit r → Fit s → decorrelation ps r .buffer ≡ decorrelation ps s .buffer → r ≡ s
+unfolding decorrelation
+decorrelation-unique ps r s same hr hs e = unique-by (decorrelationNumber (allValid ps) (length ps) (length s)) ps r s hr hs (rw same at e)
+
+-- the residuals of a recording: a list of its length that decorrelates to it, and every such list is this one
+pub record OnlyResiduals (ps : List DecorrPass) (x r : List ℤ) : Type 0 where
+  pub fit : Fit r
+  pub same : length r ≡ length x
+  pub decorrelates : decorrelation ps r .buffer ≡ x
+  pub only : (s : List ℤ) → Fit s → length s ≡ length x → decorrelation ps s .buffer ≡ x → s ≡ r
+
+-- so exactly one exists, and analysis finds it
+pub analysis-finds : (ps : List DecorrPass) (x : List ℤ) → Accepted ps x → Fit x → OnlyResiduals ps x (analysis ps x .buffer)
+analysis-finds ps x h fit =
+    let found : analysis ps x ≡ done (analysed ps x) = analysis-accepts ps x h in
+    let back : decorrelation ps (analysis ps x .buffer) .buffer ≡ x = ap (λ (o : Answer). o .buffer) (decorrelation-analysis ps x h fit) in
+    let len : length (analysis ps x .buffer) ≡ length x = rw found (analysed-length ps x) in
+    let good : Fit (analysis ps x .buffer) = rw found (analysed-fit ps x fit) in
+    record {
+      fit = good;
+      same = len;
+      decorrelates = back;
+      only = λ s hs e d. decorrelation-unique ps s (analysis ps x .buffer) (e ∙ sym len) hs good (d ∙ sym back);
+    }
+
+bounded-by : (n : ℕ) (c : Chain) (ps : List DecorrPass) (l : List ℤ) → AllBounded ps → AllBounded (c .passes) → AllBounded (answerBy n c ps l .passes)
+bounded-by zero c ps l h k = k
+bounded-by (suc n) c ps l h k = h
+
+-- cross weights within 1024 of 0, with delta 0 to 7, stay there, through decorrelation and through analysis
+pub decorrelation-bounded : (ps : List DecorrPass) (l : List ℤ) → AllBounded ps → AllBounded (decorrelation ps l .passes)
+unfolding decorrelation
+decorrelation-bounded ps l h = bounded-by (decorrelationNumber (allValid ps) (length ps) (length l)) (decorrelated ps l) ps l h (decorrelated-bounded ps l h)
+
+pub analysis-bounded : (ps : List DecorrPass) (l : List ℤ) → AllBounded ps → AllBounded (analysis ps l .passes)
+unfolding analysis
+analysis-bounded ps l h = bounded-by (analysisNumber (allValid ps) (length ps) (length l)) (analysed ps l) ps l h (analysed-bounded ps l h)
