@@ -1,4 +1,7 @@
+pub mod Cases
 pub mod DecimalLaws
 pub mod LineLaws
 pub mod PlacedLaws
+pub mod ReadingLaws
 pub mod SignLaws
+pub mod TextLaws

@@ -6,10 +6,10 @@ use Prim.Native.Nat.{ℕ, zero, suc, _+_, _-_, _*_, _/_, _%_}
 use lib.Dec.{ltb, eqb}
 use lib.IntN.{ℤ, pos, negsuc, negℤ}
 
--- the digits of n, the most significant first, by at most k divisions by ten
+-- the digits of n, the most significant first, by at most k divisions by ten. The tenth part stands in a `let`, which is computed only where it is asked for
 unfoldable pub digits : ℕ → ℕ → List ℕ
 digits zero n = []
-digits (suc k) n = cond (ltb n 10) ((48 + n) ∷ []) (digits k (n / 10) ++ ((48 + n % 10) ∷ []))
+digits (suc k) n = let tens = digits k (n / 10) in cond (ltb n 10) ((48 + n) ∷ []) (tens ++ ((48 + n % 10) ∷ []))
 
 -- n in decimal; n + 1 divisions are always enough
 unfoldable pub decimal : ℕ → List ℕ

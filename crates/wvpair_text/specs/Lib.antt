@@ -1,3 +1,4 @@
 pub mod Decimal
 pub mod Lines
 pub mod Placed
+pub mod Text

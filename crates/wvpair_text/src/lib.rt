@@ -1,3 +1,109 @@
 // Implements document 01, "Proved cases" (C6, C7): what `wvpair` prints, as a function from its input bytes to its output bytes.
+// `decimal` lays numbers into a buffer, `lines` the lines of a reading; here an input is taken apart, read and printed.
+ghost use mathlib.Core.Path.{_≡_};
+ghost use Prim.Native.Nat.{_≤_};
+ghost use lib.IntN.{pos};
+ghost use lib.ListN.{length, replicate};
+ghost use Rattle.wvpair_text.specs.Placed.{Laid};
+ghost use Rattle.wvpair_text.specs.Text.{frameCount, printed, readingOf, wvpairText, largestText, TextIs};
+use crate::lines::put_end;
+use crate::lines::put_report;
+use answers::Outcome;
+use answers::Refusal;
+use answers::outcome_number;
+use samples::decode_packed_samples_stereo_from_entropy;
+
 mod decimal;
 mod lines;
+
+// 1,024 lines of at most 24 bytes, and an `end` line of at most 41.
+pub const LARGEST_TEXT: usize = 24617;
+
+// Whether the text was laid into the lent buffer, and how many bytes it has.
+pub struct TextAnswer {
+    pub outcome: Outcome,
+    pub length: usize,
+}
+
+fn wide(x: u8) -> usize
+    ensures { λ r. ⌜ (r ≡ x) × (r ≤ 255) ⌝ }
+{
+    x as usize
+}
+
+// The frame count of an input that has one.
+fn frame_count(input: &[u8]) -> usize
+    requires { ⌜ 14 ≤ length (now input) ⌝ }
+    ensures { λ r. ⌜ r ≡ frameCount (now (input .entry)) ⌝ }
+{
+    wide(input[12]) + 256 * wide(input[13])
+}
+
+// Room for the samples of the most frames, all 0.
+fn silence() -> [i32; 2048]
+    ensures { λ r. ⌜ r ≡ replicate 2048 (pos 0) ⌝ }
+{
+    [0; 2048]
+}
+
+// Reads an input that is within the limits, and lays what is printed of the reading.
+fn print_reading(input: &[u8], frames: usize, out: &mut [u8]) -> usize
+    requires { ⌜ 14 ≤ length (now input) ⌝ }
+    requires { ⌜ (frames ≡ frameCount (now input)) × (frames ≤ 1024) ⌝ }
+    requires { ⌜ largestText ≤ length (now out) ⌝ }
+    ensures text { λ r. ⌜ Laid (now (out .entry)) (now (out .exit)) 0 r (printed (readingOf (now (input .entry)))) ⌝ }
+    ensures short { λ r. ⌜ r ≤ largestText ⌝ }
+{
+    let mut samples = silence();
+    let n = 2 * frames;
+    let answer = decode_packed_samples_stereo_from_entropy(
+        &input[..12],
+        &input[14..],
+        frames,
+        &mut samples[..n],
+    );
+    let outcome = answer.outcome;
+    let written = answer.written;
+    put_report(
+        out,
+        &samples[..written],
+        outcome_number(outcome),
+        answer.bits,
+    )
+}
+
+// Lays what is printed of any input into a buffer that holds the largest text.
+fn print_input(input: &[u8], out: &mut [u8]) -> usize
+    requires { ⌜ largestText ≤ length (now out) ⌝ }
+    ensures text { λ r. ⌜ Laid (now (out .entry)) (now (out .exit)) 0 r (wvpairText (now (input .entry))) ⌝ }
+    ensures short { λ r. ⌜ r ≤ largestText ⌝ }
+{
+    if input.len() < 14 {
+        return put_end(out, 0, 1, 0);
+    }
+    let frames = frame_count(input);
+    if frames > 1024 {
+        return put_end(out, 0, 5, 0);
+    }
+    if input.len() - 14 > 28672 {
+        return put_end(out, 0, 5, 0);
+    }
+    print_reading(input, frames, out)
+}
+
+// Lays what `wvpair` prints of `input` at the start of `out`, and answers how many bytes that is. It refuses only a buffer that is too short
+// for the largest text: that one keeps its bytes.
+pub fn wvpair_text(input: &[u8], out: &mut [u8]) -> TextAnswer
+    ensures { λ r. ⌜ TextIs (now (input .entry)) (now (out .entry)) (now (out .exit)) r ⌝ }
+{
+    if out.len() < LARGEST_TEXT {
+        return TextAnswer {
+            outcome: Outcome::Refused(Refusal::OutputTooShort),
+            length: 0,
+        };
+    }
+    TextAnswer {
+        outcome: Outcome::Accepted,
+        length: print_input(input, out),
+    }
+}

@@ -1,0 +1,35 @@
+-- What is printed of a reading whose samples stand first in a longer list.
+-- Assumes nothing.
+use mathlib.Core.Path.{_≡_, refl, ap}
+use mathlib.Core.List.{List, _∷_, _++_}
+use Prim.Native.Nat.{ℕ, zero, suc, _*_, _≤_}
+use native.Mathlib.Omega.{arith}
+use lib.IntN.{ℤ, pos}
+use lib.ListN.{length, take, replicate, length-replicate}
+use lib.Seq.{take-append-le}
+use Rattle.answers.specs.Numbers.{outcomeNumber}
+use Rattle.samples.specs.View.{ReadTold, readToldOf, readTold}
+use Rattle.samples.specs.declared.ReadAnswer.{ReadAnswer}
+use Rattle.wvpair_text.specs.Lines.{report}
+use Rattle.wvpair_text.specs.Text.{frameCount, payloadOf, printed, readingOf}
+
+-- the first of many zeros are fewer zeros
+pub take-replicate : (n m : ℕ) (v : ℤ) → n ≤ m → take n (replicate m v) ≡ replicate n v
+take-replicate zero m v h = refl
+take-replicate (suc n) zero v h = absurd (omega arith)
+take-replicate (suc n) (suc m) v h = ap (λ (l : List ℤ). v ∷ l) (take-replicate n m v (omega arith))
+
+-- no more samples are written than the lent list has
+pub written-within : (entropy payload : List ℕ) (frames : ℕ) (list : List ℤ) → readTold entropy payload frames list .written ≤ length list
+unfolding readTold
+written-within entropy payload frames list = omega arith
+
+pub reading-within : (input : List ℕ) → readingOf input .written ≤ 2 * frameCount input
+reading-within input =
+    omega (arith, written-within (take 12 input) (payloadOf input) (frameCount input) (replicate (2 * frameCount input) (pos 0)), length-replicate (2 * frameCount input) (pos 0))
+
+-- the samples that an answer tells of, and its numbers, are those of the reading
+pub printed-told : (told : ReadTold) (r : ReadAnswer) (list rest : List ℤ) (number : ℕ)
+    → readToldOf r list ≡ told → r .written ≤ length list → number ≡ outcomeNumber (r .outcome)
+    → report (take (r .written) (list ++ rest)) number (r .bits) ≡ printed told
+printed-told told r list rest number e h n = rw (take-append-le (r .written) list rest h, n) (ap printed e)

@@ -1,0 +1,49 @@
+-- What is printed of an input, by the three tests on it.
+-- Assumes nothing.
+use mathlib.Core.Path.{_≡_, refl}
+use mathlib.Core.Bool.{Bool, true, false, _||_}
+use mathlib.Core.List.{List}
+use Prim.Native.Nat.{ℕ, _-_, _≤_, _<_}
+use native.Mathlib.Omega.{arith}
+use borrow.Author.Tests.{lt-ltb, le-ltb}
+use lib.Dec.{ltb}
+use lib.ListN.{length, length-drop}
+use Rattle.wvpair_text.specs.Lines.{endLine}
+use Rattle.wvpair_text.specs.Text.{frameCount, payloadOf, overLimits, printed, readingOf, wvpairText}
+
+-- under 14 bytes
+pub text-under : (input : List ℕ) → length input < 14 → wvpairText input ≡ endLine 1 0
+unfolding wvpairText
+text-under input h = rw (lt-ltb (length input) 14 h)
+
+-- over a limit, whichever
+over-frames : (input : List ℕ) → 1024 < frameCount input → overLimits input ≡ true
+unfolding overLimits
+over-frames input h = rw (lt-ltb 1024 (frameCount input) h)
+
+over-payload : (input : List ℕ) → 28672 < length (payloadOf input) → overLimits input ≡ true
+unfolding overLimits
+over-payload input h = go (ltb 1024 (frameCount input))
+  where
+    go : (t : Bool) → t || ltb 28672 (length (payloadOf input)) ≡ true
+    go true = refl
+    go false = lt-ltb 28672 (length (payloadOf input)) h
+
+text-over : (input : List ℕ) → 14 ≤ length input → overLimits input ≡ true → wvpairText input ≡ endLine 5 0
+unfolding wvpairText
+text-over input h e = rw (le-ltb (length input) 14 h, e)
+
+-- more than 1,024 frames
+pub text-frames : (input : List ℕ) → 14 ≤ length input → 1024 < frameCount input → wvpairText input ≡ endLine 5 0
+text-frames input h l = text-over input h (over-frames input l)
+
+-- more than 28,672 payload bytes
+pub text-payload : (input : List ℕ) → 14 ≤ length input → 28672 < length input - 14 → wvpairText input ≡ endLine 5 0
+text-payload input h l = text-over input h (over-payload input (omega (arith, length-drop 14 input)))
+
+-- within the limits
+pub text-reading : (input : List ℕ) → 14 ≤ length input → frameCount input ≤ 1024 → length input - 14 ≤ 28672 → wvpairText input ≡ printed (readingOf input)
+unfolding wvpairText overLimits
+text-reading input h l m =
+    let k : length (payloadOf input) ≤ 28672 = omega (arith, length-drop 14 input) in
+    rw (le-ltb (length input) 14 h, le-ltb 1024 (frameCount input) l, le-ltb 28672 (length (payloadOf input)) k)
