@@ -2,7 +2,7 @@
 -- Assumes nothing.
 use mathlib.Core.Path.{_≡_, refl, sym, ap, _∙_}
 use mathlib.Core.List.{List, [], _∷_, _++_, append-assoc, append-nil}
-use Prim.Native.Nat.{ℕ, zero, suc, _+_, _*_, _≤_, _<_}
+use Prim.Native.Nat.{ℕ, suc, _+_, _*_, _≤_, _<_}
 use native.Mathlib.Numerals.{add-one}
 use native.Mathlib.Omega.{arith}
 use lib.IntN.{ℤ, pos}
@@ -40,7 +40,7 @@ end-short refusal bits h k =
       length-append (decimal bits) (10 ∷ []),
     )
 
--- the lines of two samples and more: theirs, and those behind it
+-- the lines of two samples and more: theirs, and those behind them
 lines-more : (left right : ℤ) (rest : List ℤ) → frameLines (left ∷ right ∷ rest) ≡ frameLine left right ++ frameLines rest
 unfolding frameLines
 lines-more left right rest = refl

@@ -1,12 +1,12 @@
 -- Texts laid one behind the other are one text.
 -- Assumes nothing.
-use mathlib.Core.Path.{_≡_, refl, sym, ap, _∙_}
+use mathlib.Core.Path.{_≡_, sym, ap, _∙_}
 use mathlib.Core.List.{List, [], _∷_, _++_, append-assoc}
-use Prim.Native.Nat.{ℕ, zero, suc, _+_, _≤_, _<_}
+use Prim.Native.Nat.{ℕ, _+_, _≤_, _<_}
 use native.Mathlib.Nat.{add-zero}
 use native.Mathlib.Omega.{arith}
 use native.Mathlib.Numerals.{add-one}
-use lib.ListN.{length, take, drop, set, length-append, length-drop, take-append-drop}
+use lib.ListN.{length, take, drop, set, length-append, take-append-drop}
 use lib.Seq.{take-at, drop-at, drop-drop, length-take-le, set-split}
 use Rattle.wvpair_text.specs.Placed.{placed, Laid}
 
@@ -19,13 +19,6 @@ placed-byte buf p c h = rw (set-split buf p c h, add-one)
 pub placed-none : (buf : List ℕ) (p : ℕ) → placed buf p [] ≡ buf
 unfolding placed
 placed-none buf p = rw add-zero (take-append-drop p buf)
-
--- a text inside a buffer leaves its length
-pub length-placed : (buf : List ℕ) (p : ℕ) (t : List ℕ) → p + length t ≤ length buf → length (placed buf p t) ≡ length buf
-unfolding placed
-length-placed buf p t h =
-    let l : length (take p buf) ≡ p = length-take-le p buf (omega arith) in
-    rw (length-append, length-append t (drop (p + length t) buf), length-drop, l) (omega arith)
 
 -- a text, and a second one behind it, are both as one
 pub placed-placed : (buf : List ℕ) (p : ℕ) (t u : List ℕ) → p ≤ length buf

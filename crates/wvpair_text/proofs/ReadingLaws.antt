@@ -24,6 +24,7 @@ pub written-within : (entropy payload : List ℕ) (frames : ℕ) (list : List �
 unfolding readTold
 written-within entropy payload frames list = omega arith
 
+-- and so of the samples of an input: two a frame at most
 pub reading-within : (input : List ℕ) → readingOf input .written ≤ 2 * frameCount input
 reading-within input =
     omega (arith, written-within (take 12 input) (payloadOf input) (frameCount input) (replicate (2 * frameCount input) (pos 0)), length-replicate (2 * frameCount input) (pos 0))

@@ -17,6 +17,7 @@ pub flipped : (v : ℤ) → ltZ v (pos 0) ≡ true → negsuc 0 -ℤ v ≡ pos (
 flipped (pos n) e = absurd (omega (arith, ltb-true n 0 e))
 flipped (negsuc n) e = rw (le-ltb (suc n) 1 (omega arith)) (ap pos (omega arith))
 
+-- and that is one short of the distance
 pub flipped-size : (v : ℤ) → ltZ v (pos 0) ≡ true → mag v + 1 ≡ natAbs v
 flipped-size (pos n) e = absurd (omega (arith, ltb-true n 0 e))
 flipped-size (negsuc n) e = omega arith
@@ -27,11 +28,12 @@ unfolding signedDecimal
 negative-text (pos n) e = absurd (omega (arith, ltb-true n 0 e))
 negative-text (negsuc n) e = refl
 
--- any other is its distance from 0, and prints as that
+-- any other number is its distance from 0
 pub unsigned : (v : ℤ) → ltZ v (pos 0) ≡ false → v ≡ pos (mag v)
 unsigned (pos n) e = refl
 unsigned (negsuc n) e = absurd (let z : _≡_ {A = ℕ} 0 1 = cc in omega arith)
 
+-- and prints as that
 pub unsigned-text : (v : ℤ) → ltZ v (pos 0) ≡ false → signedDecimal v ≡ decimal (natAbs v)
 unfolding signedDecimal
 unsigned-text (pos n) e = refl

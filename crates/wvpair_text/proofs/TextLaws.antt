@@ -3,7 +3,7 @@
 use mathlib.Core.Path.{_≡_, refl}
 use mathlib.Core.Bool.{Bool, true, false, _||_}
 use mathlib.Core.List.{List}
-use Prim.Native.Nat.{ℕ, _-_, _≤_, _<_}
+use Prim.Native.Nat.{ℕ, _≤_, _<_}
 use native.Mathlib.Omega.{arith}
 use borrow.Author.Tests.{lt-ltb, le-ltb}
 use lib.Dec.{ltb}
@@ -16,11 +16,12 @@ pub text-under : (input : List ℕ) → length input < 14 → wvpairText input �
 unfolding wvpairText
 text-under input h = rw (lt-ltb (length input) 14 h)
 
--- over a limit, whichever
+-- too many frames are over the limits
 over-frames : (input : List ℕ) → 1024 < frameCount input → overLimits input ≡ true
 unfolding overLimits
 over-frames input h = rw (lt-ltb 1024 (frameCount input) h)
 
+-- too many payload bytes are, however many frames
 over-payload : (input : List ℕ) → 28672 < length (payloadOf input) → overLimits input ≡ true
 unfolding overLimits
 over-payload input h = go (ltb 1024 (frameCount input))
@@ -29,6 +30,7 @@ over-payload input h = go (ltb 1024 (frameCount input))
     go true = refl
     go false = lt-ltb 28672 (length (payloadOf input)) h
 
+-- over the limits
 text-over : (input : List ℕ) → 14 ≤ length input → overLimits input ≡ true → wvpairText input ≡ endLine 5 0
 unfolding wvpairText
 text-over input h e = rw (le-ltb (length input) 14 h, e)
@@ -38,11 +40,11 @@ pub text-frames : (input : List ℕ) → 14 ≤ length input → 1024 < frameCou
 text-frames input h l = text-over input h (over-frames input l)
 
 -- more than 28,672 payload bytes
-pub text-payload : (input : List ℕ) → 14 ≤ length input → 28672 < length input - 14 → wvpairText input ≡ endLine 5 0
+pub text-payload : (input : List ℕ) → 14 ≤ length input → 28686 < length input → wvpairText input ≡ endLine 5 0
 text-payload input h l = text-over input h (over-payload input (omega (arith, length-drop 14 input)))
 
 -- within the limits
-pub text-reading : (input : List ℕ) → 14 ≤ length input → frameCount input ≤ 1024 → length input - 14 ≤ 28672 → wvpairText input ≡ printed (readingOf input)
+pub text-reading : (input : List ℕ) → 14 ≤ length input → frameCount input ≤ 1024 → length input ≤ 28686 → wvpairText input ≡ printed (readingOf input)
 unfolding wvpairText overLimits
 text-reading input h l m =
     let k : length (payloadOf input) ≤ 28672 = omega (arith, length-drop 14 input) in

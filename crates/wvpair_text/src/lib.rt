@@ -16,7 +16,10 @@ use samples::decode_packed_samples_stereo_from_entropy;
 mod decimal;
 mod lines;
 
-// 1,024 lines of at most 24 bytes, and an `end` line of at most 41.
+// The longest input that is read: 12 entropy bytes, 2 of the frame count and 28,672 of payload.
+pub const LARGEST_INPUT: usize = 28686;
+
+// The longest text that is printed: 1,024 lines of at most 24 bytes, and an `end` line of at most 41.
 pub const LARGEST_TEXT: usize = 24617;
 
 // Whether the text was laid into the lent buffer, and how many bytes it has.
@@ -25,6 +28,7 @@ pub struct TextAnswer {
     pub length: usize,
 }
 
+// A byte as a count.
 fn wide(x: u8) -> usize
     ensures { λ r. ⌜ (r ≡ x) × (r ≤ 255) ⌝ }
 {
@@ -85,7 +89,7 @@ fn print_input(input: &[u8], out: &mut [u8]) -> usize
     if frames > 1024 {
         return put_end(out, 0, 5, 0);
     }
-    if input.len() - 14 > 28672 {
+    if input.len() > LARGEST_INPUT {
         return put_end(out, 0, 5, 0);
     }
     print_reading(input, frames, out)

@@ -1,6 +1,5 @@
 // Implements document 01, "Proved cases" (C6), the lines: one for each whole frame, and the `end` line.
 // Each writer goes on where the one before it ended, and answers where it ended itself.
-ghost use mathlib.Core.Path.{_≡_};
 ghost use Prim.Native.Nat.{_+_, _*_, _≤_};
 ghost use lib.ListN.{length};
 ghost use Rattle.wvpair_text.specs.Lines.{frameLine, frameLines, endLine, report};

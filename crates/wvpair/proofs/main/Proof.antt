@@ -5,49 +5,34 @@ use lib.ListN.{length-take}
 use borrow.Author.Needs.{needs}
 use Rattle.wvpair.proofs.main.Statement.{statement}
 use Rattle.wvpair.proofs.main.Tie as tie
-use Rattle.wvpair.proofs.main.Reads as reads
-use Rattle.wvpair.proofs.main.Lts as lts
-use Rattle.io.proofs.read_full.Reads as read-full-reads
-use Rattle.io.proofs.write_all.Reads as write-all-reads
-use Rattle.wvpair_text.proofs.wvpair_text.Reads as wvpair-text-reads
 
--- src/main.rt:9:41
 slice-aggregate-read-full : tie.Need-slice-aggregate-read-full
 slice-aggregate-read-full c = search needs
 
--- src/main.rt:9:9
 read-full-requires : tie.Need-read-full-requires
 read-full-requires c κs = search needs
 
--- src/main.rt:11:28
 array-share-prefix-input : tie.Need-array-share-prefix-input
 array-share-prefix-input c = search needs
 
--- src/main.rt:11:28
 slice-aggregate-wvpair-text : tie.Need-slice-aggregate-wvpair-text
 slice-aggregate-wvpair-text c = search needs
 
--- src/main.rt:11:41
 slice-aggregate-wvpair-text-2 : tie.Need-slice-aggregate-wvpair-text-2
 slice-aggregate-wvpair-text-2 c = search needs
 
--- src/main.rt:11:9
 wvpair-text-requires : tie.Need-wvpair-text-requires
 wvpair-text-requires c κs = search needs
 
--- src/main.rt:13:34
 array-share-prefix-out : tie.Need-array-share-prefix-out
 array-share-prefix-out c = search needs
 
--- src/main.rt:13:34
 slice-aggregate-write-all : tie.Need-slice-aggregate-write-all
 slice-aggregate-write-all c = simp length-take (omega arith)
 
--- src/main.rt:13:5
 write-all-requires : tie.Need-write-all-requires
 write-all-requires c κs = search needs
 
--- src/main.rt:7:1
 returns : tie.Need-returns
 returns c = search needs
 

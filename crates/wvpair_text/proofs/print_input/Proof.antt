@@ -28,9 +28,6 @@ same-length-2 c = search needs
 returns-2 : tie.Need-returns-2
 returns-2 c = (rw (text-frames (now (c .before .before .before .before .before .before .before .before .before .args .input)) (omega arith) (omega arith)) (c .before .before .put-end2 .ensures .0), search needs)
 
-sub-if3 : tie.Need-sub-if3
-sub-if3 c = search needs
-
 put-end-requires-3 : tie.Need-put-end-requires-3
 put-end-requires-3 c κs = search needs
 
@@ -60,7 +57,6 @@ print-input-spec =
     put-end-requires-2
     same-length-2
     returns-2
-    sub-if3
     put-end-requires-3
     same-length-3
     returns-3

@@ -1,15 +1,15 @@
 -- The reading's samples stand first in the local list, whose first zeros are lent.
 -- Assumes nothing.
-use mathlib.Core.Path.{_≡_, refl, sym, ap, _∙_}
+use mathlib.Core.Path.{_≡_, sym, ap, _∙_}
 use mathlib.Core.List.{List}
-use Prim.Native.Nat.{ℕ, _+_, _-_, _*_, _≤_}
+use Prim.Native.Nat.{ℕ, _-_, _*_, _≤_}
 use native.Mathlib.Omega.{arith}
 use denote.Ref.{now}
 use lib.IntN.{ℤ, pos}
 use lib.ListN.{length, take, drop, replicate, length-take, length-drop, length-append}
 use lib.Seq.{length-take-le, take-all}
 use Rattle.samples.specs.View.{ReadTold, readToldOf}
-use Rattle.wvpair_text.specs.Text.{printed, readingOf}
+use Rattle.wvpair_text.specs.Text.{readingOf}
 use Rattle.wvpair_text.proofs.ReadingLaws.{take-replicate, reading-within, printed-told}
 use borrow.Author.Needs.{needs}
 use Rattle.wvpair_text.proofs.print_reading.Statement.{statement}
