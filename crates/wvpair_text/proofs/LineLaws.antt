@@ -28,17 +28,15 @@ pub end-laid : {a b c d e f : List ℕ} {at p q r s t : ℕ} (refusal bits : ℕ
 unfolding endLine
 end-laid refusal bits h v w x y z = simp append-assoc at (laid-laid h (laid-laid h (laid-laid h (laid-laid h v w) x) y) z)
 
--- an `end` line of a 32-bit refusal and a 64-bit number of bits is short
-pub end-short : (refusal bits : ℕ) → refusal < 4294967296 → bits < 18446744073709551616 → length (endLine refusal bits) ≤ 41
+-- the `end` line is 11 bytes and its two numbers
+pub end-length : (refusal bits : ℕ) → length (endLine refusal bits) ≡ 11 + length (decimal refusal) + length (decimal bits)
 unfolding endLine
-end-short refusal bits h k =
-    omega (
-      arith,
-      decimal-short 9 refusal (omega arith),
-      decimal-short 19 bits (omega arith),
-      length-append (decimal refusal) (bitsWord ++ (decimal bits ++ (10 ∷ []))),
-      length-append (decimal bits) (10 ∷ []),
-    )
+end-length refusal bits =
+    omega (arith, length-append (decimal refusal) (bitsWord ++ (decimal bits ++ (10 ∷ []))), length-append (decimal bits) (10 ∷ []))
+
+-- with a refusal of one digit and bits of six it is at most 18 bytes
+pub end-short : (refusal bits : ℕ) → refusal < 10 → bits < 1000000 → length (endLine refusal bits) ≤ 18
+end-short refusal bits h k = omega (arith, end-length refusal bits, decimal-short 0 refusal h, decimal-short 5 bits (omega arith))
 
 -- the lines of two samples and more: theirs, and those behind them
 lines-more : (left right : ℤ) (rest : List ℤ) → frameLines (left ∷ right ∷ rest) ≡ frameLine left right ++ frameLines rest

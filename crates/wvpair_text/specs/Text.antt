@@ -37,9 +37,9 @@ printed told = report (take (told .written) (told .list)) (told .refusal) (told 
 unfoldable pub wvpairText : List ℕ → List ℕ
 wvpairText input = cond (ltb (length input) 14) (endLine 1 0) (cond (overLimits input) (endLine 5 0) (printed (readingOf input)))
 
--- no text is longer: 1,024 lines of at most 24 bytes, and an `end` line of at most 41
+-- no text is longer: 1,024 lines of at most 24 bytes, and an `end` line of at most 18
 abbrev pub largestText : ℕ
-largestText = 24617
+largestText = 24594
 
 -- a buffer shorter than that is refused with 11 and keeps its bytes; any other holds the text first, and behind it what it held
 pub record TextIs (input before after : List ℕ) (r : TextAnswer) : Type 0 where

@@ -19,8 +19,8 @@ mod lines;
 // The longest input that is read: 12 entropy bytes, 2 of the frame count and 28,672 of payload.
 pub const LARGEST_INPUT: usize = 28686;
 
-// The longest text that is printed: 1,024 lines of at most 24 bytes, and an `end` line of at most 41.
-pub const LARGEST_TEXT: usize = 24617;
+// The longest text that is printed: 1,024 lines of at most 24 bytes, and an `end` line of at most 18.
+pub const LARGEST_TEXT: usize = 24594;
 
 // Whether the text was laid into the lent buffer, and how many bytes it has.
 pub struct TextAnswer {
@@ -52,11 +52,10 @@ fn silence() -> [i32; 2048]
 
 // Reads an input that is within the limits, and lays what is printed of the reading.
 fn print_reading(input: &[u8], frames: usize, out: &mut [u8]) -> usize
-    requires { ⌜ 14 ≤ length (now input) ⌝ }
+    requires { ⌜ (14 ≤ length (now input)) × (length (now input) ≤ 28686) ⌝ }
     requires { ⌜ (frames ≡ frameCount (now input)) × (frames ≤ 1024) ⌝ }
     requires { ⌜ largestText ≤ length (now out) ⌝ }
-    ensures text { λ r. ⌜ Laid (now (out .entry)) (now (out .exit)) 0 r (printed (readingOf (now (input .entry)))) ⌝ }
-    ensures short { λ r. ⌜ r ≤ largestText ⌝ }
+    ensures { λ r. ⌜ Laid (now (out .entry)) (now (out .exit)) 0 r (printed (readingOf (now (input .entry)))) ⌝ }
 {
     let mut samples = silence();
     let n = 2 * frames;
@@ -79,8 +78,7 @@ fn print_reading(input: &[u8], frames: usize, out: &mut [u8]) -> usize
 // Lays what is printed of any input into a buffer that holds the largest text.
 fn print_input(input: &[u8], out: &mut [u8]) -> usize
     requires { ⌜ largestText ≤ length (now out) ⌝ }
-    ensures text { λ r. ⌜ Laid (now (out .entry)) (now (out .exit)) 0 r (wvpairText (now (input .entry))) ⌝ }
-    ensures short { λ r. ⌜ r ≤ largestText ⌝ }
+    ensures { λ r. ⌜ Laid (now (out .entry)) (now (out .exit)) 0 r (wvpairText (now (input .entry))) ⌝ }
 {
     if input.len() < 14 {
         return put_end(out, 0, 1, 0);

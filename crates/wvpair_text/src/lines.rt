@@ -49,11 +49,10 @@ fn put_lines(out: &mut [u8], at: usize, samples: &[i32]) -> usize
     place
 }
 
-// Lays the `end` line: at most 41 bytes, as a refusal takes at most 10 and a number of bits at most 20.
+// Lays the `end` line.
 pub(crate) fn put_end(out: &mut [u8], at: usize, refusal: u32, bits: usize) -> usize
-    requires { ⌜ at + 41 ≤ length (now out) ⌝ }
-    ensures text { λ r. ⌜ Laid (now (out .entry)) (now (out .exit)) at r (endLine refusal bits) ⌝ }
-    ensures short { λ r. ⌜ r ≤ at + 41 ⌝ }
+    requires { ⌜ at + length (endLine refusal bits) ≤ length (now out) ⌝ }
+    ensures { λ r. ⌜ Laid (now (out .entry)) (now (out .exit)) at r (endLine refusal bits) ⌝ }
 {
     let first = put_text(out, at, b"end ");
     let word = put_decimal(out, first, refusal as u64);
@@ -64,9 +63,8 @@ pub(crate) fn put_end(out: &mut [u8], at: usize, refusal: u32, bits: usize) -> u
 
 // Lays what is printed of a reading at the start of `out`.
 pub(crate) fn put_report(out: &mut [u8], samples: &[i32], refusal: u32, bits: usize) -> usize
-    requires { ⌜ 12 * length (now samples) + 41 ≤ length (now out) ⌝ }
-    ensures text { λ r. ⌜ Laid (now (out .entry)) (now (out .exit)) 0 r (report (now (samples .entry)) refusal bits) ⌝ }
-    ensures short { λ r. ⌜ r ≤ 12 * length (now (samples .entry)) + 41 ⌝ }
+    requires { ⌜ 12 * length (now samples) + length (endLine refusal bits) ≤ length (now out) ⌝ }
+    ensures { λ r. ⌜ Laid (now (out .entry)) (now (out .exit)) 0 r (report (now (samples .entry)) refusal bits) ⌝ }
 {
     let last = put_lines(out, 0, samples);
     put_end(out, last, refusal, bits)

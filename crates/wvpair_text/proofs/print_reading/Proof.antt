@@ -2,15 +2,19 @@
 -- Assumes nothing.
 use mathlib.Core.Path.{_≡_, sym, ap, _∙_}
 use mathlib.Core.List.{List}
-use Prim.Native.Nat.{ℕ, _-_, _*_, _≤_}
+use Prim.Native.Nat.{ℕ, _-_, _*_, _≤_, _<_}
 use native.Mathlib.Omega.{arith}
 use denote.Ref.{now}
 use lib.IntN.{ℤ, pos}
 use lib.ListN.{length, take, drop, replicate, length-take, length-drop, length-append}
 use lib.Seq.{length-take-le, take-all}
+use Rattle.answers.specs.Numbers.{outcomeNumber}
 use Rattle.samples.specs.View.{ReadTold, readToldOf}
+use Rattle.samples.specs.declared.ReadAnswer.{ReadAnswer}
+use Rattle.wvpair_text.specs.Lines.{endLine}
 use Rattle.wvpair_text.specs.Text.{readingOf}
-use Rattle.wvpair_text.proofs.ReadingLaws.{take-replicate, reading-within, printed-told}
+use Rattle.wvpair_text.proofs.LineLaws.{end-short}
+use Rattle.wvpair_text.proofs.ReadingLaws.{take-replicate, reading-small, printed-told}
 use borrow.Author.Needs.{needs}
 use Rattle.wvpair_text.proofs.print_reading.Statement.{statement}
 use Rattle.wvpair_text.proofs.print_reading.Tie as tie
@@ -58,19 +62,36 @@ known k =
     let rest : take (length input - 14) (drop 14 input) ≡ drop 14 input = take-all (length input - 14) (drop 14 input) (omega (arith, length-drop 14 input)) in
     rw (zeros, rest, s .pre .1 .0 .0) at (k .decode-packed-samples-stereo-from-entropy .ensures)
 
--- no more samples are written than are lent, and those are at most 2,048
-record Room (written frames : ℕ) (list : List ℤ) : Type 0 where
-  within : written ≤ length list
-  lent : length list ≡ 2 * frames
-  most : frames ≤ 1024
+-- what was read is small
+record Room (r : ReadAnswer) (list : List ℤ) : Type 0 where
+  within : r .written ≤ length list
+  lent : length list ≤ 2048
+  refusal : outcomeNumber (r .outcome) < 10
+  bits : r .bits < 1000000
 
-room : (k : tie.After-decode-packed-samples-stereo-from-entropy) → Room (k .decode-packed-samples-stereo-from-entropy .result .written) (k .before .before .before .before .before .before .before .args .frames) (k .decode-packed-samples-stereo-from-entropy .last .1 .1 .1 .0)
+room : (k : tie.After-decode-packed-samples-stereo-from-entropy) → Room (k .decode-packed-samples-stereo-from-entropy .result) (k .decode-packed-samples-stereo-from-entropy .last .1 .1 .1 .0)
 room k =
     let s = k .before .before .before .before .before .before .before in
+    let r = k .decode-packed-samples-stereo-from-entropy .result in
+    let input = now (s .args .input) in
     let n = 2 * s .args .frames in
     let l : length (k .decode-packed-samples-stereo-from-entropy .last .1 .1 .1 .0) ≡ n = k .decode-packed-samples-stereo-from-entropy .kept .1 .1 .1 .0 ∙ length-take-le n (k .before .before .before .before .silence .result) (omega (arith, ap length (k .before .before .before .before .silence .ensures))) in
-    let w : k .decode-packed-samples-stereo-from-entropy .result .written ≡ readingOf (now (s .args .input)) .written = ap (λ (t : ReadTold). t .written) (known k) in
-    record { within = omega (arith, reading-within (now (s .args .input)), s .pre .1 .0 .0); lent = l; most = s .pre .1 .0 .1 }
+    let e = reading-small input in
+    let w : r .written ≡ readingOf input .written = ap (λ (t : ReadTold). t .written) (known k) in
+    let c : outcomeNumber (r .outcome) ≡ readingOf input .refusal = ap (λ (t : ReadTold). t .refusal) (known k) in
+    let b : r .bits ≡ readingOf input .bits = ap (λ (t : ReadTold). t .bits) (known k) in
+    record {
+      within = omega (arith, e .written, s .pre .1 .0 .0);
+      lent = omega (arith, s .pre .1 .0 .1);
+      refusal = omega (arith, e .refusal);
+      bits = omega (arith, e .bits, length-drop 14 input, s .pre .0 .1);
+    }
+
+-- the `end` line of what was read is short
+end : (c : tie.After-outcome-number) → length (endLine (c .outcome-number .result) (c .before .before .before .before .decode-packed-samples-stereo-from-entropy .result .bits)) ≤ 18
+end c =
+    let r = room (c .before .before .before .before) in
+    end-short (c .outcome-number .result) (c .before .before .before .before .decode-packed-samples-stereo-from-entropy .result .bits) (omega (arith, c .outcome-number .ensures, r .refusal)) (r .bits)
 
 array-share-prefix-samples : tie.Need-array-share-prefix-samples
 array-share-prefix-samples c = let r = room (c .before .before) in simp length-append (omega arith)
@@ -82,7 +103,9 @@ outcome-number-requires : tie.Need-outcome-number-requires
 outcome-number-requires c κs = search needs
 
 put-report-requires : tie.Need-put-report-requires
-put-report-requires c κs = let r = room (c .before .before .before .before) in simp (length-take, length-append) (omega (arith, c .before .before .before .before .before .before .before .before .before .before .before .pre .1 .1))
+put-report-requires c κs =
+    let r = room (c .before .before .before .before) in
+    simp (length-take, length-append) (omega (arith, c .before .before .before .before .before .before .before .before .before .before .before .pre .1 .1, r .within, r .lent, end c))
 
 same-length : tie.Need-same-length
 same-length c = search needs
@@ -91,10 +114,8 @@ returns : tie.Need-returns
 returns c =
     let k = c .before .before .before .before .before .before .before in
     let r = room k in
-    let p = c .before .before .put-report .ensures in (
-      rw (printed-told (readingOf (now (c .before .before .before .before .before .before .before .before .before .before .before .before .before .before .args .input))) (k .decode-packed-samples-stereo-from-entropy .result) (k .decode-packed-samples-stereo-from-entropy .last .1 .1 .1 .0) _ _ (known k) (r .within) (c .before .before .before .outcome-number .ensures)) at (p .0),
-      omega (arith, simp length-take at (p .1)),
-    )
+    let input = now (c .before .before .before .before .before .before .before .before .before .before .before .before .before .before .args .input) in
+    rw (printed-told (readingOf input) (k .decode-packed-samples-stereo-from-entropy .result) (k .decode-packed-samples-stereo-from-entropy .last .1 .1 .1 .0) _ _ (known k) (r .within) (c .before .before .before .outcome-number .ensures)) at (c .before .before .put-report .ensures)
 
 pub print-reading-spec : {M : Type 1} → statement M
 print-reading-spec =

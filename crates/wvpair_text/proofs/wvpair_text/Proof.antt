@@ -8,7 +8,8 @@ use borrow.Author.Tests.{lt-ltb, le-ltb}
 use denote.Ref.{now}
 use lib.Dec.{ltb}
 use lib.ListN.{length}
-use Rattle.wvpair_text.specs.Text.{largestText}
+use Rattle.wvpair_text.specs.Text.{largestText, wvpairText}
+use Rattle.wvpair_text.proofs.ShortLaws.{text-short}
 use borrow.Author.Needs.{needs}
 use Rattle.wvpair_text.proofs.wvpair_text.Statement.{statement}
 use Rattle.wvpair_text.proofs.wvpair_text.Tie as tie
@@ -28,7 +29,8 @@ returns-2 : tie.Need-returns-2
 returns-2 c =
     let t : ltb (length (now (c .before .before .before .before .before .before .before .args .out))) largestText ≡ false = le-ltb _ _ (c .before .before .before .before .if1 .left) in
     let p = c .before .before .print-input .ensures in
-    record { outcome = rw t; size = rw t (p .0 .place ∙ zero-add _); bytes = rw t (p .0 .bytes); short = p .1 }
+    let n : c .before .before .print-input .result ≡ length (wvpairText (now (c .before .before .before .before .before .before .before .args .input))) = p .place ∙ zero-add _ in
+    record { outcome = rw t; size = rw t n; bytes = rw t (p .bytes); short = omega (arith, text-short (now (c .before .before .before .before .before .before .before .args .input))) }
 
 pub wvpair-text-spec : {M : Type 1} → statement M
 wvpair-text-spec = tie.close (tie.spec returns print-input-requires same-length returns-2)

@@ -1,8 +1,7 @@
 -- Five writers, one behind the other.
 -- Assumes nothing.
 use native.Mathlib.Omega.{arith}
-use Rattle.wvpair_text.proofs.DecimalLaws.{decimal-short}
-use Rattle.wvpair_text.proofs.LineLaws.{end-laid, end-short}
+use Rattle.wvpair_text.proofs.LineLaws.{end-laid, end-length}
 use borrow.Author.Needs.{needs}
 use Rattle.wvpair_text.proofs.lines.put_end.Statement.{statement}
 use Rattle.wvpair_text.proofs.lines.put_end.Tie as tie
@@ -11,12 +10,14 @@ slice-aggregate-put-text : tie.Need-slice-aggregate-put-text
 slice-aggregate-put-text c = search needs
 
 put-text-requires : tie.Need-put-text-requires
-put-text-requires c κs = search needs
+put-text-requires c κs =
+    let s = c .before .before .before in
+    omega (arith, end-length (s .args .refusal) (s .args .bits))
 
 put-decimal-requires : tie.Need-put-decimal-requires
 put-decimal-requires c κs =
     let s = c .before .before .before .before .before .before .before in
-    omega (arith, s .pre, decimal-short 9 (s .args .refusal) (omega arith), c .before .before .before .put-text .ensures .place, c .before .before .before .put-text .kept .0)
+    omega (arith, s .pre, end-length (s .args .refusal) (s .args .bits))
 
 slice-aggregate-put-text-2 : tie.Need-slice-aggregate-put-text-2
 slice-aggregate-put-text-2 c = search needs
@@ -24,17 +25,17 @@ slice-aggregate-put-text-2 c = search needs
 put-text-requires-2 : tie.Need-put-text-requires-2
 put-text-requires-2 c κs =
     let s = c .before .before .before .before .before .before .before .before .before .before .before .before in
-    omega (arith, s .pre, decimal-short 9 (s .args .refusal) (omega arith))
+    omega (arith, s .pre, end-length (s .args .refusal) (s .args .bits))
 
 put-decimal-requires-2 : tie.Need-put-decimal-requires-2
 put-decimal-requires-2 c κs =
     let s = c .before .before .before .before .before .before .before .before .before .before .before .before .before .before .before .before in
-    omega (arith, s .pre, decimal-short 9 (s .args .refusal) (omega arith), decimal-short 19 (s .args .bits) (omega arith))
+    omega (arith, s .pre, end-length (s .args .refusal) (s .args .bits))
 
 put-byte-requires : tie.Need-put-byte-requires
 put-byte-requires c κs =
     let s = c .before .before .before .before .before .before .before .before .before .before .before .before .before .before .before .before .before .before .before .before in
-    omega (arith, s .pre, decimal-short 9 (s .args .refusal) (omega arith), decimal-short 19 (s .args .bits) (omega arith))
+    omega (arith, s .pre, end-length (s .args .refusal) (s .args .bits))
 
 same-length : tie.Need-same-length
 same-length c = search needs
@@ -42,13 +43,12 @@ same-length c = search needs
 returns : tie.Need-returns
 returns c =
     let s = c .before .before .before .before .before .before .before .before .before .before .before .before .before .before .before .before .before .before .before .before .before .before .before in
-    let l = end-laid (s .args .refusal) (s .args .bits) (omega (arith, s .pre))
+    end-laid (s .args .refusal) (s .args .bits) (omega (arith, s .pre))
     (c .before .before .before .before .before .before .before .before .before .before .before .before .before .before .before .before .before .before .before .put-text .ensures)
     (c .before .before .before .before .before .before .before .before .before .before .before .before .before .before .before .put-decimal .ensures)
     (c .before .before .before .before .before .before .before .before .before .before .put-text2 .ensures)
     (c .before .before .before .before .before .before .put-decimal2 .ensures)
-    (c .before .before .put-byte .ensures) in
-    (l, omega (arith, end-short (s .args .refusal) (s .args .bits) (s .fits .refusal .fits) (s .fits .bits .fits)))
+    (c .before .before .put-byte .ensures)
 
 pub put-end-spec : {M : Type 1} → statement M
 put-end-spec =

@@ -18,7 +18,7 @@ same-length c = search needs
 
 returns : tie.Need-returns
 unfolding report
-returns c = (laid-laid (omega arith) (c .before .before .before .before .before .before .put-lines .ensures .0) (c .before .before .put-end .ensures .0), search needs)
+returns c = laid-laid (omega arith) (c .before .before .before .before .before .before .put-lines .ensures .0) (c .before .before .put-end .ensures)
 
 pub put-report-spec : {M : Type 1} → statement M
 put-report-spec = tie.close (tie.spec put-lines-requires put-end-requires same-length returns)
