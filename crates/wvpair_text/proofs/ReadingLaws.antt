@@ -1,18 +1,27 @@
 -- What is printed of a reading whose samples stand first in a longer list.
 -- Assumes nothing.
 use mathlib.Core.Path.{_≡_, refl, ap}
+use mathlib.Core.Bool.{Bool, true, false, cond, _||_}
 use mathlib.Core.List.{List, _∷_, _++_}
 use Prim.Native.Nat.{ℕ, zero, suc, _*_, _≤_, _<_}
 use native.Mathlib.Omega.{arith}
+use lib.Dec.{ltb, eqb}
 use lib.IntN.{ℤ, pos}
-use lib.ListN.{length, take, getD, replicate, length-replicate}
+use lib.ListN.{length, take, drop, getD, replicate}
 use lib.Signed.{mag}
-use lib.Seq.{take-append-le}
+use lib.Seq.{take-append-le, take-append-seam}
 use Rattle.answers.specs.Numbers.{outcomeNumber}
-use Rattle.samples.specs.View.{ReadTold, readToldOf, readTold}
+use Rattle.bits.specs.Bits.{bitsOf}
+use Rattle.bits.proofs.BitLaws.{length-bits}
+use Rattle.entropy.specs.Entropy.{entropyInfo, entropyRefusal}
+use Rattle.entropy.specs.Seed.{notStereo, orElse, seedRefusal, seedMedians}
+use Rattle.samples.specs.Reading.{Reading, reading}
+use Rattle.samples.specs.State.{start}
+use Rattle.samples.specs.View.{ReadTold, readToldOf, toldReading, readRefusal, unlessRefused, readEntry}
 use Rattle.samples.specs.declared.ReadAnswer.{ReadAnswer}
 use Rattle.wvpair_text.specs.Lines.{report}
 use Rattle.wvpair_text.specs.Text.{frameCount, payloadOf, printed, readingOf}
+use Rattle.wvpair_text.proofs.ReadingBounds.{reading-end}
 
 -- the first of many zeros are fewer zeros
 pub take-replicate : (n m : ℕ) (v : ℤ) → n ≤ m → take n (replicate m v) ≡ replicate n v
@@ -20,22 +29,56 @@ take-replicate zero m v h = refl
 take-replicate (suc n) zero v h = absurd (omega arith)
 take-replicate (suc n) (suc m) v h = ap (λ (l : List ℤ). v ∷ l) (take-replicate n m v (omega arith))
 
--- what a reading of some payload bytes into a list tells is small: how many samples are written, each of them, the refusal and the bits used
-pub record Small (bytes lent : ℕ) (told : ReadTold) : Type 0 where
-  pub written : told .written ≤ lent
+-- what a reading tells is small: how many samples are written, each of them, the refusal and the bits used
+pub record Small (bytes frames : ℕ) (told : ReadTold) : Type 0 where
+  pub written : told .written ≤ 2 * frames
   pub samples : (i : ℕ) → mag (getD (take (told .written) (told .list)) i (pos 0)) < 2147483648
   pub refusal : told .refusal < 10
   pub bits : told .bits ≤ 8 * bytes
 
-pub told-small : (entropy payload : List ℕ) (frames : ℕ) (list : List ℤ) → Small (length payload) (length list) (readTold entropy payload frames list)
-unfolding readTold
-told-small entropy payload frames list = record { written = omega arith; samples = λ i. omega arith; refusal = omega arith; bits = omega arith }
+-- of two numbers, whichever
+cond-le : (t : Bool) (a b n : ℕ) → a ≤ n → b ≤ n → cond t a b ≤ n
+cond-le true a b n h k = h
+cond-le false a b n h k = k
+
+-- the refusals before any word
+seed-le : (entropy : List ℕ) → seedRefusal entropy ≤ 6
+unfolding seedRefusal entropyRefusal
+seed-le entropy =
+    go (cond (eqb (length entropy) 6 || eqb (length entropy) 12) 0 1) (cond-le (eqb (length entropy) 6 || eqb (length entropy) 12) 0 1 6 (omega arith) (omega arith))
+  where
+    go : (c : ℕ) → c ≤ 6 → orElse c (cond (notStereo (entropyInfo entropy)) 2 0) ≤ 6
+    go zero h = cond-le (notStereo (entropyInfo entropy)) 2 0 6 (omega arith) (omega arith)
+    go (suc c) h = h
+
+refusal-le : (entropy payload : List ℕ) (frames : ℕ) (list : List ℤ) → readRefusal entropy payload frames list ≤ 6
+unfolding readRefusal
+refusal-le entropy payload frames list =
+    cond-le (ltb 131072 frames || ltb 4194304 (length payload)) 5 (cond (eqb (length list) (2 * frames)) (seedRefusal entropy) 6) 6 (omega arith)
+    (cond-le (eqb (length list) (2 * frames)) (seedRefusal entropy) 6 6 (seed-le entropy) (omega arith))
+
+-- any reading
+told-small : (entropy payload : List ℕ) (frames : ℕ) (list : List ℤ) → Small (length payload) frames (readEntry entropy payload frames list)
+unfolding readEntry
+told-small entropy payload frames list = go (readRefusal entropy payload frames list) (refusal-le entropy payload frames list)
+  where
+    r : Reading
+    r = reading (bitsOf payload) (2 * frames) 0 (start (seedMedians entropy .left) (seedMedians entropy .right))
+
+    go : (c : ℕ) → c ≤ 6 → Small (length payload) frames (unlessRefused list c (toldReading list r))
+    go zero h =
+        let e = reading-end (bitsOf payload) (2 * frames) 0 (start (seedMedians entropy .left) (seedMedians entropy .right)) in
+        record {
+          written = e .most;
+          samples = λ i. rw (take-append-seam (r .samples) (drop (length (r .samples)) list)) (e .small i);
+          refusal = omega (arith, e .refusal);
+          bits = omega (arith, e .place, length-bits payload);
+        }
+    go (suc c) h = record { written = omega arith; samples = λ i. omega arith; refusal = omega arith; bits = omega arith }
 
 -- the same of the reading of an input
-pub reading-small : (input : List ℕ) → Small (length (payloadOf input)) (2 * frameCount input) (readingOf input)
-reading-small input =
-    let n = 2 * frameCount input in
-    rw (length-replicate n (pos 0)) at (told-small (take 12 input) (payloadOf input) (frameCount input) (replicate n (pos 0)))
+pub reading-small : (input : List ℕ) → Small (length (payloadOf input)) (frameCount input) (readingOf input)
+reading-small input = told-small (take 12 input) (payloadOf input) (frameCount input) (replicate (2 * frameCount input) (pos 0))
 
 -- the samples that an answer tells of, and its numbers, are those of the reading
 pub printed-told : (told : ReadTold) (r : ReadAnswer) (list rest : List ℤ) (number : ℕ)

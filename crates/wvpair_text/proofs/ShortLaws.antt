@@ -1,8 +1,7 @@
 -- No text is longer than the largest text.
 -- Assumes nothing.
-use mathlib.Core.Path.{_≡_}
 use mathlib.Core.List.{List, [], _∷_, _++_}
-use Prim.Native.Nat.{ℕ, zero, suc, _*_, _≤_, _<_}
+use Prim.Native.Nat.{ℕ, suc, _*_, _≤_, _<_}
 use native.Mathlib.Decide.{decLt}
 use native.Mathlib.Omega.{arith}
 use lib.IntN.{ℤ, pos}
@@ -10,7 +9,7 @@ use lib.ListN.{length, take, getD, length-append, length-take, length-drop}
 use lib.Signed.{mag}
 use Rattle.wvpair_text.specs.Decimal.{signedDecimal}
 use Rattle.wvpair_text.specs.Lines.{frameLine, frameLines, endLine, report}
-use Rattle.wvpair_text.specs.Text.{frameCount, payloadOf, readingOf, printed, wvpairText, largestText}
+use Rattle.wvpair_text.specs.Text.{frameCount, readingOf, printed, wvpairText, largestText}
 use Rattle.wvpair_text.proofs.DecimalLaws.{signed-short}
 use Rattle.wvpair_text.proofs.LineLaws.{end-short}
 use Rattle.wvpair_text.proofs.ReadingLaws.{reading-small}

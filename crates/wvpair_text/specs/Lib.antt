@@ -1,4 +1,5 @@
 pub mod Decimal
 pub mod Lines
 pub mod Placed
+pub mod Starred
 pub mod Text

@@ -8,7 +8,7 @@ use lib.Dec.{ltb}
 use lib.IntN.{pos}
 use lib.ListN.{length, take, drop, getD, replicate}
 use Rattle.answers.specs.Numbers.{outcomeNumber}
-use Rattle.samples.specs.View.{ReadTold, readTold}
+use Rattle.samples.specs.View.{ReadTold, readEntry}
 use Rattle.wvpair_text.specs.Lines.{endLine, report}
 use Rattle.wvpair_text.specs.Placed.{placed}
 use Rattle.wvpair_text.specs.declared.TextAnswer.{TextAnswer}
@@ -27,7 +27,7 @@ overLimits input = ltb 1024 (frameCount input) || ltb 28672 (length (payloadOf i
 
 -- the reading of an input: a list of zeros, two for each frame, is lent
 abbrev pub readingOf : List ℕ → ReadTold
-readingOf input = readTold (take 12 input) (payloadOf input) (frameCount input) (replicate (2 * frameCount input) (pos 0))
+readingOf input = readEntry (take 12 input) (payloadOf input) (frameCount input) (replicate (2 * frameCount input) (pos 0))
 
 -- the samples written are a line for each whole frame, then comes the `end` line
 abbrev pub printed : ReadTold → List ℕ

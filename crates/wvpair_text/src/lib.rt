@@ -11,7 +11,7 @@ use crate::lines::put_report;
 use answers::Outcome;
 use answers::Refusal;
 use answers::outcome_number;
-use samples::decode_packed_samples_stereo_from_entropy;
+use samples::reading::decode_packed_samples_stereo_from_entropy;
 
 mod decimal;
 mod lines;
