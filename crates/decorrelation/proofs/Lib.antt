@@ -1,5 +1,6 @@
 pub mod ByteLaws
 pub mod Lending
+pub mod Front
 pub mod Turns
 pub mod Answers
 pub mod Calls

@@ -8,7 +8,7 @@ use native.Mathlib.Numerals.{add-one}
 use native.Mathlib.Omega.{arith}
 use lib.IntN.{ℤ, pos}
 use lib.ListN.{length, take, drop, set, getD, length-set, drop-of-length-le}
-use lib.Seq.{drop-cons, take-length, drop-length}
+use lib.Seq.{drop-cons, take-length, drop-length, length-take-le, getD-take}
 use Rattle.passes.specs.Run.{Run, passed, Chain, decorrelated, analysed}
 use Rattle.passes.specs.declared.DecorrPass.{DecorrPass}
 use Rattle.passes.proofs.RunInverse.{passed-length}
@@ -97,3 +97,21 @@ module _ (back : Bool) (P : List DecorrPass) (B : List ℤ) where
 
   pub ran-end : (i : ℕ) (ps : List DecorrPass) (cs : List ℤ) → Ran back P B i ps cs → length P ≤ i → record { passes = ps; buffer = cs } ≡ chained back P B
   ran-end i ps cs f l = ended back i ps cs (omega (arith, f .long)) ∙ f .whole
+
+-- ---- the same over the first n passes of an array, where d stands for a pass where there is none
+module _ (n : ℕ) (ps : List DecorrPass) (d : DecorrPass) (few : n ≤ length ps) where
+  next : (i : ℕ) → i < n → drop i (take n ps) ≡ getD ps i d ∷ drop (suc i) (take n ps)
+  next i h =
+      let l : i < length (take n ps) = rw (length-take-le n ps few) h in
+      drop-cons (take n ps) i d l ∙ ap (λ x. x ∷ drop (suc i) (take n ps)) (getD-take n ps i d h)
+
+  pub array-bad : (i : ℕ) {v : Bool} → allValid (drop i (take n ps)) ≡ allValid (take n ps) → i < n → v ≡ validPass (getD ps i d) → v ≡ false → false ≡ allValid (take n ps)
+  array-bad i e h ev bad = let w : validPass (getD ps i d) ≡ false = sym ev ∙ bad in rw (← e, next i h, w)
+
+  pub array-step : (i : ℕ) {v : Bool} → allValid (drop i (take n ps)) ≡ allValid (take n ps) → i < n → v ≡ validPass (getD ps i d) → v ≡ true → allValid (drop (i + 1) (take n ps)) ≡ allValid (take n ps)
+  array-step i e h ev ok = let w : validPass (getD ps i d) ≡ true = sym ev ∙ ok in rw (add-one i) (rw (next i h, w) at e)
+
+  pub array-end : (i : ℕ) → allValid (drop i (take n ps)) ≡ allValid (take n ps) → n ≤ i → true ≡ allValid (take n ps)
+  array-end i e h =
+      let l : length (take n ps) ≤ i = rw (length-take-le n ps few) h in
+      rw (← e, drop-of-length-le (take n ps) l)

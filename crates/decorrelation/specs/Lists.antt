@@ -65,14 +65,15 @@ abbrev pub acceptedBy : Outcome → Bool
 acceptedBy Outcome.Accepted = true
 acceptedBy (Outcome.Refused r) = false
 
--- the first n passes of an array: those behind keep their values. More than the array has are refused by their number
-abbrev pub behind : List DecorrPass → Answer → Answer
-behind rest a = record { refusal = a .refusal; passes = a .passes ++ rest; buffer = a .buffer }
+-- a list of passes followed by those that are not run
+abbrev pub followed : List DecorrPass → Chain → Chain
+followed rest c = record { passes = c .passes ++ rest; buffer = c .buffer }
 
 abbrev pub arrayBy : Bool → Bool → List DecorrPass → ℕ → List ℤ → Answer
-arrayBy true back ps n l = record { refusal = numberBy back true n (length l); passes = ps; buffer = l }
-arrayBy false back ps n l = behind (drop n ps) (listed back (take n ps) l)
+arrayBy true back ps n l = answerBy (numberBy back true n (length l)) (chained back ps l) ps l
+arrayBy false back ps n l = answerBy (numberBy back (allValid (take n ps)) n (length l)) (followed (drop n ps) (chained back (take n ps) l)) ps l
 
+-- the first n passes of an array of 16: those behind keep their values, and more than the array has are refused by their number
 unfoldable pub arrayAnswer : Bool → List DecorrPass → ℕ → List ℤ → Answer
 arrayAnswer back ps n l = arrayBy (ltb 16 n) back ps n l
 

@@ -1,12 +1,14 @@
 // Implements document 01, "Passes": the term byte and the weight byte, and decorrelation and analysis by a lent list of passes.
 //
 // The list stays lent: `run_list` walks it, takes each pass out, runs it over the buffer and stores it back. All tests and all
-// arithmetic stand in functions of plain values.
+// arithmetic stand in functions of plain values. Who has no list to lend calls `decorrelate_array` and `recorrelate_array`.
 ghost use mathlib.Core.Path.{_≡_};
-ghost use Prim.Native.Nat.{_<_};
+ghost use mathlib.Core.Bool.{true, false};
+ghost use Prim.Native.Nat.{_<_, _≤_};
+ghost use lib.ListN.{take, drop};
 ghost use Rattle.answers.specs.Numbers.{outcomeNumber};
 ghost use Rattle.decorrelation.specs.PassBytes.{termOfByte, deltaOfByte, weightOfByte};
-ghost use Rattle.decorrelation.specs.Lists.{validPass, allValid, decorrelationNumber, analysisNumber, numberBy, acceptedBy, placeOf, chained, listed, decorrelation, analysis};
+ghost use Rattle.decorrelation.specs.Lists.{validPass, allValid, decorrelationNumber, analysisNumber, numberBy, acceptedBy, placeOf, chained, listed, decorrelation, analysis, followed, arrayAnswer};
 use answers::Outcome;
 use answers::Refusal;
 pub use passes::DecorrPass;
@@ -168,4 +170,84 @@ pub fn recorrelate_stereo(passes: &mut [DecorrPass], buffer: &mut [i32]) -> Outc
     ensures { λ r. ⌜ record { refusal = outcomeNumber r; passes = now (passes .exit); buffer = now (buffer .exit) } ≡ analysis (now (passes .entry)) (now (buffer .entry)) ⌝ }
 {
     run_checked(true, passes, buffer)
+}
+
+// What the entries of an array answer: the passes behind the first `count` keep their values.
+pub struct ListAnswer {
+    pub outcome: Outcome,
+    pub passes: [DecorrPass; 16],
+}
+
+// Whether the first `count` terms of an array are valid.
+pub fn array_valid(passes: [DecorrPass; 16], count: usize) -> bool
+    requires { ⌜ count ≤ 16 ⌝ }
+    ensures { λ r. ⌜ r ≡ allValid (take count passes) ⌝ }
+{
+    let mut i: usize = 0;
+    while i < count {
+        let p = passes[i];
+        if !valid_pass(p) {
+            return false;
+        }
+        i += 1;
+    }
+    true
+}
+
+// Runs the first `count` passes of an array, lent as a list. It refuses nothing.
+pub fn run_array(
+    back: bool,
+    passes: [DecorrPass; 16],
+    count: usize,
+    buffer: &mut [i32],
+) -> [DecorrPass; 16]
+    requires { ⌜ count ≤ 16 ⌝ }
+    ensures { λ r. ⌜ record { passes = r; buffer = now (buffer .exit) } ≡ followed (drop count passes) (chained back (take count passes) (now (buffer .entry))) ⌝ }
+{
+    let mut list = passes;
+    run_list(back, &mut list[..count], buffer);
+    list
+}
+
+// The same where the list is accepted: else nothing changes.
+pub fn array_answer(
+    back: bool,
+    passes: [DecorrPass; 16],
+    count: usize,
+    buffer: &mut [i32],
+) -> ListAnswer
+    ensures { λ r. ⌜ record { refusal = outcomeNumber (r .outcome); passes = r .passes; buffer = now (buffer .exit) } ≡ arrayAnswer back passes count (now (buffer .entry)) ⌝ }
+{
+    let elements = buffer.len();
+    if 16 < count {
+        return ListAnswer {
+            outcome: list_outcome(back, true, count, elements),
+            passes: passes,
+        };
+    }
+    let outcome = list_outcome(back, array_valid(passes, count), count, elements);
+    if is_accepted(outcome) {
+        return ListAnswer {
+            outcome: outcome,
+            passes: run_array(back, passes, count, buffer),
+        };
+    }
+    ListAnswer {
+        outcome: outcome,
+        passes: passes,
+    }
+}
+
+// Decorrelation by the first `count` passes of an array. Refuses as `decorrelate_stereo` does.
+pub fn decorrelate_array(passes: [DecorrPass; 16], count: usize, buffer: &mut [i32]) -> ListAnswer
+    ensures { λ r. ⌜ record { refusal = outcomeNumber (r .outcome); passes = r .passes; buffer = now (buffer .exit) } ≡ arrayAnswer false passes count (now (buffer .entry)) ⌝ }
+{
+    array_answer(false, passes, count, buffer)
+}
+
+// Analysis by the first `count` passes of an array. Refuses as `recorrelate_stereo` does.
+pub fn recorrelate_array(passes: [DecorrPass; 16], count: usize, buffer: &mut [i32]) -> ListAnswer
+    ensures { λ r. ⌜ record { refusal = outcomeNumber (r .outcome); passes = r .passes; buffer = now (buffer .exit) } ≡ arrayAnswer true passes count (now (buffer .entry)) ⌝ }
+{
+    array_answer(true, passes, count, buffer)
 }
