@@ -123,20 +123,22 @@ fn read_folded_ones_count(
     OnesCount::Count(raw / 2 + one_if(last_one), next, !odd, odd)
 }
 
-// Whether step 2 reads a run length, from the first medians of both channels and what the words before left.
+// Whether step 2 reads a run length, from the medians of both channels and what the words before left.
 pub fn zero_run_eligible(
-    left_median: u32,
-    right_median: u32,
+    left_set: AdaptiveMedians,
+    right_set: AdaptiveMedians,
     run_break: bool,
     last_zero: bool,
     last_one: bool,
 ) -> bool
-    ensures { λ r. ⌜ r ≡ eligible «left_median» «right_median» «run_break» «last_zero» «last_one» ⌝ }
+    ensures { λ r. ⌜ r ≡ eligible (mediansOf «left_set» .m0) (mediansOf «right_set» .m0) «run_break» «last_zero» «last_one» ⌝ }
 {
-    if left_median > 1 {
+    let left = left_set.values;
+    let right = right_set.values;
+    if left[0] > 1 {
         return false;
     }
-    if right_median > 1 {
+    if right[0] > 1 {
         return false;
     }
     if run_break {

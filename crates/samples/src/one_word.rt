@@ -134,17 +134,9 @@ pub fn decode_sample_stateful_stereo(
     }
     let channel = state.next_channel as usize;
     let sets = state.medians;
-    let l = sets[0];
-    let r = sets[1];
     let zero_before = state.last_zero;
     let one_before = state.last_one;
-    let run = zero_run_eligible(
-        l.values[0],
-        r.values[0],
-        state.run_break,
-        zero_before,
-        one_before,
-    );
+    let run = zero_run_eligible(sets[0], sets[1], state.run_break, zero_before, one_before);
     let word = read_word(payload, place, run, sets[channel], zero_before, one_before);
     match word {
         Coded::Run(owed, next) => zero(next, in_run(state, owed)),

@@ -18,6 +18,18 @@ use entropy::AdaptiveMedians;
 use entropy::stereo_pair_from_entropy;
 use medians::adaptation::adapt;
 
+// The answer of a reading that accepted every word.
+fn accepted(bits: usize, medians: [AdaptiveMedians; 2], written: usize) -> ReadAnswer
+    ensures { λ r. ⌜ r ≡ record { outcome = Outcome.Accepted; bits = bits; medians = medians; written = written } ⌝ }
+{
+    ReadAnswer {
+        outcome: Outcome::Accepted,
+        bits,
+        medians,
+        written,
+    }
+}
+
 // The answer of a reading that a word ended: what the accepted words used, left and gave.
 fn stopped(
     refusal: Refusal,
@@ -57,10 +69,8 @@ pub fn decode_packed_samples_stereo(
         if owed > 0 {
             owed = owed - 1;
         } else {
-            let l = medians[0];
-            let r = medians[1];
             let due = medians[written % 2];
-            let run = zero_run_eligible(l.values[0], r.values[0], run_break, last_zero, last_one);
+            let run = zero_run_eligible(medians[0], medians[1], run_break, last_zero, last_one);
             let word = read_word(payload, bits, run, due, last_zero, last_one);
             match word {
                 Coded::Run(behind, next) => {
@@ -84,12 +94,7 @@ pub fn decode_packed_samples_stereo(
         out[written] = sample;
         written = written + 1;
     }
-    ReadAnswer {
-        outcome: Outcome::Accepted,
-        bits,
-        medians,
-        written,
-    }
+    accepted(bits, medians, written)
 }
 
 // The answer of a reading that ended before any word.

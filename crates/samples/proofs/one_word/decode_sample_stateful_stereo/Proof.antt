@@ -55,17 +55,11 @@ returns-3 c =
 cast-channel : tie.Need-cast-channel
 cast-channel c = search needs
 
-array-copy-out-l : tie.Need-array-copy-out-l
-array-copy-out-l c = search needs
+array-copy-out-zero-run-eligible : tie.Need-array-copy-out-zero-run-eligible
+array-copy-out-zero-run-eligible c = search needs
 
-array-copy-out-r : tie.Need-array-copy-out-r
-array-copy-out-r c = search needs
-
-element-copy-out-zero-run-eligible : tie.Need-element-copy-out-zero-run-eligible
-element-copy-out-zero-run-eligible c = search needs
-
-element-copy-out-zero-run-eligible-2 : tie.Need-element-copy-out-zero-run-eligible-2
-element-copy-out-zero-run-eligible-2 c = search needs
+array-copy-out-zero-run-eligible-2 : tie.Need-array-copy-out-zero-run-eligible-2
+array-copy-out-zero-run-eligible-2 c = search needs
 
 zero-run-eligible-requires : tie.Need-zero-run-eligible-requires
 zero-run-eligible-requires c κs = search needs
@@ -81,11 +75,11 @@ read-word-requires c κs = search needs
 
 -- the word that was read is the entry's word
 read : (c : tie.After-read-word) →
-    let a = c .before .before .before .before .before .before .before .before .before .before .before .before .before .before .args in
+    let a = c .before .before .before .before .before .before .before .before .before .before .before .before .args in
     let s = stateOf (a .state) in
     toldWord (a .place) s (codedWord s (c .read-word .result)) ≡ oneWord (now (a .payload)) (a .place) s
 read c =
-    let a = c .before .before .before .before .before .before .before .before .before .before .before .before .before .before .args in
+    let a = c .before .before .before .before .before .before .before .before .before .before .before .before .args in
     let l : length (a .state .medians) ≡ 2 = search (needs, length-mapped) in
     one-coded (now (a .payload)) (a .place) (a .state) _ _ (omega arith) (omega arith) (omega arith) l (c .before .before .zero-run-eligible .ensures) (c .read-word .ensures)
 
@@ -122,7 +116,7 @@ refused-requires-4 c κs = search needs
 returns-4 : tie.Need-returns-4
 returns-4 c =
     let k = c .before .before .before .before .before in
-    let a = c .before .before .before .before .before .before .before .before .before .before .before .before .before .before .before .before .before .before .before .args in
+    let a = c .before .before .before .before .before .before .before .before .before .before .before .before .before .before .before .before .before .args in
     let s = stateOf (a .state) in
     let w = c .before .before .before .word .given in
     c .zero2 .ensures ∙ ap (λ (t : State). toldWord (a .place) s (given (pos 0) (w .0 .1 .0) t none)) (c .before .in-run .ensures)
@@ -131,7 +125,7 @@ returns-4 c =
 returns-5 : tie.Need-returns-5
 returns-5 c =
     let k = c .before .before .before .before .before in
-    let a = c .before .before .before .before .before .before .before .before .before .before .before .before .before .before .before .before .before .before .before .args in
+    let a = c .before .before .before .before .before .before .before .before .before .before .before .before .before .before .before .before .before .args in
     let s = stateOf (a .state) in
     let w = c .before .before .before .word2 .given in
     let f : SFits w32 (w .0 .0) = search needs in
@@ -142,14 +136,14 @@ returns-5 c =
 returns-6 : tie.Need-returns-6
 returns-6 c =
     let k = c .before .before .before in
-    let a = c .before .before .before .before .before .before .before .before .before .before .before .before .before .before .before .before .before .args in
+    let a = c .before .before .before .before .before .before .before .before .before .before .before .before .before .before .before .args in
     let s = stateOf (a .state) in
     c .refused3 .ensures ∙ ap (λ (x : Coded). toldWord (a .place) s (codedWord s x)) (sym (c .before .enum-told .given .1)) ∙ read k
 
 returns-7 : tie.Need-returns-7
 returns-7 c =
     let k = c .before .before .before in
-    let a = c .before .before .before .before .before .before .before .before .before .before .before .before .before .before .before .before .before .args in
+    let a = c .before .before .before .before .before .before .before .before .before .before .before .before .before .before .before .args in
     let s = stateOf (a .state) in
     c .refused4 .ensures ∙ ap (λ (x : Coded). toldWord (a .place) s (codedWord s x)) (sym (c .before .enum-told2 .given .1)) ∙ read k
 
@@ -166,10 +160,8 @@ decode-sample-stateful-stereo-spec =
     zero-requires
     returns-3
     cast-channel
-    array-copy-out-l
-    array-copy-out-r
-    element-copy-out-zero-run-eligible
-    element-copy-out-zero-run-eligible-2
+    array-copy-out-zero-run-eligible
+    array-copy-out-zero-run-eligible-2
     zero-run-eligible-requires
     mul-read-word
     array-copy-out-read-word

@@ -1,3 +1,6 @@
+-- `samples::reading::decode_packed_samples_stereo` meets its contract. The loop's invariant is `Loop`; a turn is a zero that is owed, a run that starts,
+-- or a sample, in this order where the arms meet.
+-- Assumes nothing.
 use borrow.Author.Needs.{needs}
 use native.Mathlib.Omega.{arith}
 use mathlib.Core.Path.{_≡_, ap}
@@ -32,24 +35,17 @@ loop-holds c =
 sub-owed : tie.Need-sub-owed Inv-loop μ-loop
 sub-owed c = search needs
 
-array-copy-out-l : tie.Need-array-copy-out-l Inv-loop μ-loop
-array-copy-out-l c = search needs
-
-array-copy-out-r : tie.Need-array-copy-out-r Inv-loop μ-loop
-array-copy-out-r c = search needs
-
 mul-due : tie.Need-mul-due Inv-loop μ-loop
 mul-due c = search needs
 
 array-copy-out-due : tie.Need-array-copy-out-due Inv-loop μ-loop
 array-copy-out-due c = search needs
 
-element-copy-out-zero-run-eligible : tie.Need-element-copy-out-zero-run-eligible Inv-loop μ-loop
-element-copy-out-zero-run-eligible c = search needs
+array-copy-out-zero-run-eligible : tie.Need-array-copy-out-zero-run-eligible Inv-loop μ-loop
+array-copy-out-zero-run-eligible c = search needs
 
-element-copy-out-zero-run-eligible-2 :
-    tie.Need-element-copy-out-zero-run-eligible-2 Inv-loop μ-loop
-element-copy-out-zero-run-eligible-2 c = search needs
+array-copy-out-zero-run-eligible-2 : tie.Need-array-copy-out-zero-run-eligible-2 Inv-loop μ-loop
+array-copy-out-zero-run-eligible-2 c = search needs
 
 zero-run-eligible-requires : tie.Need-zero-run-eligible-requires Inv-loop μ-loop
 zero-run-eligible-requires c κs = search needs
@@ -83,7 +79,7 @@ same-length c = search needs
 
 returns : tie.Need-returns Inv-loop μ-loop
 returns c =
-    let k = c .before .before .before .before .before .before .before .before .before .before .before .before in
+    let k = c .before .before .before .before .before .before .before .before .before .before in
     let e = loop-stop _ _ _ _ _ _ _ _ _ _ _ (k .loop .inv) _ _ (omega arith) (omega arith) (c .before .before .before .before .zero-run-eligible .ensures) (c .before .before .before .read-word .ensures) 4
     (ap (codedWord (k .loop .inv .state)) (c .before .enum-told .given .1)) in
     rw (c .stopped .ensures) e
@@ -99,7 +95,7 @@ same-length-2 c = search needs
 
 returns-2 : tie.Need-returns-2 Inv-loop μ-loop
 returns-2 c =
-    let k = c .before .before .before .before .before .before .before .before .before .before .before .before in
+    let k = c .before .before .before .before .before .before .before .before .before .before in
     let e = loop-stop _ _ _ _ _ _ _ _ _ _ _ (k .loop .inv) _ _ (omega arith) (omega arith) (c .before .before .before .before .zero-run-eligible .ensures) (c .before .before .before .read-word .ensures) 3
     (ap (codedWord (k .loop .inv .state)) (c .before .enum-told2 .given .1)) in
     rw (c .stopped2 .ensures) e
@@ -121,20 +117,25 @@ loop-again c =
     let k = c .before .before in
     ⊎-elim (λ w. rw (w .1, w .2, w .3, w .4, w .5, w .6, w .7) (loop-paid _ _ _ _ _ _ _ _ _ _ _ (k .loop .inv) (omega arith) (omega arith)))
     (⊎-elim
-    (λ w. rw (w .11, w .12, w .13, w .14, w .15, w .16, w .17)
-    (loop-run _ _ _ _ _ _ _ _ _ _ _ (k .loop .inv) _ _ (omega arith) (omega arith) (w .6 .ensures) (w .7 .ensures) _ _ (w .9 .given .1)))
+    (λ w. rw (w .9, w .10, w .11, w .12, w .13, w .14, w .15)
+    (loop-run _ _ _ _ _ _ _ _ _ _ _ (k .loop .inv) _ _ (omega arith) (omega arith) (w .4 .ensures) (w .5 .ensures) _ _ (w .7 .given .1)))
     (λ w.
-    let v = w .9 .given .0 .0 in
+    let v = w .7 .given .0 .0 in
     let f : SFits w32 v = search needs in
-    rw (w .12, w .13, w .14, w .15, w .16, w .17, w .18, toZ-ofZ f)
-    (loop-sample _ _ _ _ _ _ _ _ _ _ _ (k .loop .inv) _ _ (omega arith) (omega arith) (w .6 .ensures) (w .7 .ensures) v _ _ _ _ _ (w .9 .given .1) (w .11 .ensures))))
+    rw (w .10, w .11, w .12, w .13, w .14, w .15, w .16, toZ-ofZ f)
+    (loop-sample _ _ _ _ _ _ _ _ _ _ _ (k .loop .inv) _ _ (omega arith) (omega arith) (w .4 .ensures) (w .5 .ensures) v _ _ _ _ _ (w .7 .given .1) (w .9 .ensures))))
     (c .if1 .came)
+
+accepted-requires : tie.Need-accepted-requires Inv-loop μ-loop
+accepted-requires c κs = search needs
 
 same-length-3 : tie.Need-same-length-3 Inv-loop μ-loop
 same-length-3 c = search needs
 
 returns-3 : tie.Need-returns-3 Inv-loop μ-loop
-returns-3 c = loop-end _ _ _ _ _ _ _ _ _ _ _ (c .before .loop .inv) (omega arith)
+returns-3 c =
+    let e = loop-end _ _ _ _ _ _ _ _ _ _ _ (c .before .before .loop .inv) (omega arith) in
+    rw (c .accepted .ensures) e
 
 pub decode-packed-samples-stereo-spec : {M : Type 1} → statement M
 decode-packed-samples-stereo-spec =
@@ -144,12 +145,10 @@ decode-packed-samples-stereo-spec =
     μ-loop
     loop-holds
     sub-owed
-    array-copy-out-l
-    array-copy-out-r
     mul-due
     array-copy-out-due
-    element-copy-out-zero-run-eligible
-    element-copy-out-zero-run-eligible-2
+    array-copy-out-zero-run-eligible
+    array-copy-out-zero-run-eligible-2
     zero-run-eligible-requires
     read-word-requires
     enum-known-word
@@ -170,5 +169,6 @@ decode-packed-samples-stereo-spec =
     add-written
     loop-less
     loop-again
+    accepted-requires
     same-length-3
     returns-3)

@@ -2,7 +2,7 @@
 -- Assumes nothing.
 use borrow.Author.Needs.{needs}
 use native.Mathlib.Omega.{arith}
-use mathlib.Core.Path.{_≡_, refl, sym, ap, _∙_}
+use mathlib.Core.Path.{refl, sym, ap, _∙_}
 use denote.Ref.{now}
 use Rattle.answers.specs.declared.Refusal.{Refusal}
 use Rattle.answers.specs.Numbers.{outcomeNumber}
@@ -11,77 +11,58 @@ use Rattle.samples.proofs.reading.decode_packed_samples_stereo_from_ent
   statement,
 }
 use Rattle.samples.proofs.reading.decode_packed_samples_stereo_from_entropy.Tie as tie
-use Rattle.samples.proofs.reading.decode_packed_samples_stereo_from_entropy.Reads as reads
-use Rattle.samples.proofs.reading.decode_packed_samples_stereo_from_entropy.Lts as lts
-use Rattle.entropy.proofs.stereo_pair_from_entropy.Reads as stereo-pair-from-entropy-reads
-use Rattle.samples.proofs.reading.decode_packed_samples_stereo.Reads as decode-packed-samples-stereo-reads
-use Rattle.samples.proofs.reading.not_read.Reads as not-read-reads
 
--- src/reading.rt:115:9
 not-read-requires : tie.Need-not-read-requires
 not-read-requires c κs = search needs
 
--- src/reading.rt:115:9
 returns : tie.Need-returns
 returns c =
     let a = c .before .before .before .before .args in
     not-read (now (a .entropy)) (now (a .payload)) (a .frames) (now (a .out)) (c .not-read .result) _ Refusal.TooLarge refl (refused-frames (now (a .entropy)) (now (a .payload)) (a .frames) (now (a .out)) (omega arith)) (c .not-read .ensures)
 
--- src/reading.rt:118:9
 not-read-requires-2 : tie.Need-not-read-requires-2
 not-read-requires-2 c κs = search needs
 
--- src/reading.rt:118:9
 returns-2 : tie.Need-returns-2
 returns-2 c =
     let a = c .before .before .before .before .before .args in
     not-read (now (a .entropy)) (now (a .payload)) (a .frames) (now (a .out)) (c .not-read2 .result) _ Refusal.TooLarge refl (refused-payload (now (a .entropy)) (now (a .payload)) (a .frames) (now (a .out)) (omega arith)) (c .not-read2 .ensures)
 
--- src/reading.rt:120:21
 mul-if3 : tie.Need-mul-if3
 mul-if3 c = search needs
 
--- src/reading.rt:121:9
 not-read-requires-3 : tie.Need-not-read-requires-3
 not-read-requires-3 c κs = search needs
 
--- src/reading.rt:121:9
 returns-3 : tie.Need-returns-3
 returns-3 c =
     let a = c .before .before .before .before .before .before .args in
     not-read (now (a .entropy)) (now (a .payload)) (a .frames) (now (a .out)) (c .not-read3 .result) _ Refusal.ListLength refl (refused-list (now (a .entropy)) (now (a .payload)) (a .frames) (now (a .out)) (omega arith) (omega arith) (λ e. omega arith)) (c .not-read3 .ensures)
 
--- src/reading.rt:123:9
 stereo-pair-from-entropy-requires : tie.Need-stereo-pair-from-entropy-requires
 stereo-pair-from-entropy-requires c κs = search needs
 
 enum-told : tie.Need-enum-told
 enum-told c = search needs
 
--- src/reading.rt:126:9
 enum-told-2 : tie.Need-enum-told-2
 enum-told-2 c = search needs
 
--- src/reading.rt:126:9
 not-read-requires-4 : tie.Need-not-read-requires-4
 not-read-requires-4 c κs = search needs
 
--- src/reading.rt:126:9
 returns-4 : tie.Need-returns-4
 returns-4 c =
     let a = c .before .before .before .before .before .before .before .before .before .args in
     not-read (now (a .entropy)) (now (a .payload)) (a .frames) (now (a .out)) (c .not-read4 .result) _ _ (c .before .enum-told2 .given .1)
     (c .before .before .before .stereo-pair-from-entropy .ensures .0 ∙ refused-seed (now (a .entropy)) (now (a .payload)) (a .frames) (now (a .out)) (omega arith) (omega arith) (omega arith)) (c .not-read4 .ensures)
 
--- src/reading.rt:129:5
 decode-packed-samples-stereo-requires : tie.Need-decode-packed-samples-stereo-requires
 decode-packed-samples-stereo-requires c κs = search needs
 
--- src/reading.rt:111:1
 same-length : tie.Need-same-length
 same-length c = search needs
 
--- src/reading.rt:111:1
 returns-5 : tie.Need-returns-5
 returns-5 c =
     let a = c .before .before .before .before .before .before .before .before .before .before .before .before .args in
