@@ -1,2 +1,4 @@
 pub mod LengthLaws
 pub mod CodeLaws
+pub mod LocalLaws
+pub mod RefusalLaws

@@ -1,2 +1,3 @@
 pub mod Counts
 pub mod Code
+pub mod Refused

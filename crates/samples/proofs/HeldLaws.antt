@@ -1,13 +1,13 @@
 -- What the reading loop's locals hold of a state, and that each kind of word keeps them in step with it.
 -- Assumes nothing.
-use mathlib.Core.Path.{_≡_, refl, sym, ap, ap₂, _∙_}
+use mathlib.Core.Path.{_≡_, refl, sym, ap, _∙_}
 use mathlib.Core.Bool.{Bool, true, false}
 use mathlib.Core.List.{List, [], _∷_, map}
-use Prim.Native.Nat.{ℕ, zero, suc, _+_, _-_, _%_, _<_}
+use Prim.Native.Nat.{ℕ, zero, suc, _+_, _%_, _<_}
 use native.Mathlib.Omega.{arith}
 use lib.ListN.{length, getD, set, length-set, length-map}
 use Rattle.entropy.specs.declared.AdaptiveMedians.{AdaptiveMedians}
-use Rattle.entropy.specs.Medians.{Medians, mediansOf, pairOf, zeroSet}
+use Rattle.entropy.specs.Medians.{mediansOf, pairOf, zeroSet}
 use Rattle.medians.specs.Adaptation.{adapt}
 use Rattle.samples.specs.State.{State, start, side, flip, due, withFlags, paid, inRun, unbroken, after}
 

@@ -7,3 +7,5 @@ pub mod WordLaws
 pub mod LoopLaws
 pub mod EntryLaws
 pub mod Cases
+pub mod RefusalLaws
+pub mod LocalLaws

@@ -15,9 +15,9 @@ use Rattle.entropy.specs.Medians.{Medians, mediansOf, pairOf, zeroSet}
 use Rattle.medians.specs.Adaptation.{adapt}
 use Rattle.samples.specs.State.{State, start, paid}
 use Rattle.samples.specs.Word.{Report, given, refused, word}
-use Rattle.samples.specs.Reading.{Reading, reading}
+use Rattle.samples.specs.Reading.{reading}
 use Rattle.samples.specs.Parts.{eligible, codedWord, CodedIs}
-use Rattle.samples.specs.View.{ReadTold, toldReading}
+use Rattle.samples.specs.View.{toldReading}
 use Rattle.samples.specs.declared.coded.Coded.{Coded}
 use Rattle.samples.proofs.ReadingLaws.{prepend, reading-on, reading-stop, reading-end}
 use Rattle.samples.proofs.HeldLaws.{noSet, there, Held, held-start, held-due, held-paid, held-run, held-sample}

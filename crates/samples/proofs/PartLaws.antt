@@ -73,7 +73,7 @@ unfolding unbroken
 same-unbroken s e = ap (λ (b : Bool). withRun b (s .everRun) s) e
 
 -- no run length is read: step 3 follows at the same place
-fresh-word : (bits : List Bool) (p : ℕ) (s : State) → runRead s ≡ false → fresh bits p s ≡ plain bits p (unbroken s)
+pub fresh-word : (bits : List Bool) (p : ℕ) (s : State) → runRead s ≡ false → fresh bits p s ≡ plain bits p (unbroken s)
 unfolding fresh runDue
 fresh-word bits p s e = go (s .runBreak) (runDue s) refl e
   where
@@ -86,7 +86,7 @@ fresh-word bits p s e = go (s .runBreak) (runDue s) refl e
     go false false f h = ap (plain bits p) (same-unbroken s f)
 
 -- a run length is read
-fresh-run : (bits : List Bool) (p : ℕ) (s : State) → runRead s ≡ true
+pub fresh-run : (bits : List Bool) (p : ℕ) (s : State) → runRead s ≡ true
     → fresh bits p s ≡ onField (runLength bits p) (λ n q. onZeros n (λ d. given (pos 0) q (inRun d s) none) (plain bits q (unbroken s)))
 unfolding fresh runDue
 fresh-run bits p s e = go (s .runBreak) (runDue s) refl e

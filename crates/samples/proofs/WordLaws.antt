@@ -10,7 +10,7 @@ use lib.IntN.{pos}
 use lib.ListN.{length, getD}
 use Rattle.bits.specs.Bits.{bitsOf}
 use Rattle.entropy.specs.Medians.{mediansOf}
-use Rattle.samples.specs.State.{State, flip, due, paid}
+use Rattle.samples.specs.State.{State, flip, paid}
 use Rattle.samples.specs.Word.{Word, given, refused, none, onZeros, fresh, word}
 use Rattle.samples.specs.Parts.{eligible, codedWord, CodedIs}
 use Rattle.samples.specs.View.{stateOf, toldWord, oneWord}

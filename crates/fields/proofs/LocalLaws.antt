@@ -1,0 +1,247 @@
+-- A field that was read depends only on the bits up to the place after it: what stands behind never matters. `Local` says so of any reader; it holds of
+-- bits and counts, and of what is read one after another.
+-- Assumes nothing.
+use mathlib.Core.Path.{_≡_, refl, sym, ap, _∙_}
+use mathlib.Core.Bool.{Bool, true, false}
+use mathlib.Core.List.{List, [], _∷_}
+use Prim.Native.Nat.{ℕ, zero, suc, _+_, _-_, _*_, _^_, _≤_, _<_}
+use native.Mathlib.Nat.{zero-add, suc-add}
+use native.Mathlib.Omega.{arith}
+use borrow.Author.Tests.{ltb-true}
+use lib.Dec.{ltb, leb, eqb}
+use lib.ListN.{length, take, drop, length-drop, length-take}
+use lib.Seq.{take-nil, take-take, length-take-le}
+use Rattle.bits.specs.Bits.{val, num, ones}
+use Rattle.bits.specs.Fields.{pick, getBits, unary, andThen}
+use Rattle.bits.specs.declared.Field.{Field}
+use Rattle.bits.specs.declared.Field.the-variants.{Value, Truncated}
+use Rattle.bits.proofs.ReadLaws.{got, bits-yes, unary-yes}
+use Rattle.fields.specs.Counts.{counted, runLength, pickPrefix, thenPrefix, escaped, prefix}
+use Rattle.fields.specs.Code.{bitLength, codeOf, truncatedBinary}
+use Rattle.fields.specs.declared.Prefix.{Prefix}
+
+-- where an answer ends: at a place, or nowhere, where it was refused
+pub data Ended : Type 0 where
+  at : ℕ → Ended
+  never : Ended
+
+abbrev pub fieldEnd : Field → Ended
+fieldEnd (Value v q) = at q
+fieldEnd Truncated = never
+
+abbrev pub prefixEnd : Prefix → Ended
+prefixEnd (Prefix.Value v q) = at q
+prefixEnd Prefix.EndOfStream = never
+prefixEnd Prefix.Truncated = never
+
+-- a reader from p on: it ends at p or behind, within the payload, and any payload with the same bits up to there gives the same answer
+pub record Local {A : Type 0} (end : A → Ended) (p : ℕ) (r : List Bool → A) : Type 0 where
+  pub on : (a : List Bool) (q : ℕ) → end (r a) ≡ at q → p ≤ q
+  pub inside : (a : List Bool) (q : ℕ) → end (r a) ≡ at q → p ≤ length a → q ≤ length a
+  pub same : (a b : List Bool) (q : ℕ) → end (r a) ≡ at q → take q a ≡ take q b → r b ≡ r a
+
+-- ---- readers put together
+
+-- an answer that reads nothing
+pub local-still : {A : Type 0} (end : A → Ended) (p : ℕ) (x : A) → ((q : ℕ) → end x ≡ at q → q ≡ p) → Local end p (λ a. x)
+local-still end p x h = record { on = λ a q e. omega (arith, h q e); inside = λ a q e l. omega (arith, h q e); same = λ a b q e t. refl }
+
+-- what a part that was read, or was not, makes of the rest
+pub data Split {A B : Type 0} (end-b : B → Ended) (end-a : A → Ended) (then : B → (ℕ → ℕ → A) → A) (x : B) : Type 0 where
+  part : (v q : ℕ) → end-b x ≡ at q → ((k : ℕ → ℕ → A) → then x k ≡ k v q) → Split end-b end-a then x
+  stop : ((k : ℕ → ℕ → A) → end-a (then x k) ≡ never) → Split end-b end-a then x
+
+clash : {X : Type 0} {e : Ended} {q : ℕ} → e ≡ at q → e ≡ never → X
+clash {e = e} e1 e2 = let z : _≡_ {A = ℕ} 0 1 = cc in absurd (omega arith)
+
+-- a part, and then the rest from where it ends
+pub local-then : {A B : Type 0} (end-b : B → Ended) (end-a : A → Ended) (then : B → (ℕ → ℕ → A) → A) → ((x : B) → Split end-b end-a then x)
+    → (p : ℕ) (f : List Bool → B) (k : List Bool → ℕ → ℕ → A) → Local end-b p f → ((v q : ℕ) → Local end-a q (λ a. k a v q)) → Local end-a p (λ a. then (f a) (k a))
+local-then {A} {B} end-b end-a then split p f k lf lk = record { on = on; inside = inside; same = same }
+  where
+    on : (a : List Bool) (q : ℕ) → end-a (then (f a) (k a)) ≡ at q → p ≤ q
+    on a q e = go (split (f a))
+      where
+        go : Split end-b end-a then (f a) → p ≤ q
+        go (part v m h g) = omega (arith, lf .on a m h, lk v m .on a q (sym (ap end-a (g (k a))) ∙ e))
+        go (stop h) = clash e (h (k a))
+
+    inside : (a : List Bool) (q : ℕ) → end-a (then (f a) (k a)) ≡ at q → p ≤ length a → q ≤ length a
+    inside a q e l = go (split (f a))
+      where
+        go : Split end-b end-a then (f a) → q ≤ length a
+        go (part v m h g) = lk v m .inside a q (sym (ap end-a (g (k a))) ∙ e) (lf .inside a m h l)
+        go (stop h) = clash e (h (k a))
+
+    same : (a b : List Bool) (q : ℕ) → end-a (then (f a) (k a)) ≡ at q → take q a ≡ take q b → then (f b) (k b) ≡ then (f a) (k a)
+    same a b q e t = go (split (f a))
+      where
+        go : Split end-b end-a then (f a) → then (f b) (k b) ≡ then (f a) (k a)
+        go (part v m h g) =
+            let i = sym (ap end-a (g (k a))) ∙ e in
+            let le = lk v m .on a q i in
+            let u : take m a ≡ take m b = sym (take-take m q a le) ∙ ap (take m) t ∙ take-take m q b le in
+            ap (λ (x : B). then x (k b)) (lf .same a b m h u) ∙ g (k b) ∙ lk v m .same a b q i t ∙ sym (g (k a))
+        go (stop h) = clash e (h (k a))
+
+pub field-field : (x : Field) → Split fieldEnd fieldEnd andThen x
+field-field (Value v q) = part v q refl (λ k. refl)
+field-field Truncated = stop (λ k. refl)
+
+field-prefix : (x : Field) → Split fieldEnd prefixEnd thenPrefix x
+field-prefix (Value v q) = part v q refl (λ k. refl)
+field-prefix Truncated = stop (λ k. refl)
+
+-- the first or the second, by a test on numbers that are known
+local-pick : (t : Bool) (p : ℕ) (f g : List Bool → Field) → Local fieldEnd p f → Local fieldEnd p g → Local fieldEnd p (λ a. pick t (f a) (g a))
+local-pick true p f g x y = x
+local-pick false p f g x y = y
+
+local-pick-prefix : (t : Bool) (p : ℕ) (f g : List Bool → Prefix) → Local prefixEnd p f → Local prefixEnd p g → Local prefixEnd p (λ a. pickPrefix t (f a) (g a))
+local-pick-prefix true p f g x y = x
+local-pick-prefix false p f g x y = y
+
+-- a value at the place itself, and none
+value-here : (p v : ℕ) → Local fieldEnd p (λ a. Value v p)
+value-here p v = local-still fieldEnd p (Value v p) (λ q e. let z : p ≡ q = cc in sym z)
+
+value-none : (p : ℕ) → Local fieldEnd p (λ a. Truncated)
+value-none p = local-still fieldEnd p Truncated (λ q e. clash e refl)
+
+prefix-here : (p v : ℕ) → Local prefixEnd p (λ a. Prefix.Value v p)
+prefix-here p v = local-still prefixEnd p (Prefix.Value v p) (λ q e. let z : p ≡ q = cc in sym z)
+
+prefix-truncated : (p : ℕ) → Local prefixEnd p (λ a. Prefix.Truncated)
+prefix-truncated p = local-still prefixEnd p Prefix.Truncated (λ q e. clash e refl)
+
+prefix-ended : (p : ℕ) → Local prefixEnd p (λ a. Prefix.EndOfStream)
+prefix-ended p = local-still prefixEnd p Prefix.EndOfStream (λ q e. clash e refl)
+
+-- ---- bits and counts
+
+drop-take : (p k : ℕ) (l : List Bool) → drop p (take (p + k) l) ≡ take k (drop p l)
+drop-take zero k l = rw zero-add
+drop-take (suc p) k [] = rw suc-add (sym (take-nil k))
+drop-take (suc p) k (x ∷ l) = rw suc-add (drop-take p k l)
+
+-- the same bits up to p + k are the same k bits at p
+part-same : (a b : List Bool) (p k : ℕ) → take (p + k) a ≡ take (p + k) b → take k (drop p a) ≡ take k (drop p b)
+part-same a b p k t = sym (drop-take p k a) ∙ ap (drop p) t ∙ drop-take p k b
+
+ended : (x : Field) (q : ℕ) → fieldEnd x ≡ at q → (v : ℕ) × (x ≡ Value v q)
+ended (Value v m) q e = let z : m ≡ q = cc in (v, ap (Value v) z)
+ended Truncated q e = clash e refl
+
+pub bits-local : (p k : ℕ) → Local fieldEnd p (λ a. getBits a p k)
+bits-local p k = record { on = on; inside = inside; same = same }
+  where
+    on : (a : List Bool) (q : ℕ) → fieldEnd (getBits a p k) ≡ at q → p ≤ q
+    on a q e = let x = ended (getBits a p k) q e in omega (arith, got a p k (x .0) q (x .1))
+
+    inside : (a : List Bool) (q : ℕ) → fieldEnd (getBits a p k) ≡ at q → p ≤ length a → q ≤ length a
+    inside a q e l = let x = ended (getBits a p k) q e in omega (arith, got a p k (x .0) q (x .1), length-drop p a)
+
+    same : (a b : List Bool) (q : ℕ) → fieldEnd (getBits a p k) ≡ at q → take q a ≡ take q b → getBits b p k ≡ getBits a p k
+    same a b q e t =
+        let x = ended (getBits a p k) q e in
+        let g = got a p k (x .0) q (x .1) in
+        let u = part-same a b p k (rw (g .2) at t) in
+        let n : length (take k (drop p b)) ≡ k = ap length (sym u) ∙ length-take-le k (drop p a) (g .0) in
+        bits-yes b p k (omega (arith, length-take k (drop p b))) ∙ ap (λ (l : List Bool). Value (num l) (p + k)) (sym u) ∙ sym (bits-yes a p k (g .0))
+
+-- what a count that was read tells
+pub counted-ones : (a : List Bool) (p c q : ℕ) → unary a p ≡ Value c q → (c ≡ ones (drop p a)) × (c < length (drop p a)) × (q ≡ p + c + 1)
+unfolding unary
+counted-ones a p c q e = go (ltb (ones (drop p a)) (length (drop p a))) refl e
+  where
+    go : (t : Bool) → ltb (ones (drop p a)) (length (drop p a)) ≡ t → pick t (Value (ones (drop p a)) (p + ones (drop p a) + 1)) Truncated ≡ Value c q
+        → (c ≡ ones (drop p a)) × (c < length (drop p a)) × (q ≡ p + c + 1)
+    go true h e =
+        let z : ones (drop p a) ≡ c = cc in
+        let y : p + ones (drop p a) + 1 ≡ q = cc in
+        (sym z, omega (arith, ltb-true (ones (drop p a)) (length (drop p a)) h), omega arith)
+    go false h e = let z : _≡_ {A = ℕ} 0 1 = cc in absurd (omega arith)
+
+different : {X : Type 0} → false ≡ true → X
+different e = let z : _≡_ {A = ℕ} 0 1 = ap val e in absurd (omega arith)
+
+-- the same ones and the same zero behind them are the same count
+ones-same : (l m : List Bool) (n : ℕ) → ones l ≡ n → n < length l → take (suc n) l ≡ take (suc n) m → (ones m ≡ n) × (n < length m)
+unfolding ones
+ones-same [] m n e h t = absurd (omega arith)
+ones-same (x ∷ l) [] n e h t = let z = ap length t in absurd (omega arith)
+ones-same (false ∷ l) (false ∷ m) n e h t = (e, omega arith)
+ones-same (false ∷ l) (true ∷ m) n e h t = let z : false ≡ true = cc in different z
+ones-same (true ∷ l) (false ∷ m) n e h t = let z : false ≡ true = cc in different z
+ones-same (true ∷ l) (true ∷ m) zero e h t = absurd (omega arith)
+ones-same (true ∷ l) (true ∷ m) (suc n) e h t =
+    let z : take (suc n) l ≡ take (suc n) m = cc in
+    let r = ones-same l m n (omega arith) (omega arith) z in
+    (ap suc (r .0), omega (arith, r .1))
+
+pub unary-local : (p : ℕ) → Local fieldEnd p (λ a. unary a p)
+unary-local p = record { on = on; inside = inside; same = same }
+  where
+    on : (a : List Bool) (q : ℕ) → fieldEnd (unary a p) ≡ at q → p ≤ q
+    on a q e = let x = ended (unary a p) q e in omega (arith, counted-ones a p (x .0) q (x .1))
+
+    inside : (a : List Bool) (q : ℕ) → fieldEnd (unary a p) ≡ at q → p ≤ length a → q ≤ length a
+    inside a q e l = let x = ended (unary a p) q e in omega (arith, counted-ones a p (x .0) q (x .1), length-drop p a)
+
+    same : (a b : List Bool) (q : ℕ) → fieldEnd (unary a p) ≡ at q → take q a ≡ take q b → unary b p ≡ unary a p
+    same a b q e t =
+        let x = ended (unary a p) q e in
+        let c = x .0 in
+        let g = counted-ones a p c q (x .1) in
+        let n : q ≡ p + suc c = omega (arith, g .2) in
+        let u = part-same a b p (suc c) (rw n at t) in
+        let r = ones-same (drop p a) (drop p b) c (sym (g .0)) (g .1) u in
+        unary-yes b p (omega (arith, r .0, r .1)) ∙ ap (λ (k : ℕ). Value k (p + k + 1)) (r .0 ∙ g .0) ∙ sym (unary-yes a p (omega (arith, g .0, g .1)))
+
+-- ---- the fields of a word
+
+counted-local : (q c : ℕ) → Local fieldEnd q (λ a. counted a q c)
+unfolding counted
+counted-local q c =
+    local-pick (ltb c 2) q (λ a. Value c q) (λ a. andThen (getBits a q (c - 1)) λ v n. Value (2 ^ (c - 1) + v) n) (value-here q c)
+    (local-then fieldEnd fieldEnd andThen field-field q (λ a. getBits a q (c - 1)) (λ a v n. Value (2 ^ (c - 1) + v) n) (bits-local q (c - 1))
+    (λ v n. value-here n (2 ^ (c - 1) + v)))
+
+pub run-local : (p : ℕ) → Local fieldEnd p (λ a. runLength a p)
+unfolding runLength
+run-local p =
+    local-then fieldEnd fieldEnd andThen field-field p (λ a. unary a p) (λ a c q. pick (ltb c 33) (counted a q c) Truncated) (unary-local p)
+    (λ c q. local-pick (ltb c 33) q (λ a. counted a q c) (λ a. Truncated) (counted-local q c) (value-none q))
+
+escaped-local : (c q : ℕ) → Local prefixEnd q (λ a. escaped a c q)
+unfolding escaped
+escaped-local c q =
+    local-pick-prefix (eqb c 33) q (λ a. Prefix.EndOfStream) (λ a. pickPrefix (ltb 33 c) Prefix.Truncated (thenPrefix (counted a q c) within)) (prefix-ended q)
+    (local-pick-prefix (ltb 33 c) q (λ a. Prefix.Truncated) (λ a. thenPrefix (counted a q c) within) (prefix-truncated q)
+    (local-then fieldEnd prefixEnd thenPrefix field-prefix q (λ a. counted a q c) (λ a. within) (counted-local q c)
+    (λ v n. local-pick-prefix (leb (16 + v) 4294967295) n (λ a. Prefix.Value (16 + v) n) (λ a. Prefix.Truncated) (prefix-here n (16 + v)) (prefix-truncated n))))
+  where
+    within : ℕ → ℕ → Prefix
+    within v n = pickPrefix (leb (16 + v) 4294967295) (Prefix.Value (16 + v) n) Prefix.Truncated
+
+pub prefix-local : (p : ℕ) → Local prefixEnd p (λ a. prefix a p)
+unfolding prefix
+prefix-local p =
+    local-then fieldEnd prefixEnd thenPrefix field-prefix p (λ a. unary a p) (λ a r q. pickPrefix (ltb r 16) (Prefix.Value r q) (thenPrefix (unary a q) (escaped a))) (unary-local p)
+    (λ r q. local-pick-prefix (ltb r 16) q (λ a. Prefix.Value r q) (λ a. thenPrefix (unary a q) (escaped a)) (prefix-here q r)
+    (local-then fieldEnd prefixEnd thenPrefix field-prefix q (λ a. unary a q) (λ a. escaped a) (unary-local q) escaped-local))
+
+code-local : (p b x : ℕ) → Local fieldEnd p (λ a. codeOf a p b x)
+unfolding codeOf
+code-local p b x =
+    local-then fieldEnd fieldEnd andThen field-field p (λ a. getBits a p (b - 1)) rest (bits-local p (b - 1))
+    (λ s q. local-pick (ltb s x) q (λ a. Value s q) (λ a. andThen (getBits a q 1) λ t n. Value (2 * s - x + t) n) (value-here q s)
+    (local-then fieldEnd fieldEnd andThen field-field q (λ a. getBits a q 1) (λ a t n. Value (2 * s - x + t) n) (bits-local q 1) (λ t n. value-here n (2 * s - x + t))))
+  where
+    rest : List Bool → ℕ → ℕ → Field
+    rest a s q = pick (ltb s x) (Value s q) (andThen (getBits a q 1) λ t n. Value (2 * s - x + t) n)
+
+pub truncated-binary-local : (p M : ℕ) → Local fieldEnd p (λ a. truncatedBinary a p M)
+unfolding truncatedBinary
+truncated-binary-local p M =
+    local-pick (eqb M 0) p (λ a. Value 0 p) (λ a. codeOf a p (bitLength M) (2 ^ bitLength M - M - 1)) (value-here p 0) (code-local p (bitLength M) (2 ^ bitLength M - M - 1))
