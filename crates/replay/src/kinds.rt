@@ -1,6 +1,7 @@
 // The kinds of stored answers. Each reads its next record and holds the proved function's answer to it.
-use crate::bytes::signed_at;
-use crate::payloads::entropy_agrees;
+use crate::numbers::holds_signed;
+use crate::numbers::number_at;
+use crate::numbers::part;
 
 // What a file holds.
 pub enum Kind {
@@ -10,7 +11,7 @@ pub enum Kind {
     Entropy,
 }
 
-// What became of the next record. One that is cut short differs.
+// What became of the next record.
 pub enum Step {
     Agrees,
     Differs,
@@ -18,10 +19,14 @@ pub enum Step {
 }
 
 fn told(agrees: bool) -> Step {
-    if agrees { Step::Agrees } else { Step::Differs }
+    if agrees {
+        Step::Agrees
+    } else {
+        Step::Differs
+    }
 }
 
-// Reads the record with this number and replays it.
+// Reads the record with this number and replays it. A record that is cut short ends the file.
 pub fn next(kind: Kind, fd: i32, record: u32) -> Step {
     match kind {
         Kind::LogWords => next_log_word(fd, record),
@@ -31,19 +36,24 @@ pub fn next(kind: Kind, fd: i32, record: u32) -> Step {
     }
 }
 
+// The log word with this 16-bit pattern.
+fn signed_word(pattern: u16) -> i16 {
+    if pattern < 0x8000 {
+        pattern as i16
+    } else {
+        !((!pattern) as i16)
+    }
+}
+
 // A log word's value; the word is the number of the record.
 fn next_log_word(fd: i32, record: u32) -> Step {
     let mut bytes = [0u8; 4];
     if io::read_full(fd, &mut bytes) < 4 {
         return Step::End;
     }
-    let word = record % 65536;
-    let value = logpack::expand_log_word((word % 256) as u8, (word / 256) as u8);
-    told(signed_at(&bytes, 0) == value)
-}
-
-fn widened(term: i8) -> i32 {
-    term as i32
+    let mut value = [0i32; 1];
+    let refusal = capi::wv_log_word(signed_word((record % 65536) as u16), &mut value);
+    told(refusal == 0 && holds_signed(&bytes, &value))
 }
 
 // A term byte's term and delta; the byte is the number of the record.
@@ -52,8 +62,9 @@ fn next_term_byte(fd: i32, record: u32) -> Step {
     if io::read_full(fd, &mut bytes) < 8 {
         return Step::End;
     }
-    let held = decorrelation::decode_term_byte((record % 256) as u8);
-    told(signed_at(&bytes, 0) == widened(held.term) && signed_at(&bytes, 4) == held.delta)
+    let mut out = [0i32; 2];
+    let refusal = capi::wv_term_byte((record % 256) as u8, &mut out);
+    told(refusal == 0 && holds_signed(&bytes, &out))
 }
 
 // A weight byte's weight; the byte is the number of the record.
@@ -62,14 +73,27 @@ fn next_weight_byte(fd: i32, record: u32) -> Step {
     if io::read_full(fd, &mut bytes) < 4 {
         return Step::End;
     }
-    told(signed_at(&bytes, 0) == decorrelation::expand_weight_byte((record % 256) as u8))
+    let mut out = [0i32; 1];
+    let refusal = capi::wv_weight_byte((record % 256) as u8, &mut out);
+    told(refusal == 0 && holds_signed(&bytes, &out))
 }
 
-// An entropy payload, its refusals and its medians.
+// Whether an entropy payload, of which a record of 48 bytes gives the length, is refused and expanded as stored.
+fn entropy_agrees(record: &[u8]) -> bool {
+    if record.len() < 48 {
+        return false;
+    }
+    let payload = &record[8..24];
+    let stored = &record[24..];
+    let mut medians = [0i32; 6];
+    let refusal = capi::wv_entropy(part(payload, number_at(record, 0)), &mut medians);
+    refusal == number_at(record, 1) && holds_signed(stored, &medians)
+}
+
 fn next_entropy(fd: i32) -> Step {
-    let mut bytes = [0u8; 52];
-    if io::read_full(fd, &mut bytes) < 52 {
+    let mut record = [0u8; 48];
+    if io::read_full(fd, &mut record) < 48 {
         return Step::End;
     }
-    told(entropy_agrees(&bytes))
+    told(entropy_agrees(&record))
 }

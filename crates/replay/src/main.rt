@@ -1,8 +1,7 @@
 // Replays the stored answers of the published Rust (data/, whose README says how they were made) through the proved
 // functions, and prints for each kind how many there are and how many agree.
-mod bytes;
 mod kinds;
-mod payloads;
+mod numbers;
 
 use kinds::Kind;
 use kinds::Step;

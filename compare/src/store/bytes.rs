@@ -1,0 +1,50 @@
+//! Log words, term and weight bytes, entropy payloads.
+use super::{Records, SEED};
+use crate::kinds::entropy::payload;
+use crate::random::Random;
+use reference::decorrelation::{decode_term_byte, expand_weights};
+use reference::entropy::expand_entropy;
+use reference::logpack::expand_log_word;
+
+/// The value of each log word, in the order of their 16-bit patterns.
+pub fn log_words() -> Records {
+    let mut out = Records::default();
+    for [lo, hi] in (0..=u16::MAX).map(u16::to_le_bytes) {
+        out.signed(&[expand_log_word(lo, hi)]);
+    }
+    out
+}
+
+/// The term and the delta of each byte.
+pub fn term_bytes() -> Records {
+    let mut out = Records::default();
+    for (term, delta) in (0..=u8::MAX).map(decode_term_byte) {
+        out.signed(&[i32::from(term), delta]);
+    }
+    out
+}
+
+/// The weight of each byte.
+pub fn weight_bytes() -> Records {
+    let mut out = Records::default();
+    let bytes: Vec<u8> = (0..=u8::MAX).collect();
+    out.signed(&expand_weights(&bytes).weights);
+    out
+}
+
+/// Entropy payloads: length, refusal, 16 bytes of which the first are the payload, six medians.
+pub fn entropy() -> Records {
+    let (random, mut out) = (&mut Random::new(SEED), Records::default());
+    for round in 0..640 {
+        let length = if round < 68 { round % 17 } else { random.pick(&[6, 12, 12]) };
+        let bytes = payload(random, length);
+        let (refusal, medians) = match expand_entropy(&bytes) {
+            Ok(info) => (0, [info.medians_left, info.medians_right].concat()),
+            Err(_) => (1, vec![0; 6]),
+        };
+        out.numbers(&[length as u32, refusal]);
+        out.bytes(&bytes, 16);
+        out.signed(&medians);
+    }
+    out
+}

@@ -1,0 +1,44 @@
+// The numbers of a stored record: four bytes each, the low one first; a signed one by its 32-bit pattern.
+
+fn number(a: u8, b: u8, c: u8, d: u8) -> u32 {
+    a as u32 + 256 * (b as u32) + 65536 * (c as u32) + 16777216 * (d as u32)
+}
+
+// The number with this index, 0 where the record ends before it.
+pub fn number_at(record: &[u8], index: usize) -> u32 {
+    if index < record.len() / 4 {
+        let at = 4 * index;
+        return number(record[at], record[at + 1], record[at + 2], record[at + 3]);
+    }
+    0
+}
+
+fn signed(number: u32) -> i32 {
+    wrapping::narrow(number as i64)
+}
+
+// The signed number with this index.
+pub fn signed_at(record: &[u8], index: usize) -> i32 {
+    signed(number_at(record, index))
+}
+
+// Whether the numbers of a record are those of a list.
+pub fn holds_signed(record: &[u8], list: &[i32]) -> bool {
+    let mut i = 0;
+    while i < list.len() {
+        if signed_at(record, i) != list[i] {
+            return false;
+        }
+        i += 1;
+    }
+    true
+}
+
+// The first bytes of a list, all of them where it has fewer.
+pub fn part(bytes: &[u8], length: u32) -> &[u8] {
+    let count = length as usize;
+    if count < bytes.len() {
+        return &bytes[..count];
+    }
+    bytes
+}
