@@ -19,11 +19,7 @@ pub enum Step {
 }
 
 fn told(agrees: bool) -> Step {
-    if agrees {
-        Step::Agrees
-    } else {
-        Step::Differs
-    }
+    if agrees { Step::Agrees } else { Step::Differs }
 }
 
 // Reads the record with this number and replays it. A record that is cut short ends the file.
