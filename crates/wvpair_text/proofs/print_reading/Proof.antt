@@ -2,7 +2,7 @@
 -- Assumes nothing.
 use mathlib.Core.Path.{_≡_, sym, ap, _∙_}
 use mathlib.Core.List.{List}
-use Prim.Native.Nat.{_-_, _*_, _≤_, _<_}
+use Prim.Native.Nat.{ℕ, _-_, _*_, _≤_, _<_}
 use native.Mathlib.Omega.{arith}
 use denote.Ref.{now}
 use lib.IntN.{ℤ, pos}
@@ -52,46 +52,65 @@ decode-packed-samples-stereo-from-entropy-requires :
     tie.Need-decode-packed-samples-stereo-from-entropy-requires
 decode-packed-samples-stereo-from-entropy-requires c κs = search needs
 
+-- once the words are read: the answer, the list that was lent, the input and its frames
+abbrev Read : Type 0
+Read = tie.After-decode-packed-samples-stereo-from-entropy
+
+abbrev answer : Read → ReadAnswer
+answer k = k .decode-packed-samples-stereo-from-entropy .result
+
+abbrev list : Read → List ℤ
+list k = k .decode-packed-samples-stereo-from-entropy .last .1 .1 .1 .0
+
+abbrev input : Read → List ℕ
+input k = now (k .before .before .before .before .before .before .before .args .input)
+
+abbrev frames : Read → ℕ
+frames k = k .before .before .before .before .before .before .before .args .frames
+
 -- what was read, by the reading definition
-known : (k : tie.After-decode-packed-samples-stereo-from-entropy) → readToldOf (k .decode-packed-samples-stereo-from-entropy .result) (k .decode-packed-samples-stereo-from-entropy .last .1 .1 .1 .0) ≡ readingOf (now (k .before .before .before .before .before .before .before .args .input))
+known : (k : Read) → readToldOf (answer k) (list k) ≡ readingOf (input k)
 known k =
     let s = k .before .before .before .before .before .before .before in
-    let input = now (s .args .input) in
-    let n = 2 * s .args .frames in
-    let zeros : take n (k .before .before .before .before .silence .result) ≡ replicate n (pos 0) = rw (k .before .before .before .before .silence .ensures) (take-replicate n 2048 (pos 0) (omega arith)) in
-    let rest : take (length input - 14) (drop 14 input) ≡ drop 14 input = take-all (length input - 14) (drop 14 input) (omega (arith, length-drop 14 input)) in
+    let n = 2 * frames k in
+    let zeros : take n (k .before .before .before .before .silence .result) ≡ replicate n (pos 0) =
+    ap (take n) (k .before .before .before .before .silence .ensures) ∙ take-replicate n 2048 (pos 0) (omega arith) in
+    let rest : take (length (input k) - 14) (drop 14 (input k)) ≡ drop 14 (input k) =
+    take-all (length (input k) - 14) (drop 14 (input k)) (omega (arith, length-drop 14 (input k))) in
     rw (zeros, rest, s .pre .1 .0 .0) at (k .decode-packed-samples-stereo-from-entropy .ensures)
 
 -- what was read is small
-record Room (r : ReadAnswer) (list : List ℤ) : Type 0 where
+record Room (r : ReadAnswer) (frames : ℕ) (list : List ℤ) : Type 0 where
   within : r .written ≤ length list
-  lent : length list ≤ 2048
+  lent : length list ≡ 2 * frames
+  most : frames ≤ 1024
   refusal : outcomeNumber (r .outcome) < 10
   bits : r .bits < 1000000
 
-room : (k : tie.After-decode-packed-samples-stereo-from-entropy) → Room (k .decode-packed-samples-stereo-from-entropy .result) (k .decode-packed-samples-stereo-from-entropy .last .1 .1 .1 .0)
+room : (k : Read) → Room (answer k) (frames k) (list k)
 room k =
     let s = k .before .before .before .before .before .before .before in
-    let r = k .decode-packed-samples-stereo-from-entropy .result in
-    let input = now (s .args .input) in
-    let n = 2 * s .args .frames in
-    let l : length (k .decode-packed-samples-stereo-from-entropy .last .1 .1 .1 .0) ≡ n = k .decode-packed-samples-stereo-from-entropy .kept .1 .1 .1 .0 ∙ length-take-le n (k .before .before .before .before .silence .result) (omega (arith, ap length (k .before .before .before .before .silence .ensures))) in
-    let e = reading-small input in
-    let w : r .written ≡ readingOf input .written = ap (λ (t : ReadTold). t .written) (known k) in
-    let c : outcomeNumber (r .outcome) ≡ readingOf input .refusal = ap (λ (t : ReadTold). t .refusal) (known k) in
-    let b : r .bits ≡ readingOf input .bits = ap (λ (t : ReadTold). t .bits) (known k) in
+    let zeros = k .before .before .before .before .silence in
+    let part : length (take (2 * frames k) (zeros .result)) ≡ 2 * frames k = length-take-le (2 * frames k) (zeros .result) (omega (arith, ap length (zeros .ensures))) in
+    let e = reading-small (input k) in
+    let w : answer k .written ≡ readingOf (input k) .written = ap (λ (t : ReadTold). t .written) (known k) in
+    let c : outcomeNumber (answer k .outcome) ≡ readingOf (input k) .refusal = ap (λ (t : ReadTold). t .refusal) (known k) in
+    let b : answer k .bits ≡ readingOf (input k) .bits = ap (λ (t : ReadTold). t .bits) (known k) in
+    let l : length (list k) ≡ 2 * frames k = k .decode-packed-samples-stereo-from-entropy .kept .1 .1 .1 .0 ∙ part in
     record {
       within = omega (arith, e .written, s .pre .1 .0 .0);
-      lent = omega (arith, s .pre .1 .0 .1);
+      lent = l;
+      most = s .pre .1 .0 .1;
       refusal = omega (arith, e .refusal);
-      bits = omega (arith, e .bits, length-drop 14 input, s .pre .0 .1);
+      bits = omega (arith, e .bits, length-drop 14 (input k), s .pre .0 .1);
     }
 
 -- the `end` line of what was read is short
-end : (c : tie.After-outcome-number) → length (endLine (c .outcome-number .result) (c .before .before .before .before .decode-packed-samples-stereo-from-entropy .result .bits)) ≤ 18
+end : (c : tie.After-outcome-number) → length (endLine (c .outcome-number .result) (answer (c .before .before .before .before) .bits)) ≤ 18
 end c =
-    let r = room (c .before .before .before .before) in
-    end-short (c .outcome-number .result) (c .before .before .before .before .decode-packed-samples-stereo-from-entropy .result .bits) (omega (arith, c .outcome-number .ensures, r .refusal)) (r .bits)
+    let k = c .before .before .before .before in
+    let r = room k in
+    end-short (c .outcome-number .result) (answer k .bits) (omega (arith, c .outcome-number .ensures, r .refusal)) (r .bits)
 
 array-share-prefix-samples : tie.Need-array-share-prefix-samples
 array-share-prefix-samples c = let r = room (c .before .before) in simp length-append (omega arith)
@@ -105,7 +124,7 @@ outcome-number-requires c κs = search needs
 put-report-requires : tie.Need-put-report-requires
 put-report-requires c κs =
     let r = room (c .before .before .before .before) in
-    simp (length-take, length-append) (omega (arith, c .before .before .before .before .before .before .before .before .before .before .before .pre .1 .1, r .within, r .lent, end c))
+    simp (length-take, length-append) (omega (arith, c .before .before .before .before .before .before .before .before .before .before .before .pre .1 .1, r .within, r .lent, r .most, end c))
 
 same-length : tie.Need-same-length
 same-length c = search needs
@@ -113,9 +132,7 @@ same-length c = search needs
 returns : tie.Need-returns
 returns c =
     let k = c .before .before .before .before .before .before .before in
-    let r = room k in
-    let input = now (c .before .before .before .before .before .before .before .before .before .before .before .before .before .before .args .input) in
-    rw (printed-told (readingOf input) (k .decode-packed-samples-stereo-from-entropy .result) (k .decode-packed-samples-stereo-from-entropy .last .1 .1 .1 .0) _ _ (known k) (r .within) (c .before .before .before .outcome-number .ensures)) at (c .before .before .put-report .ensures)
+    rw (printed-told (readingOf (input k)) (answer k) (list k) _ _ (known k) (room k .within) (c .before .before .before .outcome-number .ensures)) at (c .before .before .put-report .ensures)
 
 pub print-reading-spec : {M : Type 1} → statement M
 print-reading-spec =
