@@ -1,11 +1,10 @@
 pub mod Cases
 pub mod DecimalLaws
-pub mod FieldBounds
 pub mod LineLaws
 pub mod PlacedLaws
-pub mod ReadingBounds
 pub mod ReadingLaws
 pub mod ShortLaws
 pub mod SignLaws
 pub mod StarredLaws
 pub mod TextLaws
+pub mod WordBounds

@@ -1,4 +1,4 @@
--- What is printed of a reading whose samples stand first in a longer list.
+-- What a reading tells of an input: small numbers, and samples that stand first in a longer list.
 -- Assumes nothing.
 use mathlib.Core.Path.{_≡_, refl, ap}
 use mathlib.Core.Bool.{Bool, true, false, cond, _||_}
@@ -15,13 +15,14 @@ use Rattle.bits.specs.Bits.{bitsOf}
 use Rattle.bits.proofs.BitLaws.{length-bits}
 use Rattle.entropy.specs.Entropy.{entropyInfo, entropyRefusal}
 use Rattle.entropy.specs.Seed.{notStereo, orElse, seedRefusal, seedMedians}
+use Rattle.samples.proofs.LocalLaws.{reading-inside}
 use Rattle.samples.specs.Reading.{Reading, reading}
 use Rattle.samples.specs.State.{start}
 use Rattle.samples.specs.View.{ReadTold, readToldOf, toldReading, readRefusal, unlessRefused, readEntry}
 use Rattle.samples.specs.declared.ReadAnswer.{ReadAnswer}
 use Rattle.wvpair_text.specs.Lines.{report}
 use Rattle.wvpair_text.specs.Text.{frameCount, payloadOf, printed, readingOf}
-use Rattle.wvpair_text.proofs.ReadingBounds.{reading-end}
+use Rattle.wvpair_text.proofs.WordBounds.{small-reading}
 
 -- the first of many zeros are fewer zeros
 pub take-replicate : (n m : ℕ) (v : ℤ) → n ≤ m → take n (replicate m v) ≡ replicate n v
@@ -67,12 +68,14 @@ told-small entropy payload frames list = go (readRefusal entropy payload frames 
 
     go : (c : ℕ) → c ≤ 6 → Small (length payload) frames (unlessRefused list c (toldReading list r))
     go zero h =
-        let e = reading-end (bitsOf payload) (2 * frames) 0 (start (seedMedians entropy .left) (seedMedians entropy .right)) in
+        let first = start (seedMedians entropy .left) (seedMedians entropy .right) in
+        let e = small-reading (bitsOf payload) (2 * frames) 0 first in
+        let inside = reading-inside (bitsOf payload) (2 * frames) 0 first (omega arith) in
         record {
           written = e .most;
-          samples = λ i. rw (take-append-seam (r .samples) (drop (length (r .samples)) list)) (e .small i);
+          samples = λ i. rw (take-append-seam (r .samples) (drop (length (r .samples)) list)) (e .samples i);
           refusal = omega (arith, e .refusal);
-          bits = omega (arith, e .place, length-bits payload);
+          bits = omega (arith, inside, length-bits payload);
         }
     go (suc c) h = record { written = omega arith; samples = λ i. omega arith; refusal = omega arith; bits = omega arith }
 
