@@ -5,7 +5,7 @@ use Prim.Native.Nat.{ℕ, zero, suc, _+_, _-_, _*_, _%_, _≤_, _<_, max}
 use native.Mathlib.Nat.{mul-le-mul}
 use native.Mathlib.Omega.{arith}
 use Rattle.entropy.specs.Medians.{Medians}
-use Rattle.medians.specs.Interval.{g, base, width, wrapped, lowOf, highOf}
+use Rattle.medians.specs.Interval.{g, base, width, wrapped, lowOf, highOf, IntervalIs}
 
 -- the clauses for a count of 2 or more, at a count that is known only by its order
 pub base-many : (m : Medians) (k a b c n : ℕ) → 2 ≤ k → a ≡ g (m .m0) → b ≡ g (m .m1) → n ≡ k - 2 → c ≡ g (m .m2) → a + b + n * c ≡ base m k
@@ -45,7 +45,14 @@ pub cut-high : (b h : ℕ) → b % 2147483648 ≤ h % 2147483648 → (b % 214748
 cut-high b h l = (sym (wrap-is b), rw (wrap-is b, wrap-is h) (max-right (b % 2147483648) (h % 2147483648) l))
 
 -- an interval is told by its start and its width
-pub interval-is : (m : Medians) (k b w low high : ℕ) → b ≡ base m k → w ≡ width m k → low ≡ wrapped b → high ≡ max (wrapped b) (wrapped (b + w - 1))
-    → (low ≡ lowOf m k) × (high ≡ highOf m k)
+pub interval-is : (m : Medians) (k b w low high : ℕ) → b ≡ base m k → w ≡ width m k → (0 < w) × (w ≤ 268435456) → low ≡ wrapped b → high ≡ max (wrapped b) (wrapped (b + w - 1))
+    → IntervalIs m k low high
 unfolding lowOf highOf
-interval-is m k b w low high e f l h = (l ∙ ap (λ (x : ℕ). wrapped x) e, h ∙ ap₂ (λ (x y : ℕ). max (wrapped x) (wrapped (x + y - 1))) e f)
+interval-is m k b w low high e f n l h =
+    let n' = rw f at n in
+    record {
+      low-is = l ∙ ap (λ (x : ℕ). wrapped x) e;
+      high-is = h ∙ ap₂ (λ (x y : ℕ). max (wrapped x) (wrapped (x + y - 1))) e f;
+      some = n' .0;
+      most = n' .1;
+    }

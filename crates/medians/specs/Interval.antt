@@ -1,6 +1,7 @@
 -- Document 01, "One word", the interval of a count k (I1, I2, I3): where it starts, how wide it is, and its low and high ends.
 -- Assumes nothing.
-use Prim.Native.Nat.{ℕ, zero, suc, _+_, _-_, _*_, _/_, _%_, max}
+use mathlib.Core.Path.{_≡_}
+use Prim.Native.Nat.{ℕ, zero, suc, _+_, _-_, _*_, _/_, _%_, _≤_, _<_, max}
 use Rattle.entropy.specs.Medians.{Medians}
 
 -- document 01 (I1): "g_i = median_i div 16 + 1"
@@ -28,3 +29,10 @@ lowOf m k = wrapped (base m k)
 -- document 01 (I3): "high below low becomes low"
 unfoldable pub highOf : Medians → ℕ → ℕ
 highOf m k = max (wrapped (base m k)) (wrapped (base m k + width m k - 1))
+
+-- low and high are the ends of the interval of k; and its width, of medians of 32 bits, has 28 bits
+pub record IntervalIs (m : Medians) (k low high : ℕ) : Type 0 where
+  pub low-is : low ≡ lowOf m k
+  pub high-is : high ≡ highOf m k
+  pub some : 0 < width m k
+  pub most : width m k ≤ 268435456

@@ -2,7 +2,7 @@
 ghost use mathlib.Core.Path.{_≡_};
 ghost use Prim.Native.Nat.{_+_, _-_, _≤_, _<_, max};
 ghost use Rattle.entropy.specs.Medians.{mediansOf};
-ghost use Rattle.medians.specs.Interval.{g, wrapped, lowOf, highOf};
+ghost use Rattle.medians.specs.Interval.{g, wrapped, IntervalIs};
 use entropy::AdaptiveMedians;
 
 // The interval of a count: its first and its last number.
@@ -39,7 +39,7 @@ fn cut(base: u64, width: u64) -> SampleInterval
 
 // The interval of the count `ones_count`. Refuses nothing.
 pub fn sample_interval(medians: AdaptiveMedians, ones_count: u32) -> SampleInterval
-    ensures { λ r. ⌜ (r .low ≡ lowOf (mediansOf medians) «ones_count») × (r .high ≡ highOf (mediansOf medians) «ones_count») ⌝ }
+    ensures { λ r. ⌜ IntervalIs (mediansOf medians) «ones_count» (r .low) (r .high) ⌝ }
 {
     let values = medians.values;
     if ones_count == 0 {

@@ -46,7 +46,6 @@ abbrev pub runRead : State → Bool
 runRead s = eligible (s .left .m0) (s .right .m0) (s .runBreak) (s .lastZero) (s .lastOne)
 
 -- a run that starts here, or the place of steps 3 and 4
-
 abbrev pub runWord : List Bool → State → ZeroRun → Word
 runWord bits s (ZeroRun.Run d q) = given (pos 0) q (inRun d s) none
 runWord bits s (ZeroRun.Word q) = plain bits q (unbroken s)

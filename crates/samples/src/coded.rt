@@ -1,9 +1,7 @@
 // Implements document 01, "One word", steps 2 to 4, from numbers alone: the payload, the place, the medians due and the two flags.
 // No part hands a whole state on, which would cost more than the reading itself; and each part is called at one place of the next.
 ghost use mathlib.Core.Path.{_≡_};
-ghost use mathlib.Core.Bool.{not, _&&_};
-ghost use Prim.Native.Nat.{_+_, _%_, _≤_, _<_};
-ghost use lib.Dec.{leb};
+ghost use Prim.Native.Nat.{_%_, _≤_, _<_};
 ghost use lib.ListN.{length};
 ghost use Rattle.bits.specs.Bits.{bitsOf, val, bitOf};
 ghost use Rattle.entropy.specs.Medians.{mediansOf};
@@ -124,7 +122,7 @@ fn read_folded_ones_count(
 }
 
 // Whether step 2 reads a run length, from the medians of both channels and what the words before left.
-pub fn zero_run_eligible(
+pub(crate) fn zero_run_eligible(
     left_set: AdaptiveMedians,
     right_set: AdaptiveMedians,
     run_break: bool,
@@ -205,7 +203,7 @@ fn read_coded(
 }
 
 // Steps 2 to 4: a word where no zero is owed.
-pub fn read_word(
+pub(crate) fn read_word(
     payload: &[u8],
     place: usize,
     eligible: bool,

@@ -48,7 +48,7 @@ fn stopped(
 }
 
 // Words into all of `out`, the first of them for the left channel. What it holds behind a refused word stays.
-pub fn decode_packed_samples_stereo(
+fn decode_packed_samples_stereo(
     payload: &[u8],
     seeds: [AdaptiveMedians; 2],
     out: &mut [i32],

@@ -21,7 +21,7 @@ returns : tie.Need-returns
 returns c =
     let a = c .before .before .before .before .args in
     let e : a .ones-count ≡ 0 = omega arith in
-    rw e (interval-is (mediansOf (a .medians)) 0 _ _ _ _ refl (c .before .get-med .ensures .0) (c .cut .ensures .0) (c .cut .ensures .1))
+    rw e (interval-is (mediansOf (a .medians)) 0 _ _ _ _ refl (c .before .get-med .ensures .0) (omega arith) (c .cut .ensures .0) (c .cut .ensures .1))
 
 array-read-get-med-2 : tie.Need-array-read-get-med-2
 array-read-get-med-2 c = search needs
@@ -42,7 +42,7 @@ returns-2 : tie.Need-returns-2
 returns-2 c =
     let a = c .before .before .before .before .before .before .args in
     let e : a .ones-count ≡ 1 = omega arith in
-    rw e (interval-is (mediansOf (a .medians)) 1 _ _ _ _ (c .before .before .get-med2 .ensures .0) (c .before .get-med3 .ensures .0) (c .cut2 .ensures .0) (c .cut2 .ensures .1))
+    rw e (interval-is (mediansOf (a .medians)) 1 _ _ _ _ (c .before .before .get-med2 .ensures .0) (c .before .get-med3 .ensures .0) (omega arith) (c .cut2 .ensures .0) (c .cut2 .ensures .1))
 
 array-read-get-med-4 : tie.Need-array-read-get-med-4
 array-read-get-med-4 c = search needs
@@ -87,7 +87,7 @@ returns-3 c =
     let m = mediansOf (a .medians) in
     let w = c .before .before .before .before .get-med4 .ensures .0 in
     let b = base-many m k _ _ _ _ (omega arith) (c .before .before .before .get-med5 .ensures .0) (c .before .before .get-med6 .ensures .0) (c .before .wide .ensures) w in
-    interval-is m k _ _ _ _ b (w ∙ sym (width-many m k (omega arith))) (c .cut3 .ensures .0) (c .cut3 .ensures .1)
+    interval-is m k _ _ _ _ b (w ∙ sym (width-many m k (omega arith))) (omega arith) (c .cut3 .ensures .0) (c .cut3 .ensures .1)
 
 pub sample-interval-spec : {M : Type 1} → statement M
 sample-interval-spec =

@@ -28,7 +28,7 @@ ordered : (c : tie.After-struct-known) →
 ordered c =
     let a = c .before .before .before .args in
     let e = c .before .sample-interval .ensures in
-    rw (e .0, e .1) (ends (mediansOf (a .medians)) (a .ones-count))
+    rw (e .low-is, e .high-is) (ends (mediansOf (a .medians)) (a .ones-count))
 
 code-is : (c : tie.After-code) →
     let a = c .before .before .before .before .before .before .args in
@@ -66,7 +66,7 @@ returns c =
     let k = c .before .before .before in
     let a = k .before .before .before .args in
     let e = k .before .sample-interval .ensures in
-    value-no-code (bitsOf (now (a .payload))) (a .place) (a .ones-count) (mediansOf (a .medians)) _ _ (e .0) (e .1)
+    value-no-code (bitsOf (now (a .payload))) (a .place) (a .ones-count) (mediansOf (a .medians)) _ _ (e .low-is) (e .high-is)
     (sym (c .before .before .read-truncated-binary .ensures) ∙ c .enum-told .given .1)
 
 get-bit-requires : tie.Need-get-bit-requires
@@ -84,7 +84,7 @@ returns-2 c =
     let k = d .before .before .before in
     let a = k .before .before .before .args in
     let e = k .before .sample-interval .ensures in
-    value-no-sign (bitsOf (now (a .payload))) (a .place) (a .ones-count) (mediansOf (a .medians)) _ _ (e .0) (e .1) _ _ (code-is d)
+    value-no-sign (bitsOf (now (a .payload))) (a .place) (a .ones-count) (mediansOf (a .medians)) _ _ (e .low-is) (e .high-is) _ _ (code-is d)
     (sym (c .before .before .get-bit .ensures) ∙ c .enum-told2 .given .1)
 
 add-apply-sign : tie.Need-add-apply-sign
@@ -101,7 +101,7 @@ returns-3 c =
     let e = k .before .sample-interval .ensures in
     let f : SFits w32 (c .apply-sign .result) = search needs in
     rw (toZ-ofZ f, c .apply-sign .ensures)
-    (value-read (bitsOf (now (a .payload))) (a .place) (a .ones-count) (mediansOf (a .medians)) _ _ (e .0) (e .1) _ _ _ _ (code-is d) (sign-is (c .before .before)))
+    (value-read (bitsOf (now (a .payload))) (a .place) (a .ones-count) (mediansOf (a .medians)) _ _ (e .low-is) (e .high-is) _ _ _ _ (code-is d) (sign-is (c .before .before)))
 
 pub decode-signed-value-spec : {M : Type 1} → statement M
 decode-signed-value-spec =
