@@ -5,15 +5,15 @@ use mathlib.Core.List.{List}
 use Prim.Native.Nat.{ℕ, _+_, _<_}
 use lib.IntN.{ℤ, pos}
 use lib.ListN.{length, getD, set, take, drop}
-use mir.Syntax.{w8, w32}
-use mir.Val.{SFits, toZ, ofZ}
+use mir.Syntax.{w32}
+use mir.Val.{SFits}
 use mir.ValLaws.{toZ-ofZ}
 use Rattle.wrapping.proofs.ReadBack.{reread}
 use Rattle.passes.specs.Step.{Stepped, step, unstep, advanced}
 use Rattle.passes.specs.Run.{Run, run, turn}
 use Rattle.passes.specs.declared.DecorrPass.{DecorrPass}
 use Rattle.passes.proofs.LoopLaws.{joined, turn-raw}
-use Rattle.pass_runs.specs.Turns.{turned, eitherOf, crossTerm, crossAt}
+use Rattle.pass_runs.specs.Turns.{turned, eitherOf, crossTerm, lagAt, crossAt}
 use Rattle.pass_runs.specs.declared.Turned.{Turned}
 use Rattle.pass_runs.proofs.TurnLaws.{head-back, head-set}
 
@@ -65,14 +65,13 @@ cross-start false p {U} {W} {K} eu ev ek ha hb fa fb fc fd fu fv fk =
 pub cross-end : (f : Bool) (p : DecorrPass) (u v k : ℤ) {U W A B : ℤ}
     → A ≡ eitherOf f k (reread (getD (p .«history_a») 0 (pos 0))) → B ≡ eitherOf f (reread (getD (p .«history_b») 0 (pos 0))) k → U ≡ eitherOf f u v → W ≡ eitherOf f v u
     → 0 < length (p .«history_a») → 0 < length (p .«history_b»)
-    → SFits w8 (p .term) → SFits w32 (p .delta) → SFits w32 (getD (p .«history_a») 0 (pos 0)) → SFits w32 (getD (p .«history_b») 0 (pos 0))
+    → SFits w32 (getD (p .«history_a») 0 (pos 0)) → SFits w32 (getD (p .«history_b») 0 (pos 0))
     → SFits w32 A → SFits w32 B → SFits w32 U → SFits w32 W
-    → _≡_ {A = DecorrPass} (record { term = toZ w8 (ofZ w8 (p .term)); delta = reread (p .delta); «weight_a» = reread U; «weight_b» = reread W; «history_a» = set (p .«history_a») 0 (reread A); «history_b» = set (p .«history_b») 0 (reread B) })
-    (crossAt f p u v k)
-cross-end true p u v k {U} {W} {A} {B} ea eb eu ev ha hb ft fd fa fb f1 f2 f3 f4 =
-    rw (toZ-ofZ w8 _ ft, toZ-ofZ w32 _ fd, toZ-ofZ w32 A f1, toZ-ofZ w32 B f2, toZ-ofZ w32 U f3, toZ-ofZ w32 W f4, ea, eb, eu, ev, toZ-ofZ w32 _ fa, head-set (p .«history_a») _ ha, head-back (p .«history_a») ha, head-set (p .«history_b») _ hb)
-cross-end false p u v k {U} {W} {A} {B} ea eb eu ev ha hb ft fd fa fb f1 f2 f3 f4 =
-    rw (toZ-ofZ w8 _ ft, toZ-ofZ w32 _ fd, toZ-ofZ w32 A f1, toZ-ofZ w32 B f2, toZ-ofZ w32 U f3, toZ-ofZ w32 W f4, ea, eb, eu, ev, toZ-ofZ w32 _ fb, head-set (p .«history_b») _ hb, head-back (p .«history_b») hb, head-set (p .«history_a») _ ha)
+    → lagAt p (reread U) (reread W) (set (p .«history_a») 0 (reread A)) (set (p .«history_b») 0 (reread B)) ≡ crossAt f p u v k
+cross-end true p u v k {U} {W} {A} {B} ea eb eu ev ha hb fa fb f1 f2 f3 f4 =
+    rw (toZ-ofZ w32 A f1, toZ-ofZ w32 B f2, toZ-ofZ w32 U f3, toZ-ofZ w32 W f4, ea, eb, eu, ev, toZ-ofZ w32 _ fa, head-set (p .«history_a») _ ha, head-back (p .«history_a») ha, head-set (p .«history_b») _ hb)
+cross-end false p u v k {U} {W} {A} {B} ea eb eu ev ha hb fa fb f1 f2 f3 f4 =
+    rw (toZ-ofZ w32 A f1, toZ-ofZ w32 B f2, toZ-ofZ w32 U f3, toZ-ofZ w32 W f4, ea, eb, eu, ev, toZ-ofZ w32 _ fb, head-set (p .«history_b») _ hb, head-back (p .«history_b») hb, head-set (p .«history_a») _ ha)
 
 -- what the loop leaves
 abbrev pub leaves : List ℤ → DecorrPass → Run

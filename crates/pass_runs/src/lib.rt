@@ -8,7 +8,7 @@ ghost use mathlib.Core.Path.{_≡_};
 ghost use mathlib.Core.Bool.{true, false};
 ghost use Rattle.passes.specs.Run.{run, turn, passed};
 ghost use Rattle.passes.specs.declared.Term.the-variants.{Lag, MinusThree};
-ghost use Rattle.pass_runs.specs.Turns.{turned, twoSource, eitherOf, twoTerm, crossTerm};
+ghost use Rattle.pass_runs.specs.Turns.{turned, twoSource, eitherOf, twoTerm, crossTerm, lagAt};
 use passes::DecorrPass;
 use passes::Term;
 
@@ -79,6 +79,26 @@ pub fn either(second: bool, x: i32, y: i32) -> i32
     if second { y } else { x }
 }
 
+// A pass with other weights and histories.
+pub fn with_state(
+    pass: DecorrPass,
+    weight_a: i32,
+    weight_b: i32,
+    history_a: [i32; 8],
+    history_b: [i32; 8],
+) -> DecorrPass
+    ensures { λ r. ⌜ r ≡ lagAt pass «weight_a» «weight_b» «history_a» «history_b» ⌝ }
+{
+    DecorrPass {
+        term: pass.term,
+        delta: pass.delta,
+        weight_a: weight_a,
+        weight_b: weight_b,
+        history_a: history_a,
+        history_b: history_b,
+    }
+}
+
 // A fixed lag.
 pub fn run_lag(analysis: bool, lag: usize, start: DecorrPass, buffer: &mut [i32]) -> DecorrPass
     ensures { λ r. ⌜ record { pass = r; buffer = now (buffer .exit) } ≡ run (turn analysis (Lag lag)) start 0 (now (buffer .entry)) ⌝ }
@@ -108,14 +128,7 @@ pub fn run_lag(analysis: bool, lag: usize, start: DecorrPass, buffer: &mut [i32]
         i += 2;
         index += 1;
     }
-    DecorrPass {
-        term: start.term,
-        delta: delta,
-        weight_a: weight_a,
-        weight_b: weight_b,
-        history_a: history_a,
-        history_b: history_b,
-    }
+    with_state(start, weight_a, weight_b, history_a, history_b)
 }
 
 // Terms 17 and 18: both channels from their own last two samples.
@@ -134,20 +147,10 @@ pub fn run_two(analysis: bool, eighteen: bool, start: DecorrPass, buffer: &mut [
     let mut index: usize = 0;
     let mut i: usize = 0;
     while buffer.len() - i > 1 {
-        let a = turn_plain(
-            analysis,
-            weight_a,
-            delta,
-            two_source(eighteen, a0, a1),
-            buffer[i],
-        );
-        let b = turn_plain(
-            analysis,
-            weight_b,
-            delta,
-            two_source(eighteen, b0, b1),
-            buffer[i + 1],
-        );
+        let source_a = two_source(eighteen, a0, a1);
+        let a = turn_plain(analysis, weight_a, delta, source_a, buffer[i]);
+        let source_b = two_source(eighteen, b0, b1);
+        let b = turn_plain(analysis, weight_b, delta, source_b, buffer[i + 1]);
         let out_a = a.element;
         let out_b = b.element;
         buffer[i] = out_a;
@@ -165,14 +168,7 @@ pub fn run_two(analysis: bool, eighteen: bool, start: DecorrPass, buffer: &mut [
     history_a[1] = a1;
     history_b[0] = b0;
     history_b[1] = b1;
-    DecorrPass {
-        term: start.term,
-        delta: delta,
-        weight_a: weight_a,
-        weight_b: weight_b,
-        history_a: history_a,
-        history_b: history_b,
-    }
+    with_state(start, weight_a, weight_b, history_a, history_b)
 }
 
 // Terms -1 and -2: one channel from the last sample of the other, the other from this frame's. For -2 the channels change
@@ -191,14 +187,10 @@ pub fn run_cross(analysis: bool, second: bool, start: DecorrPass, buffer: &mut [
     while buffer.len() - i > 1 {
         let in_a = buffer[i];
         let in_b = buffer[i + 1];
-        let one = turn_clip(analysis, weight, delta, last, either(second, in_a, in_b));
-        let two = turn_clip(
-            analysis,
-            other,
-            delta,
-            one.sample,
-            either(second, in_b, in_a),
-        );
+        let in_one = either(second, in_a, in_b);
+        let one = turn_clip(analysis, weight, delta, last, in_one);
+        let in_two = either(second, in_b, in_a);
+        let two = turn_clip(analysis, other, delta, one.sample, in_two);
         let out_a = either(second, one.element, two.element);
         let out_b = either(second, two.element, one.element);
         buffer[i] = out_a;
@@ -213,14 +205,9 @@ pub fn run_cross(analysis: bool, second: bool, start: DecorrPass, buffer: &mut [
     let last_b = either(second, history_b[0], last);
     history_a[0] = last_a;
     history_b[0] = last_b;
-    DecorrPass {
-        term: start.term,
-        delta: delta,
-        weight_a: either(second, weight, other),
-        weight_b: either(second, other, weight),
-        history_a: history_a,
-        history_b: history_b,
-    }
+    let weight_a = either(second, weight, other);
+    let weight_b = either(second, other, weight);
+    with_state(start, weight_a, weight_b, history_a, history_b)
 }
 
 // Term -3: each channel from the last sample of the other.
@@ -252,14 +239,7 @@ pub fn run_swap(analysis: bool, start: DecorrPass, buffer: &mut [i32]) -> Decorr
     }
     history_a[0] = last_a;
     history_b[0] = last_b;
-    DecorrPass {
-        term: start.term,
-        delta: delta,
-        weight_a: weight_a,
-        weight_b: weight_b,
-        history_a: history_a,
-        history_b: history_b,
-    }
+    with_state(start, weight_a, weight_b, history_a, history_b)
 }
 
 // One pass over a buffer, by its term. A term that is not valid is run as a lag of 0; no entry runs one.

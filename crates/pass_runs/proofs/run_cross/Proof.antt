@@ -149,6 +149,9 @@ either-requires-10 c κs = search needs
 either-requires-11 : tie.Need-either-requires-11 Inv-loop μ-loop
 either-requires-11 c κs = search needs
 
+with-state-requires : tie.Need-with-state-requires Inv-loop μ-loop
+with-state-requires c κs = search needs
+
 same-length : tie.Need-same-length Inv-loop μ-loop
 same-length c = omega arith
 
@@ -161,7 +164,7 @@ returns c =
     let la : length (p .«history_a») ≡ 8 = simp length-map at (g .1 .1 .1 .1 .1 .1 .0 .1 .0 .1) in
     let lb : length (p .«history_b») ≡ 8 = simp length-map at (g .1 .1 .1 .1 .1 .1 .1 .0 .1 .0 .1) in
     ap (leaves (t .loop .buffer))
-    (cross-end (s .args .second) p (toZ w32 (t .loop .weight)) (toZ w32 (t .loop .other)) (toZ w32 (t .loop .last)) (c .before .before .before .before .before .either8 .ensures) (c .before .before .before .either9 .ensures) (c .before .before .either10 .ensures) (c .before .either11 .ensures) (omega (arith, la)) (omega (arith, lb)) (search (needs, g)) (search (needs, g)) (search (needs, c .before .before .before .before .before .before .either-arg3 .given)) (search (needs, c .before .before .before .before .either-arg4 .given)) (search needs) (search needs) (search needs) (search needs))
+    (c .with-state .ensures ∙ cross-end (s .args .second) p (toZ w32 (t .loop .weight)) (toZ w32 (t .loop .other)) (toZ w32 (t .loop .last)) (c .before .before .before .before .before .either8 .ensures) (c .before .before .before .either9 .ensures) (c .before .before .either10 .ensures) (c .before .either11 .ensures) (omega (arith, la)) (omega (arith, lb)) (search (needs, c .before .before .before .before .before .before .either-arg3 .given)) (search (needs, c .before .before .before .before .either-arg4 .given)) (search needs) (search needs) (search needs) (search needs))
     ∙ sym (no-turn (turn (s .args .analysis) (crossTerm (s .args .second))) _ (t .loop .index) (t .loop .i) (t .loop .buffer) (omega (arith, t)) (omega (arith, c .before .before .before .before .before .before .before))) ∙ t .loop .inv .3
 
 pub run-cross-spec : {M : Type 1} → statement M
@@ -205,5 +208,6 @@ run-cross-spec =
     array-set-from-history-b
     either-requires-10
     either-requires-11
+    with-state-requires
     same-length
     returns)

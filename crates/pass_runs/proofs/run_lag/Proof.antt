@@ -122,6 +122,9 @@ loop-again c =
           (search (needs, c .before .before .before .before .before .before .before .before .before .turn-plain)) (search (needs, c .before .before .before .before .before .before .before .before .before .turn-plain)) (search (needs, c .before .before .before .before .before .before .before .before .before .turn-plain)) (search (needs, c .before .before .before .before .before .before .turn-plain2)) (search (needs, c .before .before .before .before .before .before .turn-plain2)) (search (needs, c .before .before .before .before .before .before .turn-plain2)),
     )
 
+with-state-requires : tie.Need-with-state-requires Inv-loop μ-loop
+with-state-requires c κs = search needs
+
 same-length : tie.Need-same-length Inv-loop μ-loop
 same-length c = omega arith
 
@@ -129,9 +132,7 @@ returns : tie.Need-returns Inv-loop μ-loop
 returns c =
     let t = c .before .before in
     let s = c .before .before .before .before .before .before .before .before in
-    let p = s .args .start in
-    let g = s .good .1 .1 .0 in
-    rw (toZ-ofZ w8 (p .term) (search (needs, g)), toZ-ofZ w32 (p .delta) (search (needs, g)))
+    rw (c .with-state .ensures)
     (sym (no-turn (turn (s .args .analysis) (Lag (s .args .lag))) _ (t .loop .index) (t .loop .i) (t .loop .buffer) (omega arith) (omega arith)) ∙ t .loop .inv .3)
 
 pub run-lag-spec : {M : Type 1} → statement M
@@ -167,5 +168,6 @@ run-lag-spec =
     add-index
     loop-less
     loop-again
+    with-state-requires
     same-length
     returns)

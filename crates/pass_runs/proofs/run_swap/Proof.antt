@@ -109,6 +109,9 @@ array-set-from-history-a c = omega arith
 array-set-from-history-b : tie.Need-array-set-from-history-b Inv-loop μ-loop
 array-set-from-history-b c = omega arith
 
+with-state-requires : tie.Need-with-state-requires Inv-loop μ-loop
+with-state-requires c κs = search needs
+
 same-length : tie.Need-same-length Inv-loop μ-loop
 same-length c = omega arith
 
@@ -119,7 +122,7 @@ returns c =
     let g = c .before .before .before .before .before .before .before .before .before .before .good .1 .0 in
     let la : length (p .«history_a») ≡ 8 = simp length-map at (g .1 .1 .1 .1 .1 .1 .0 .1 .0 .1) in
     let lb : length (p .«history_b») ≡ 8 = simp length-map at (g .1 .1 .1 .1 .1 .1 .1 .0 .1 .0 .1) in
-    rw (toZ-ofZ w8 (p .term) (search needs), toZ-ofZ w32 (p .delta) (search needs), head-set (p .«history_a») _ (omega (arith, la)), head-set (p .«history_b») _ (omega (arith, lb)))
+    rw (c .with-state .ensures, head-set (p .«history_a») _ (omega (arith, la)), head-set (p .«history_b») _ (omega (arith, lb)))
     (sym (no-turn (turn (c .before .before .before .before .before .before .before .before .before .before .args .analysis) MinusThree) _ (t .loop .index) (t .loop .i) (t .loop .buffer) (omega arith) (omega arith)) ∙ t .loop .inv .3)
 
 pub run-swap-spec : {M : Type 1} → statement M
@@ -150,5 +153,6 @@ run-swap-spec =
     loop-again
     array-set-from-history-a
     array-set-from-history-b
+    with-state-requires
     same-length
     returns)

@@ -131,6 +131,9 @@ array-set-from-history-b c = omega arith
 array-set-from-history-b-2 : tie.Need-array-set-from-history-b-2 Inv-loop μ-loop
 array-set-from-history-b-2 c = omega arith
 
+with-state-requires : tie.Need-with-state-requires Inv-loop μ-loop
+with-state-requires c κs = search needs
+
 same-length : tie.Need-same-length Inv-loop μ-loop
 same-length c = omega arith
 
@@ -142,7 +145,7 @@ returns c =
     let g = s .good .1 .1 .0 in
     let la : length (p .«history_a») ≡ 8 = simp length-map at (g .1 .1 .1 .1 .1 .1 .0 .1 .0 .1) in
     let lb : length (p .«history_b») ≡ 8 = simp length-map at (g .1 .1 .1 .1 .1 .1 .1 .0 .1 .0 .1) in
-    rw (toZ-ofZ w8 (p .term) (search (needs, g)), toZ-ofZ w32 (p .delta) (search (needs, g)), two-set (p .«history_a») _ _ (omega (arith, la)), two-set (p .«history_b») _ _ (omega (arith, lb)))
+    rw (c .with-state .ensures, two-set (p .«history_a») _ _ (omega (arith, la)), two-set (p .«history_b») _ _ (omega (arith, lb)))
     (sym (no-turn (turn (s .args .analysis) (twoTerm (s .args .eighteen))) _ (t .loop .index) (t .loop .i) (t .loop .buffer) (omega arith) (omega arith)) ∙ t .loop .inv .3)
 
 pub run-two-spec : {M : Type 1} → statement M
@@ -179,5 +182,6 @@ run-two-spec =
     array-set-from-history-a-2
     array-set-from-history-b
     array-set-from-history-b-2
+    with-state-requires
     same-length
     returns)
