@@ -7,7 +7,8 @@
  * same time.
  *
  * A list that a function fills has slots, numbered below from the first element on. A list with fewer elements than slots is
- * refused with WV_LIST_LENGTH; elements behind the slots keep their values. A refused call leaves its lists as they were.
+ * refused with WV_LIST_LENGTH before anything is written; elements behind the slots keep their values. Any other refusal leaves
+ * the lists as they were too, unless a function below says what it writes then.
  */
 #ifndef WAVPACK_STEREO_H
 #define WAVPACK_STEREO_H
@@ -21,14 +22,23 @@ extern "C" {
 
 /* What a function answers. */
 #define WV_ACCEPTED 0u
-#define WV_ENTROPY_LENGTH 1u /* the entropy payload is neither 6 nor 12 bytes long */
-#define WV_LIST_LENGTH 6u    /* a lent list has fewer elements than slots */
+#define WV_ENTROPY_LENGTH 1u   /* the entropy payload is neither 6 nor 12 bytes long */
+#define WV_NOT_STEREO 2u       /* the entropy payload is mono, or holds a negative median */
+#define WV_TRUNCATED 3u        /* a word needs a bit past the end, or a count or prefix value is over its cap */
+#define WV_END_OF_STREAM 4u    /* the second count of a prefix is 33 */
+#define WV_TOO_LARGE 5u        /* over 131,072 frames, or over 4,194,304 payload bytes */
+#define WV_LIST_LENGTH 6u      /* a lent list has fewer elements than slots, or `samples` not two elements a frame */
+#define WV_INVALID_CHANNEL 12u /* next_channel is neither 0 nor 1 */
 
 /* Slots of the lists. */
 #define WV_LOG_WORD_SLOTS 1u
 #define WV_TERM_BYTE_SLOTS 2u
 #define WV_WEIGHT_BYTE_SLOTS 1u
 #define WV_ENTROPY_SLOTS 6u
+#define WV_READ_SLOTS 8u
+#define WV_WORD_STATE_SLOTS 13u
+#define WV_WORD_SAMPLE_SLOTS 1u
+#define WV_WORD_REPORT_SLOTS 2u
 
 /* The signed 32-bit value of a log word.
  * value: its value. Refuses WV_LIST_LENGTH. */
@@ -45,6 +55,26 @@ uint32_t wv_weight_byte(uint8_t byte, int32_t *out, size_t out_len);
 /* The signed medians of an entropy payload of 6 bytes (mono: the right ones are 0) or 12 bytes (stereo).
  * medians: left 0, 1, 2, right 0, 1, 2. Refuses WV_LIST_LENGTH, then WV_ENTROPY_LENGTH. */
 uint32_t wv_entropy(const uint8_t *entropy, size_t entropy_len, int32_t *medians, size_t medians_len);
+
+/* Reads the packed payload of a stereo block: `frames` frames, left then right, into samples, which has 2 times frames elements.
+ * answer: bits used, left medians 0, 1, 2, right medians 0, 1, 2 after the last word, samples written.
+ * Refuses WV_LIST_LENGTH for answer; then WV_TOO_LARGE, WV_LIST_LENGTH for samples, WV_ENTROPY_LENGTH and WV_NOT_STEREO, with
+ * answer all 0 and samples as it was; then, in a word, WV_TRUNCATED or WV_END_OF_STREAM, with answer telling of the words before
+ * it, their samples in samples and, behind them, what it held. */
+uint32_t wv_read(const uint8_t *entropy, size_t entropy_len, const uint8_t *payload, size_t payload_len, size_t frames,
+                 int32_t *samples, size_t samples_len, uint32_t *answer, size_t answer_len);
+
+/* Reads one word of a packed payload. The caller holds the state: all 0 before the first word, but for the seed medians.
+ * state: place (how many bits lie before the word), next_channel (0 left, 1 right), last_zero, last_one, zero_run_pending,
+ *   run_break, ever_took_zero_run, left medians 0, 1, 2, right medians 0, 1, 2; before the word, and then after it. A flag is
+ *   set when it is not 0, and is written as 0 or 1.
+ * sample: the sample.
+ * report: 0 for none, as a zero out of a run has it, or 1, 2, 3, 4 for the zones 0, 1, 2 and the overflow zone; then the count
+ *   of the word, 0 for none.
+ * Refuses WV_LIST_LENGTH for the slots; then WV_TOO_LARGE for the payload, WV_INVALID_CHANNEL, WV_TRUNCATED or
+ * WV_END_OF_STREAM, with sample 0, report 0, 0 and state as it was. */
+uint32_t wv_word(const uint8_t *payload, size_t payload_len, uint32_t *state, size_t state_len, int32_t *sample,
+                 size_t sample_len, uint32_t *report, size_t report_len);
 
 #ifdef __cplusplus
 }

@@ -46,7 +46,7 @@ pub entropy-short : (p : List ℕ) (slots : List ℤ) (r : ℕ) → r ≡ 6 → 
 entropy-short p slots r e h = rw (lt-ltb (length slots) 6 h, e) (refl, refl)
 
 -- a number that is a refusal's is not 0
-refused : (n r : ℕ) → 0 < n → r ≡ n → eqb r 0 ≡ false
+pub refused : (n r : ℕ) → 0 < n → r ≡ n → eqb r 0 ≡ false
 refused zero r h e = absurd (omega arith)
 refused (suc n) r h e = rw (e, eqb·suc-zero n)
 

@@ -1,3 +1,5 @@
 -- What the proofs of several functions use.
 pub mod SlotLaws
 pub mod EntropySlots
+pub mod PlaceLaws
+pub mod WordSlots

@@ -1,91 +1,13 @@
 // The C interface of the decoder: thin functions over the layers below, declared for C in include/wavpack_stereo.h.
 // Each answers a refusal number of document 01, 0 for accepted. Values are laid into the first slots of a lent list; one that
-// has fewer slots is refused with 6, and a refused call leaves each lent list as it was.
-use answers::Outcome;
-use answers::Refusal;
-use answers::number;
-use answers::outcome_number;
-ghost use mathlib.Core.Path.{_≡_};
-ghost use Prim.Native.Nat.{_≤_};
-ghost use lib.ListN.{length};
-ghost use Rattle.capi.specs.Slots.{slotRefusal, laid, laidIf};
-ghost use Rattle.capi.specs.Answers.{logWordValues, termByteValues, weightByteValues, entropyValues, entropyAnswer};
+// has fewer slots is refused with 6, and then nothing is written. No function copies a list.
+pub mod slots;
+pub mod values;
+pub mod words;
 
-// Lays values into the first slots of a list.
-fn lay(values: &[i32], slots: &mut [i32])
-    requires { ⌜ length (now values) ≤ length (now slots) ⌝ }
-    ensures { λ _. ⌜ now (slots .exit) ≡ laid (now (values .entry)) (now (slots .entry)) ⌝ }
-{
-    let mut i = 0;
-    while i < values.len() {
-        slots[i] = values[i];
-        i += 1;
-    }
-}
-
-// The value of a log word, into 1 slot. Refuses 6.
-#[no_mangle]
-pub extern "C" fn wv_log_word(word: i16, value: &mut [i32]) -> u32
-    ensures answer { λ r. ⌜ r ≡ slotRefusal 1 (now (value .entry)) ⌝ }
-    ensures value { λ r. ⌜ now (value .exit) ≡ laidIf r (logWordValues word) (now (value .entry)) ⌝ }
-{
-    if value.len() < 1 {
-        return number(Refusal::ListLength);
-    }
-    let values = [logpack::wp_exp2s(word)];
-    lay(&values, value);
-    0
-}
-
-// The term and the delta of a term byte, into 2 slots. Refuses 6.
-#[no_mangle]
-pub extern "C" fn wv_term_byte(byte: u8, out: &mut [i32]) -> u32
-    ensures answer { λ r. ⌜ r ≡ slotRefusal 2 (now (out .entry)) ⌝ }
-    ensures out { λ r. ⌜ now (out .exit) ≡ laidIf r (termByteValues byte) (now (out .entry)) ⌝ }
-{
-    if out.len() < 2 {
-        return number(Refusal::ListLength);
-    }
-    let decoded = decorrelation::decode_term_byte(byte);
-    let term = decoded.term;
-    let delta = decoded.delta;
-    let values = [term as i32, delta];
-    lay(&values, out);
-    0
-}
-
-// The weight of a weight byte, into 1 slot. Refuses 6.
-#[no_mangle]
-pub extern "C" fn wv_weight_byte(byte: u8, out: &mut [i32]) -> u32
-    ensures answer { λ r. ⌜ r ≡ slotRefusal 1 (now (out .entry)) ⌝ }
-    ensures out { λ r. ⌜ now (out .exit) ≡ laidIf r (weightByteValues byte) (now (out .entry)) ⌝ }
-{
-    if out.len() < 1 {
-        return number(Refusal::ListLength);
-    }
-    let values = [decorrelation::expand_weight_byte(byte)];
-    lay(&values, out);
-    0
-}
-
-// The signed medians of an entropy payload, left then right, into 6 slots. Refuses 6, then 1.
-#[no_mangle]
-pub extern "C" fn wv_entropy(entropy: &[u8], medians: &mut [i32]) -> u32
-    ensures answer { λ r. ⌜ r ≡ entropyAnswer (now (entropy .entry)) (now (medians .entry)) ⌝ }
-    ensures medians { λ r. ⌜ now (medians .exit) ≡ laidIf r (entropyValues (now (entropy .entry))) (now (medians .entry)) ⌝ }
-{
-    if medians.len() < 6 {
-        return number(Refusal::ListLength);
-    }
-    let answer = entropy::expand_entropy(entropy);
-    let outcome = answer.outcome;
-    let info = answer.info;
-    let Outcome::Accepted = outcome else {
-        return outcome_number(outcome);
-    };
-    let left = info.medians_left;
-    let right = info.medians_right;
-    let values = [left[0], left[1], left[2], right[0], right[1], right[2]];
-    lay(&values, medians);
-    0
-}
+pub use crate::values::wv_entropy;
+pub use crate::values::wv_log_word;
+pub use crate::values::wv_term_byte;
+pub use crate::values::wv_weight_byte;
+pub use crate::words::wv_read;
+pub use crate::words::wv_word;

@@ -1,4 +1,4 @@
--- `capi::wv_weight_byte` meets its contract.
+-- `capi::values::wv_weight_byte` meets its contract.
 -- Assumes nothing.
 use mathlib.Core.List.{[], _∷_}
 use mir.Syntax.{w32}
@@ -7,8 +7,8 @@ use Rattle.capi.specs.Answers.{weightByteValues}
 use Rattle.logpack.proofs.Negation.{again}
 use Rattle.capi.proofs.SlotLaws.{short, enough}
 use borrow.Author.Needs.{needs}
-use Rattle.capi.proofs.wv_weight_byte.Statement.{statement}
-use Rattle.capi.proofs.wv_weight_byte.Tie as tie
+use Rattle.capi.proofs.values.wv_weight_byte.Statement.{statement}
+use Rattle.capi.proofs.values.wv_weight_byte.Tie as tie
 
 number-requires : tie.Need-number-requires
 number-requires c κs = search needs

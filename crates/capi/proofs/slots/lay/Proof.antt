@@ -1,4 +1,4 @@
--- `capi::lay` meets its contract. The loop's invariant: the first i values are laid, and the list has its length. The measure is what is left of the values.
+-- `capi::slots::lay` meets its contract. The loop's invariant: the first i values are laid, and the list has its length. The measure is what is left of the values.
 -- Assumes nothing.
 use mathlib.Core.Path.{_≡_, refl, _∙_}
 use Prim.Native.Nat.{_≤_, _-_}
@@ -10,8 +10,8 @@ use mir.Syntax.{w32}
 use mir.ValLaws.{toZ-ofZ}
 use borrow.Author.Needs.{needs}
 use Rattle.capi.proofs.SlotLaws.{laidTo, laid-more, laid-all}
-use Rattle.capi.proofs.lay.Statement.{statement}
-use Rattle.capi.proofs.lay.Tie as tie
+use Rattle.capi.proofs.slots.lay.Statement.{statement}
+use Rattle.capi.proofs.slots.lay.Tie as tie
 
 abbrev Inv-loop : tie.InvT-loop
 Inv-loop values slots₀ i₀ slots i =

@@ -1,4 +1,4 @@
--- `capi::wv_term_byte` meets its contract.
+-- `capi::values::wv_term_byte` meets its contract.
 -- Assumes nothing.
 use mathlib.Core.List.{[], _∷_}
 use mir.Val.{toZ, ofZ}
@@ -8,8 +8,8 @@ use Rattle.capi.specs.Answers.{termByteValues}
 use Rattle.logpack.proofs.Negation.{again}
 use Rattle.capi.proofs.SlotLaws.{wider, short, enough}
 use borrow.Author.Needs.{needs}
-use Rattle.capi.proofs.wv_term_byte.Statement.{statement}
-use Rattle.capi.proofs.wv_term_byte.Tie as tie
+use Rattle.capi.proofs.values.wv_term_byte.Statement.{statement}
+use Rattle.capi.proofs.values.wv_term_byte.Tie as tie
 
 number-requires : tie.Need-number-requires
 number-requires c κs = search needs

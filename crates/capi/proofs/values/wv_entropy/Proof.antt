@@ -1,4 +1,4 @@
--- `capi::wv_entropy` meets its contract: one law for each of its three answers.
+-- `capi::values::wv_entropy` meets its contract: one law for each of its three answers.
 -- Assumes nothing.
 use mathlib.Core.Path.{_≡_}
 use lib.IntN.{pos}
@@ -7,8 +7,8 @@ use mir.Syntax.{w32}
 use mir.ValLaws.{toZ-ofZ}
 use Rattle.capi.proofs.EntropySlots.{six, sixAgain, entropy-short, entropy-refused, entropy-laid}
 use borrow.Author.Needs.{needs}
-use Rattle.capi.proofs.wv_entropy.Statement.{statement}
-use Rattle.capi.proofs.wv_entropy.Tie as tie
+use Rattle.capi.proofs.values.wv_entropy.Statement.{statement}
+use Rattle.capi.proofs.values.wv_entropy.Tie as tie
 
 number-requires : tie.Need-number-requires
 number-requires c κs = search needs

@@ -1,4 +1,4 @@
--- `capi::wv_log_word` meets its contract.
+-- `capi::values::wv_log_word` meets its contract.
 -- Assumes nothing.
 use mathlib.Core.List.{[], _∷_}
 use mir.Syntax.{w16, w32}
@@ -7,8 +7,8 @@ use Rattle.capi.specs.Answers.{logWordValues}
 use Rattle.logpack.proofs.Negation.{again}
 use Rattle.capi.proofs.SlotLaws.{short, enough}
 use borrow.Author.Needs.{needs}
-use Rattle.capi.proofs.wv_log_word.Statement.{statement}
-use Rattle.capi.proofs.wv_log_word.Tie as tie
+use Rattle.capi.proofs.values.wv_log_word.Statement.{statement}
+use Rattle.capi.proofs.values.wv_log_word.Tie as tie
 
 number-requires : tie.Need-number-requires
 number-requires c κs = search needs
