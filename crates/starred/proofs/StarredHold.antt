@@ -10,8 +10,9 @@ use Rattle.passes.specs.Terms.{termOf}
 use Rattle.passes.specs.Step.{step, advanced}
 use Rattle.passes.specs.Run.{passed}
 use Rattle.passes.specs.Making.{made, makingRefusal, seeded}
+use Rattle.wvpair_text.proofs.StarredLaws.{first-printed, second-printed}
 use Rattle.starred.specs.Row.{Hold, HoldAll}
-use Rattle.starred.specs.Starred.{logWords, medians, predictions, weights, term18, starred}
+use Rattle.starred.specs.Starred.{logWords, medians, predictions, weights, term18, printed, starred}
 
 log-words-hold : Hold logWords
 unfolding logWord magnitude mantissa exp2Table wrap32 low32
@@ -33,6 +34,9 @@ term18-hold : Hold term18
 unfolding made makingRefusal seeded termOf passed step advanced sample source18 predict updated wrap32 low32
 term18-hold = (refl, (refl, (refl, (refl, tt))))
 
+printed-hold : Hold printed
+printed-hold = (first-printed, (second-printed, tt))
+
 -- every starred case holds
 pub starred-hold : HoldAll starred
-starred-hold = (log-words-hold, (medians-hold, (predictions-hold, (weights-hold, (term18-hold, tt)))))
+starred-hold = (log-words-hold, (medians-hold, (predictions-hold, (weights-hold, (term18-hold, (printed-hold, tt))))))

@@ -8,6 +8,8 @@ use Rattle.medians.specs.Adaptation.{up, down}
 use Rattle.weights.specs.Weights.{predict, updated, updatedClip}
 use Rattle.passes.specs.Making.{Made, made}
 use Rattle.passes.specs.Run.{Run, passed}
+use Rattle.wvpair_text.specs.Starred.{firstInput, firstText, secondInput, secondText}
+use Rattle.wvpair_text.specs.Text.{wvpairText}
 use Rattle.starred.specs.Row.{Row, _gives_, minus}
 
 -- "Log words 0, 256, -256, 2304, 8191, 8192, -32768 give 0, 1, -1, 256, 2143289344, -2147483648, -2147483648" (C1)
@@ -61,6 +63,10 @@ term18 =
     ∷ (run18 .pass .«weight_b» gives pos 1022)
     ∷ []
 
+-- `wvpair`: what the two inputs print (C8, C9)
+abbrev pub printed : List Row
+printed = (wvpairText firstInput gives firstText) ∷ (wvpairText secondInput gives secondText) ∷ []
+
 -- the table
 abbrev pub starred : List (List Row)
-starred = logWords ∷ medians ∷ predictions ∷ weights ∷ term18 ∷ []
+starred = logWords ∷ medians ∷ predictions ∷ weights ∷ term18 ∷ printed ∷ []
