@@ -57,11 +57,12 @@ module _ (back : Bool) (ps : List DecorrPass) (l : List ℤ) where
   unfolding listed
   answer-refused r e a = rw (← e) (refusal-kept r (chained back ps l) ps l a)
 
--- the two entries are the two ways of one answer
+-- decorrelation is the forward answer
 pub listed-decorrelation : (ps : List DecorrPass) (l : List ℤ) → listed false ps l ≡ decorrelation ps l
 unfolding listed decorrelation
 listed-decorrelation ps l = refl
 
+-- analysis is the backward answer
 pub listed-analysis : (ps : List DecorrPass) (l : List ℤ) → listed true ps l ≡ analysis ps l
 unfolding listed analysis
 listed-analysis ps l = refl

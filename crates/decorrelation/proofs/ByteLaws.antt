@@ -20,6 +20,7 @@ pub term-read : (byte : ℕ) → toZ w8 (byte % 32) -ℤ pos 5 ≡ termOfByte by
 unfolding termOfByte
 term-read byte = rw (toZ-pos w8 (byte % 32) (omega arith))
 
+-- the top three bits are read as they stand
 pub delta-read : (byte : ℕ) → byte < 256 → toZ w32 (byte / 32) ≡ deltaOfByte byte
 unfolding deltaOfByte
 delta-read byte h = toZ-pos w32 (byte / 32) (omega arith)
@@ -42,9 +43,11 @@ neg-fits : (n : ℕ) → n ≤ 1024 → SFits w32 (negℤ (pos n))
 neg-fits zero h = record { sfits = omega arith }
 neg-fits (suc n) h = record { sfits = omega arith }
 
+-- a negative weight fits 32 bits
 pub weight-down-fits : (n : ℕ) → n ≤ 1024 → SFits w32 (pos 0 -ℤ toZ w32 n)
 weight-down-fits n h = rw (toZ-pos w32 n (omega arith), +ℤ-idl) (neg-fits n h)
 
+-- a byte from 128 up stands for a negative weight
 pub weight-down : (byte : ℕ) → 128 ≤ byte → byte < 256 → toZ w32 (ofZ w32 (pos 0 -ℤ toZ w32 ((256 - byte) * 8))) ≡ weightOfByte byte
 unfolding weightOfByte weightOf
 weight-down byte h k =
@@ -67,10 +70,12 @@ pub weight-range : (byte : ℕ) → byte < 256 → natAbs (weightOfByte byte) �
 unfolding weightOfByte
 weight-range byte h = in-range (toZ w8 byte) (toZ-fits w8 byte (record { fits = h }))
 
+-- the lowest weight
 pub weight-lowest : weightOfByte 128 ≡ negsuc 1023
 unfolding weightOfByte weightOf
 weight-lowest = refl
 
+-- the highest weight
 pub weight-highest : weightOfByte 127 ≡ pos 1024
 unfolding weightOfByte weightOf
 weight-highest = refl

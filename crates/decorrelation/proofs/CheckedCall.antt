@@ -40,6 +40,7 @@ use Rattle.decorrelation.proofs.CheckCalls.{list-at}
 use Rattle.decorrelation.proofs.run_checked as run-checked
 use Rattle.decorrelation.proofs.run_checked.Symbol.{name as #decorrelation·run-checked}
 
+-- the contract that the walks cite
 abbrev pub RunChecked : {M : Type 1} (𝓤 : URA M) (H : Heap 𝓤) (A : Atoms 𝓤) (mem : Memory → SProp 𝓤) (run : Routine → Fun 𝓤) → Contract 𝓤
 RunChecked 𝓤 H A mem run = tripleOf 𝓤 H A run-checked.signature (run-checked.spec 𝓤 H A mem run)
 
@@ -51,6 +52,7 @@ module _ {M : Type 1} (𝓤 : URA M) (H : Heap 𝓤) (A : Atoms 𝓤) (W : Given
   abbrev s′ : Val
   s′ = sliceVal (b′, o′) (length B)
 
+  -- both are handed on under their own names
   abbrev pub to-run-checked : RunChecked 𝓤 H A mem run .Ghost
   to-run-checked = (((κ, (κ′, tt)), (q, (q′, tt)), tt, (back, (list-at b o γ P, (buf b′ o′ γ′ B, tt))), (vbool back ∷ [], (s ∷ [], (s′ ∷ [], tt)))), tt)
 
@@ -68,6 +70,7 @@ module _ {M : Type 1} (𝓤 : URA M) (H : Heap 𝓤) (A : Atoms 𝓤) (W : Given
       qed W (Tokens ∷ Passes (named 0) ∷ Buffer (named 1) ∷ []) ∵ nothing ! $ move ! (3 ∷ 0 ∷ []) $ fjoin ! $ move ! (2 ∷ 0 ∷ []) $ fjoin ! $
       owned ! bool (Is bool) (bool-makes 𝓤 H A W) back _ refl $ fjoin ! $ move ! (1 ∷ 0 ∷ []) $ join ! $ frame ! $ done !
 
+  -- the step itself
   pub calls-run-checked : {Γ : List (Item 𝓤)} {E : Env 𝓤 H} {C : Calls 𝓤 H} {Λ : Loops 𝓤 H} {Q : Post 𝓤 H} {xs : List Operand} {d : Place} {rest : Body} (ℓ ℓ′ : Lifetime)
       → FmC 𝓤 H (W .laws) C → Triple 𝓤 (C #decorrelation·run-checked) (RunChecked 𝓤 H A mem run)
       → Opds (Go {0}) W (raw (RunChecked 𝓤 H A mem run .pre to-run-checked) ∷ Γ) E xs (vbool back ∷ s ∷ s′ ∷ [])

@@ -26,9 +26,11 @@ use denote.Index.{row, whole-out, whole-in}
 use borrow.Table.Elements.{at, cut-app, join-app, same-len}
 
 module _ (R : RattleType) (κ : Lft) (N n b o : ℕ) (xs : List (R .Denot)) where
+  -- the elements that are lent
   abbrev pub front : List (R .Denot)
   front = take n xs
 
+  -- the elements behind them
   abbrev pub rest : List (R .Denot)
   rest = drop-list n xs
 

@@ -24,10 +24,12 @@ pub record Accepted (ps : List DecorrPass) (l : List ℤ) : Type 0 where
 abbrev pub done : Chain → Answer
 done c = record { refusal = 0; passes = c .passes; buffer = c .buffer }
 
+-- decorrelation of what is accepted
 pub decorrelation-accepts : (ps : List DecorrPass) (l : List ℤ) → Accepted ps l → decorrelation ps l ≡ done (decorrelated ps l)
 unfolding decorrelation decorrelationNumber
 decorrelation-accepts ps l h = rw (le-ltb 262144 (length l) (h .short), le-ltb 16 (length ps) (h .few), h .well-made)
 
+-- analysis of what is accepted
 pub analysis-accepts : (ps : List DecorrPass) (l : List ℤ) → Accepted ps l → analysis ps l ≡ done (analysed ps l)
 unfolding analysis analysisNumber
 analysis-accepts ps l h = rw (le-ltb 262144 (length l) (h .short), le-ltb 16 (length ps) (h .few), h .well-made)
@@ -88,6 +90,7 @@ pub decorrelation-bounded : (ps : List DecorrPass) (l : List ℤ) → AllBounded
 unfolding decorrelation
 decorrelation-bounded ps l h = bounded-by (decorrelationNumber (allValid ps) (length ps) (length l)) (decorrelated ps l) ps l h (decorrelated-bounded ps l h)
 
+-- the same through analysis
 pub analysis-bounded : (ps : List DecorrPass) (l : List ℤ) → AllBounded ps → AllBounded (analysis ps l .passes)
 unfolding analysis
 analysis-bounded ps l h = bounded-by (analysisNumber (allValid ps) (length ps) (length l)) (analysed ps l) ps l h (analysed-bounded ps l h)

@@ -28,6 +28,7 @@ module _ (P : List DecorrPass) where
   pub sound-start : Sound P 0
   sound-start = record { count = omega arith; same = refl }
 
+  -- one more term is valid
   pub sound-step : (i : ℕ) → Sound P i → i < length P → validPass (getD P i none) ≡ true → Sound P (i + 1)
   sound-step i f l ok = record { count = omega arith; same = rw add-one (rw (drop-cons P i none, ok) at (f .same)) }
 
@@ -77,6 +78,7 @@ module _ (back : Bool) (P : List DecorrPass) (B : List ℤ) where
       rw (j, k) (sym (back-law (length ps - 1 - i) ps none cs r (omega arith) e))
   turned false i ps cs r h e = rw (add-one i) (sym (forth i ps none cs r h e))
 
+  -- one more pass has run
   pub ran-step : (i : ℕ) (ps : List DecorrPass) (cs : List ℤ) (r : DecorrPass) (zs : List ℤ) → Ran back P B i ps cs → i < length P
       → record { pass = r; buffer = zs } ≡ passed back (getD ps (placeOf back (length P) i) none) cs → Ran back P B (i + 1) (set ps (placeOf back (length P) i) r) zs
   ran-step i ps cs r zs f l e =
@@ -95,6 +97,7 @@ module _ (back : Bool) (P : List DecorrPass) (B : List ℤ) where
       rw e
   ended false i ps cs h = sym (forth-end ps i cs h)
 
+  -- all passes have run
   pub ran-end : (i : ℕ) (ps : List DecorrPass) (cs : List ℤ) → Ran back P B i ps cs → length P ≤ i → record { passes = ps; buffer = cs } ≡ chained back P B
   ran-end i ps cs f l = ended back i ps cs (omega (arith, f .long)) ∙ f .whole
 
@@ -105,12 +108,15 @@ module _ (n : ℕ) (ps : List DecorrPass) (d : DecorrPass) (few : n ≤ length p
       let l : i < length (take n ps) = rw (length-take-le n ps few) h in
       drop-cons (take n ps) i d l ∙ ap (λ x. x ∷ drop (suc i) (take n ps)) (getD-take n ps i d h)
 
+  -- an invalid term is found
   pub array-bad : (i : ℕ) {v : Bool} → allValid (drop i (take n ps)) ≡ allValid (take n ps) → i < n → v ≡ validPass (getD ps i d) → v ≡ false → false ≡ allValid (take n ps)
   array-bad i e h ev bad = let w : validPass (getD ps i d) ≡ false = sym ev ∙ bad in rw (← e, next i h, w)
 
+  -- one more term is valid
   pub array-step : (i : ℕ) {v : Bool} → allValid (drop i (take n ps)) ≡ allValid (take n ps) → i < n → v ≡ validPass (getD ps i d) → v ≡ true → allValid (drop (i + 1) (take n ps)) ≡ allValid (take n ps)
   array-step i e h ev ok = let w : validPass (getD ps i d) ≡ true = sym ev ∙ ok in rw (add-one i) (rw (next i h, w) at e)
 
+  -- all n terms are valid
   pub array-end : (i : ℕ) → allValid (drop i (take n ps)) ≡ allValid (take n ps) → n ≤ i → true ≡ allValid (take n ps)
   array-end i e h =
       let l : length (take n ps) ≤ i = rw (length-take-le n ps few) h in

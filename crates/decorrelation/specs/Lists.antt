@@ -11,6 +11,7 @@ use Rattle.passes.specs.Terms.{termOf, isValid}
 use Rattle.passes.specs.Run.{Chain, decorrelated, analysed}
 use Rattle.passes.specs.declared.DecorrPass.{DecorrPass}
 
+-- a pass with a valid term
 abbrev pub validPass : DecorrPass → Bool
 validPass p = isValid (termOf (p .term))
 
@@ -19,6 +20,7 @@ abbrev pub allValid : List DecorrPass → Bool
 allValid [] = true
 allValid (p ∷ ps) = validPass p && allValid ps
 
+-- x where the test holds, else y
 abbrev pub pickNumber : Bool → ℕ → ℕ → ℕ
 pickNumber true x y = x
 pickNumber false x y = y
@@ -43,9 +45,11 @@ abbrev pub answerBy : ℕ → Chain → List DecorrPass → List ℤ → Answer
 answerBy zero c ps l = record { refusal = 0; passes = c .passes; buffer = c .buffer }
 answerBy (suc n) c ps l = record { refusal = suc n; passes = ps; buffer = l }
 
+-- decorrelation of a buffer by a list of passes
 unfoldable pub decorrelation : List DecorrPass → List ℤ → Answer
 decorrelation ps l = answerBy (decorrelationNumber (allValid ps) (length ps) (length l)) (decorrelated ps l) ps l
 
+-- analysis of a buffer by a list of passes
 unfoldable pub analysis : List DecorrPass → List ℤ → Answer
 analysis ps l = answerBy (analysisNumber (allValid ps) (length ps) (length l)) (analysed ps l) ps l
 
@@ -54,13 +58,16 @@ abbrev pub numberBy : Bool → Bool → ℕ → ℕ → ℕ
 numberBy true valid passes elements = analysisNumber valid passes elements
 numberBy false valid passes elements = decorrelationNumber valid passes elements
 
+-- what the run leaves
 abbrev pub chained : Bool → List DecorrPass → List ℤ → Chain
 chained true ps l = analysed ps l
 chained false ps l = decorrelated ps l
 
+-- what the entry leaves
 unfoldable pub listed : Bool → List DecorrPass → List ℤ → Answer
 listed back ps l = answerBy (numberBy back (allValid ps) (length ps) (length l)) (chained back ps l) ps l
 
+-- whether an outcome is acceptance
 abbrev pub acceptedBy : Outcome → Bool
 acceptedBy Outcome.Accepted = true
 acceptedBy (Outcome.Refused r) = false
@@ -69,6 +76,7 @@ acceptedBy (Outcome.Refused r) = false
 abbrev pub followed : List DecorrPass → Chain → Chain
 followed rest c = record { passes = c .passes ++ rest; buffer = c .buffer }
 
+-- by whether there are more passes than the array has
 abbrev pub arrayBy : Bool → Bool → List DecorrPass → ℕ → List ℤ → Answer
 arrayBy true back ps n l = answerBy (numberBy back true n (length l)) (chained back ps l) ps l
 arrayBy false back ps n l = answerBy (numberBy back (allValid (take n ps)) n (length l)) (followed (drop n ps) (chained back (take n ps) l)) ps l

@@ -8,6 +8,7 @@ use mir.Val.{toZ}
 unfoldable pub termOfByte : ℕ → ℤ
 termOfByte byte = pos (byte % 32) -ℤ pos 5
 
+-- the delta of a term byte (P1)
 unfoldable pub deltaOfByte : ℕ → ℤ
 deltaOfByte byte = pos (byte / 32)
 

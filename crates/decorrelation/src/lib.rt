@@ -43,14 +43,14 @@ pub fn expand_weight_byte(byte: u8) -> i32
 }
 
 // Whether the term of a pass is valid.
-pub fn valid_pass(p: DecorrPass) -> bool
+fn valid_pass(p: DecorrPass) -> bool
     ensures { λ r. ⌜ r ≡ validPass p ⌝ }
 {
     passes::is_valid(passes::term_of(p.term))
 }
 
 // What decorrelation says of a list, by its passes and the buffer's elements.
-pub fn decorrelation_outcome(valid: bool, count: usize, elements: usize) -> Outcome
+fn decorrelation_outcome(valid: bool, count: usize, elements: usize) -> Outcome
     ensures { λ r. ⌜ outcomeNumber r ≡ decorrelationNumber valid count elements ⌝ }
 {
     if 262144 < elements {
@@ -67,7 +67,7 @@ pub fn decorrelation_outcome(valid: bool, count: usize, elements: usize) -> Outc
 }
 
 // What analysis says of a list: a test of its own.
-pub fn analysis_outcome(valid: bool, count: usize, elements: usize) -> Outcome
+fn analysis_outcome(valid: bool, count: usize, elements: usize) -> Outcome
     ensures { λ r. ⌜ outcomeNumber r ≡ analysisNumber valid count elements ⌝ }
 {
     if 262144 < elements {
@@ -84,7 +84,7 @@ pub fn analysis_outcome(valid: bool, count: usize, elements: usize) -> Outcome
 }
 
 // What analysis, where `back` is set, or decorrelation says of a list.
-pub fn list_outcome(back: bool, valid: bool, count: usize, elements: usize) -> Outcome
+fn list_outcome(back: bool, valid: bool, count: usize, elements: usize) -> Outcome
     ensures { λ r. ⌜ outcomeNumber r ≡ numberBy back valid count elements ⌝ }
 {
     if back {
@@ -95,7 +95,7 @@ pub fn list_outcome(back: bool, valid: bool, count: usize, elements: usize) -> O
 }
 
 // Whether an outcome is acceptance.
-pub fn is_accepted(outcome: Outcome) -> bool
+fn is_accepted(outcome: Outcome) -> bool
     ensures { λ r. ⌜ r ≡ acceptedBy outcome ⌝ }
 {
     match outcome {
@@ -105,7 +105,7 @@ pub fn is_accepted(outcome: Outcome) -> bool
 }
 
 // The pass that turn i of n works on.
-pub fn place(back: bool, n: usize, i: usize) -> usize
+fn place(back: bool, n: usize, i: usize) -> usize
     requires { ⌜ i < n ⌝ }
     ensures { λ r. ⌜ r ≡ placeOf back n i ⌝ }
 {
@@ -113,7 +113,7 @@ pub fn place(back: bool, n: usize, i: usize) -> usize
 }
 
 // Whether all terms of a list are valid.
-pub fn all_valid(passes: &[DecorrPass]) -> bool
+fn all_valid(passes: &[DecorrPass]) -> bool
     ensures { λ r. ⌜ r ≡ allValid (now (passes .entry)) ⌝ }
 {
     let n = passes.len();
@@ -130,7 +130,7 @@ pub fn all_valid(passes: &[DecorrPass]) -> bool
 
 // Runs every pass of a list over the buffer: analysis, the last one first, where `back` is set, else decorrelation, the first
 // one first. It refuses nothing.
-pub fn run_list(back: bool, passes: &mut [DecorrPass], buffer: &mut [i32])
+fn run_list(back: bool, passes: &mut [DecorrPass], buffer: &mut [i32])
     ensures { λ _. ⌜ record { passes = now (passes .exit); buffer = now (buffer .exit) } ≡ chained back (now (passes .entry)) (now (buffer .entry)) ⌝ }
 {
     let n = passes.len();
@@ -145,7 +145,7 @@ pub fn run_list(back: bool, passes: &mut [DecorrPass], buffer: &mut [i32])
 }
 
 // The same where the list is accepted: else nothing changes.
-pub fn run_checked(back: bool, passes: &mut [DecorrPass], buffer: &mut [i32]) -> Outcome
+fn run_checked(back: bool, passes: &mut [DecorrPass], buffer: &mut [i32]) -> Outcome
     ensures { λ r. ⌜ record { refusal = outcomeNumber r; passes = now (passes .exit); buffer = now (buffer .exit) } ≡ listed back (now (passes .entry)) (now (buffer .entry)) ⌝ }
 {
     let valid = all_valid(passes);
@@ -179,7 +179,7 @@ pub struct ListAnswer {
 }
 
 // Whether the first `count` terms of an array are valid.
-pub fn array_valid(passes: [DecorrPass; 16], count: usize) -> bool
+fn array_valid(passes: [DecorrPass; 16], count: usize) -> bool
     requires { ⌜ count ≤ 16 ⌝ }
     ensures { λ r. ⌜ r ≡ allValid (take count passes) ⌝ }
 {
@@ -195,7 +195,7 @@ pub fn array_valid(passes: [DecorrPass; 16], count: usize) -> bool
 }
 
 // Runs the first `count` passes of an array, lent as a list. It refuses nothing.
-pub fn run_array(
+fn run_array(
     back: bool,
     passes: [DecorrPass; 16],
     count: usize,
@@ -210,7 +210,7 @@ pub fn run_array(
 }
 
 // The same where the list is accepted: else nothing changes.
-pub fn array_answer(
+fn array_answer(
     back: bool,
     passes: [DecorrPass; 16],
     count: usize,

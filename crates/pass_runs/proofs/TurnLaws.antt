@@ -52,6 +52,7 @@ two-back [] h = absurd (omega arith)
 two-back (x ∷ []) h = absurd (omega arith)
 two-back (x ∷ (y ∷ l)) h = refl
 
+-- a history whose first two slots were set
 pub two-set : (l : List ℤ) (x y : ℤ) → 1 < length l → set (set l 0 x) 1 y ≡ x ∷ (y ∷ drop 2 l)
 two-set [] x y h = absurd (omega arith)
 two-set (a ∷ []) x y h = absurd (omega arith)

@@ -25,6 +25,7 @@ abbrev pub twoTerm : Bool → Term
 twoTerm true = Eighteen
 twoTerm false = Seventeen
 
+-- their sources
 abbrev pub twoSource : Bool → ℤ → ℤ → ℤ
 twoSource true last before = source18 last before
 twoSource false last before = source17 last before
@@ -34,6 +35,7 @@ abbrev pub crossTerm : Bool → Term
 crossTerm true = MinusTwo
 crossTerm false = MinusOne
 
+-- y where the test holds, else x
 abbrev pub eitherOf : Bool → ℤ → ℤ → ℤ
 eitherOf true x y = y
 eitherOf false x y = x

@@ -20,7 +20,7 @@ pub struct Turned {
 }
 
 // One channel's step for a term that does not clip, at the buffer's element x.
-pub fn turn_plain(analysis: bool, weight: i32, delta: i32, source: i32, x: i32) -> Turned
+fn turn_plain(analysis: bool, weight: i32, delta: i32, source: i32, x: i32) -> Turned
     ensures { λ r. ⌜ r ≡ turned analysis false weight delta source x ⌝ }
 {
     if analysis {
@@ -41,7 +41,7 @@ pub fn turn_plain(analysis: bool, weight: i32, delta: i32, source: i32, x: i32) 
 }
 
 // One channel's step for a cross term, at the buffer's element x.
-pub fn turn_clip(analysis: bool, weight: i32, delta: i32, source: i32, x: i32) -> Turned
+fn turn_clip(analysis: bool, weight: i32, delta: i32, source: i32, x: i32) -> Turned
     ensures { λ r. ⌜ r ≡ turned analysis true weight delta source x ⌝ }
 {
     if analysis {
@@ -62,7 +62,7 @@ pub fn turn_clip(analysis: bool, weight: i32, delta: i32, source: i32, x: i32) -
 }
 
 // The source of term 18, or of 17.
-pub fn two_source(eighteen: bool, last: i32, before: i32) -> i32
+fn two_source(eighteen: bool, last: i32, before: i32) -> i32
     ensures { λ r. ⌜ r ≡ twoSource eighteen last before ⌝ }
 {
     if eighteen {
@@ -73,14 +73,14 @@ pub fn two_source(eighteen: bool, last: i32, before: i32) -> i32
 }
 
 // y where `second` is set, else x.
-pub fn either(second: bool, x: i32, y: i32) -> i32
+fn either(second: bool, x: i32, y: i32) -> i32
     ensures { λ r. ⌜ r ≡ eitherOf second x y ⌝ }
 {
     if second { y } else { x }
 }
 
 // A pass with other weights and histories.
-pub fn with_state(
+fn with_state(
     pass: DecorrPass,
     weight_a: i32,
     weight_b: i32,
@@ -100,7 +100,7 @@ pub fn with_state(
 }
 
 // A fixed lag.
-pub fn run_lag(analysis: bool, lag: usize, start: DecorrPass, buffer: &mut [i32]) -> DecorrPass
+fn run_lag(analysis: bool, lag: usize, start: DecorrPass, buffer: &mut [i32]) -> DecorrPass
     ensures { λ r. ⌜ record { pass = r; buffer = now (buffer .exit) } ≡ run (turn analysis (Lag lag)) start 0 (now (buffer .entry)) ⌝ }
 {
     let delta = start.delta;
@@ -132,7 +132,7 @@ pub fn run_lag(analysis: bool, lag: usize, start: DecorrPass, buffer: &mut [i32]
 }
 
 // Terms 17 and 18: both channels from their own last two samples.
-pub fn run_two(analysis: bool, eighteen: bool, start: DecorrPass, buffer: &mut [i32]) -> DecorrPass
+fn run_two(analysis: bool, eighteen: bool, start: DecorrPass, buffer: &mut [i32]) -> DecorrPass
     ensures { λ r. ⌜ record { pass = r; buffer = now (buffer .exit) } ≡ run (turn analysis (twoTerm eighteen)) start 0 (now (buffer .entry)) ⌝ }
 {
     let delta = start.delta;
@@ -173,7 +173,7 @@ pub fn run_two(analysis: bool, eighteen: bool, start: DecorrPass, buffer: &mut [
 
 // Terms -1 and -2: one channel from the last sample of the other, the other from this frame's. For -2 the channels change
 // places where they are read and written.
-pub fn run_cross(analysis: bool, second: bool, start: DecorrPass, buffer: &mut [i32]) -> DecorrPass
+fn run_cross(analysis: bool, second: bool, start: DecorrPass, buffer: &mut [i32]) -> DecorrPass
     ensures { λ r. ⌜ record { pass = r; buffer = now (buffer .exit) } ≡ run (turn analysis (crossTerm second)) start 0 (now (buffer .entry)) ⌝ }
 {
     let delta = start.delta;
@@ -211,7 +211,7 @@ pub fn run_cross(analysis: bool, second: bool, start: DecorrPass, buffer: &mut [
 }
 
 // Term -3: each channel from the last sample of the other.
-pub fn run_swap(analysis: bool, start: DecorrPass, buffer: &mut [i32]) -> DecorrPass
+fn run_swap(analysis: bool, start: DecorrPass, buffer: &mut [i32]) -> DecorrPass
     ensures { λ r. ⌜ record { pass = r; buffer = now (buffer .exit) } ≡ run (turn analysis MinusThree) start 0 (now (buffer .entry)) ⌝ }
 {
     let delta = start.delta;

@@ -32,10 +32,12 @@ advanced-bounded t e r p a b ra rb h =
       in-b = rw (e, h .delta-is) (clip-stays (p .«weight_b») (h .d) (r .sourceB a) rb (h .in-b) (h .small));
     }
 
+-- a step of decorrelation
 pub step-bounded : (t : Term) → isCross t ≡ true → (p : DecorrPass) (m : ℕ) (x y : ℤ) → Bounded p → Bounded (step t p m x y .pass)
 unfolding step
 step-bounded t e p m x y h = advanced-bounded t e (ruleOf t p m) p _ _ x y h
 
+-- a step of analysis
 pub unstep-bounded : (t : Term) → isCross t ≡ true → (p : DecorrPass) (m : ℕ) (x y : ℤ) → Bounded p → Bounded (unstep t p m x y .pass)
 unfolding unstep
 unstep-bounded t e p m x y h = advanced-bounded t e (ruleOf t p m) p x y _ _ h
@@ -51,12 +53,13 @@ run-keeps F P f p m [] h = h
 run-keeps F P f p m (x ∷ []) h = h
 run-keeps F P f p m (x ∷ (y ∷ l)) h = run-keeps F P f (F p m x y .pass) (suc m) l (f p m x y h)
 
--- a pass keeps its term and its delta
+-- a step keeps the term
 turn-term : (analysis : Bool) (t : Term) (p : DecorrPass) (m : ℕ) (x y : ℤ) → turn analysis t p m x y .pass .term ≡ p .term
 unfolding step unstep advanced
 turn-term true t p m x y = refl
 turn-term false t p m x y = refl
 
+-- a pass over a buffer keeps its term
 pub passed-term : (analysis : Bool) (p : DecorrPass) (l : List ℤ) → passed analysis p l .pass .term ≡ p .term
 unfolding passed
 passed-term analysis p l =
@@ -78,10 +81,12 @@ abbrev pub AllBounded : List DecorrPass → Type 0
 AllBounded [] = Unit {0}
 AllBounded (p ∷ ps) = CrossBounded p × AllBounded ps
 
+-- through decorrelation
 pub decorrelated-bounded : (ps : List DecorrPass) (l : List ℤ) → AllBounded ps → AllBounded (decorrelated ps l .passes)
 decorrelated-bounded [] l h = tt
 decorrelated-bounded (p ∷ ps) l h = (passed-bounded false p l (h .0), decorrelated-bounded ps (passed false p l .buffer) (h .1))
 
+-- through analysis
 pub analysed-bounded : (ps : List DecorrPass) (l : List ℤ) → AllBounded ps → AllBounded (analysed ps l .passes)
 analysed-bounded [] l h = tt
 analysed-bounded (p ∷ ps) l h = (passed-bounded true p (analysed ps l .buffer) (h .0), analysed-bounded ps l (h .1))

@@ -30,6 +30,7 @@ forth zero [] d l r h e = absurd (omega arith)
 forth (suc j) (p ∷ ps) d l r h e = ap (consPass p) (forth j ps d l r (omega arith) e)
 forth (suc j) [] d l r h e = absurd (omega arith)
 
+-- no pass is left
 pub forth-end : (ps : List DecorrPass) (j : ℕ) (l : List ℤ) → length ps ≤ j → before (take j ps) (decorrelated (drop j ps) l) ≡ record { passes = ps; buffer = l }
 unfolding consPass
 forth-end [] zero l h = refl

@@ -57,11 +57,12 @@ decorrelates-back p l h = pass-undone false true step-unstep p l h
 pub analyses-back : (p : DecorrPass) (l : List ℤ) → Fit l → passed true p (passed false p l .buffer) ≡ record { pass = passed false p l .pass; buffer = l }
 analyses-back p l h = pass-undone true false unstep-step p l h
 
--- a pass leaves 32-bit numbers, and as many as there were
+-- a pass leaves 32-bit numbers
 pub passed-fit : (analysis : Bool) (p : DecorrPass) (l : List ℤ) → Fit l → Fit (passed analysis p l .buffer)
 unfolding passed
 passed-fit analysis p l h = run-fit (turn analysis (termOf (p .term))) (turn-fits analysis (termOf (p .term))) p 0 l h
 
+-- a pass keeps the length
 pub passed-length : (analysis : Bool) (p : DecorrPass) (l : List ℤ) → length (passed analysis p l .buffer) ≡ length l
 unfolding passed
 passed-length analysis p l = run-length (turn analysis (termOf (p .term))) p 0 l
@@ -71,14 +72,17 @@ pub decorrelated-fit : (ps : List DecorrPass) (l : List ℤ) → Fit l → Fit (
 decorrelated-fit [] l h = h
 decorrelated-fit (p ∷ ps) l h = decorrelated-fit ps (passed false p l .buffer) (passed-fit false p l h)
 
+-- analysis leaves 32-bit numbers
 pub analysed-fit : (ps : List DecorrPass) (l : List ℤ) → Fit l → Fit (analysed ps l .buffer)
 analysed-fit [] l h = h
 analysed-fit (p ∷ ps) l h = passed-fit true p (analysed ps l .buffer) (analysed-fit ps l h)
 
+-- decorrelation keeps the length
 pub decorrelated-length : (ps : List DecorrPass) (l : List ℤ) → length (decorrelated ps l .buffer) ≡ length l
 decorrelated-length [] l = refl
 decorrelated-length (p ∷ ps) l = decorrelated-length ps (passed false p l .buffer) ∙ passed-length false p l
 
+-- analysis keeps the length
 pub analysed-length : (ps : List DecorrPass) (l : List ℤ) → length (analysed ps l .buffer) ≡ length l
 analysed-length [] l = refl
 analysed-length (p ∷ ps) l = passed-length true p (analysed ps l .buffer) ∙ analysed-length ps l

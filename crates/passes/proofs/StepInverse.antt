@@ -70,11 +70,12 @@ by-fits : (b : Bool) (r : Rule) (p : DecorrPass) (x y : ℤ) → SFits w32 (samp
 by-fits true r p x y = (sample-fits _ _ _, sample-fits _ _ _)
 by-fits false r p x y = (sample-fits _ _ _, sample-fits _ _ _)
 
--- samples and residuals are 32-bit numbers
+-- samples are 32-bit numbers
 pub step-fits : (t : Term) → Fitting (step t)
 unfolding Fitting step
 step-fits t p m x y = by-fits (ruleOf t p m .bFirst) (ruleOf t p m) p x y
 
+-- residuals are 32-bit numbers
 pub unstep-fits : (t : Term) → Fitting (unstep t)
 unfolding Fitting unstep
 unstep-fits t p m x y = (residual-fits _ _ _, residual-fits _ _ _)

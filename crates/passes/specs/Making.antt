@@ -40,13 +40,16 @@ seeded t seed = padded (ordered (isLag t) (take (seedCount t) seed))
 abbrev pub tooShort : Bool → ℕ → ℕ → Bool
 tooShort needed count len = (needed || ltb 0 len) && ltb len count
 
+-- x where the test holds, else y
 abbrev pub pickAnswer : Bool → SeedAnswer → SeedAnswer → SeedAnswer
 pickAnswer true x y = x
 pickAnswer false x y = y
 
+-- whether a seed has enough
 abbrev pub seedAnswer : Bool → ℕ → ℕ → SeedAnswer
 seedAnswer needed count len = pickAnswer (tooShort needed count len) TooShort Enough
 
+-- x where the test holds, else y
 abbrev pub pickNumber : Bool → ℕ → ℕ → ℕ
 pickNumber true x y = x
 pickNumber false x y = y
@@ -76,10 +79,12 @@ pub record Made : Type 0 where
   pub refusal : ℕ
   pub pass : DecorrPass
 
+-- by the refusal
 abbrev pub madeBy : ℕ → DecorrPass → Made
 madeBy zero p = record { refusal = 0; pass = p }
 madeBy (suc n) p = record { refusal = suc n; pass = noPass }
 
+-- the making of a pass
 unfoldable pub made : ℤ → ℤ → ℤ → ℤ → List ℤ → List ℤ → Made
 made term delta weightA weightB seedA seedB =
     madeBy (makingRefusal term seedA seedB)

@@ -6,6 +6,7 @@ use lib.IntN.{ℤ, pos, negsuc}
 use Rattle.passes.specs.declared.Term.{Term}
 use Rattle.passes.specs.declared.Term.the-variants.{Lag, Seventeen, Eighteen, MinusOne, MinusTwo, MinusThree, Invalid}
 
+-- x where the test holds, else y
 abbrev pub pickTerm : Bool → Term → Term → Term
 pickTerm true x y = x
 pickTerm false x y = y
@@ -20,6 +21,7 @@ termOf (negsuc (suc zero)) = MinusTwo
 termOf (negsuc (suc (suc zero))) = MinusThree
 termOf (negsuc (suc (suc (suc n)))) = Invalid
 
+-- whether a number stands for one of the thirteen
 abbrev pub isValid : Term → Bool
 isValid (Lag t) = true
 isValid Seventeen = true

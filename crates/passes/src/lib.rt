@@ -82,7 +82,7 @@ pub fn is_valid(t: Term) -> bool
 }
 
 // Whether a term predicts one channel from the other.
-pub fn is_cross(t: Term) -> bool
+fn is_cross(t: Term) -> bool
     ensures { λ r. ⌜ r ≡ isCross t ⌝ }
 {
     match t {
@@ -97,7 +97,7 @@ pub fn is_cross(t: Term) -> bool
 }
 
 // Whether a term is a fixed lag.
-pub fn is_lag(t: Term) -> bool
+fn is_lag(t: Term) -> bool
     ensures { λ r. ⌜ r ≡ isLag t ⌝ }
 {
     match t {
@@ -112,7 +112,7 @@ pub fn is_lag(t: Term) -> bool
 }
 
 // How many seed samples a term takes for each channel.
-pub fn seed_count(t: Term) -> usize
+fn seed_count(t: Term) -> usize
     ensures { λ r. ⌜ r ≡ seedCount t ⌝ }
 {
     match t {
@@ -127,7 +127,7 @@ pub fn seed_count(t: Term) -> usize
 }
 
 // Whether a seed of `len` samples has the `count` that its term takes; an empty one that is not needed has.
-pub fn seed_answer(needed: bool, count: usize, len: usize) -> SeedAnswer
+fn seed_answer(needed: bool, count: usize, len: usize) -> SeedAnswer
     ensures { λ r. ⌜ r ≡ seedAnswer needed count len ⌝ }
 {
     if (needed | (0 < len)) & (len < count) {
@@ -138,7 +138,7 @@ pub fn seed_answer(needed: bool, count: usize, len: usize) -> SeedAnswer
 }
 
 // Slot j of a history that is seeded with the first n samples of a seed.
-pub fn seed_slot(reversed: bool, n: usize, seed: &[i32], j: usize) -> i32
+fn seed_slot(reversed: bool, n: usize, seed: &[i32], j: usize) -> i32
     requires { ⌜ n ≤ length (now seed) ⌝ }
     ensures { λ r. ⌜ r ≡ getD (padded (ordered reversed (take n (now (seed .entry))))) j (pos 0) ⌝ }
 {
@@ -150,7 +150,7 @@ pub fn seed_slot(reversed: bool, n: usize, seed: &[i32], j: usize) -> i32
 }
 
 // The history that a seed gives a term which takes `count` samples: zeros for an empty seed.
-pub fn seed_history(reversed: bool, count: usize, seed: &[i32]) -> [i32; 8]
+fn seed_history(reversed: bool, count: usize, seed: &[i32]) -> [i32; 8]
     requires { ⌜ (count ≤ 8) × (0 < length (now seed) → count ≤ length (now seed)) ⌝ }
     ensures { λ r. ⌜ r ≡ padded (ordered reversed (take count (now (seed .entry)))) ⌝ }
 {
@@ -168,7 +168,7 @@ pub fn seed_history(reversed: bool, count: usize, seed: &[i32]) -> [i32; 8]
 }
 
 // A refusal: no pass results.
-pub fn refused(refusal: Refusal) -> PassAnswer
+fn refused(refusal: Refusal) -> PassAnswer
     ensures { λ r. ⌜ r ≡ record { outcome = Outcome.Refused refusal; pass = noPass } ⌝ }
 {
     PassAnswer {

@@ -23,11 +23,12 @@ unfolding predict
 predict-raw w s {q} {r} eq er fw fs fq fr =
     rw (toZ-ofZ w32 r fr, er, toZ-ofZ w64 q fq, eq, cast64 w fw, cast64 s fs, toZ-ofZ w64 _ (mul-fits64 w s fw fs), toZ-ofZ w64 _ (biased-fits64 w s fw fs))
 
--- a sample and a residual are 32-bit numbers
+-- a sample is a 32-bit number
 pub sample-fits : (w s r : ℤ) → SFits w32 (sample w s r)
 unfolding sample
 sample-fits w s r = wrap-fits _
 
+-- a residual is a 32-bit number
 pub residual-fits : (w s x : ℤ) → SFits w32 (residual w s x)
 unfolding residual
 residual-fits w s x = wrap-fits _

@@ -12,17 +12,19 @@ use lib.Signed.{ltZ}
 use Rattle.weights.specs.Weights.{Way, wayOf, movedClip}
 use Rattle.weights.specs.Sign.{bySign, chosen}
 
--- by the code's tests
+-- a number above 0 picks up
 pub above : (x u v w : ℤ) → ltZ (pos 0) x ≡ true → u ≡ bySign x u v w
 above (pos zero) u v w e = cc
 above (pos (suc n)) u v w e = refl
 above (negsuc n) u v w e = cc
 
+-- a number below 0 picks down
 pub below : (x u v w : ℤ) → ltZ x (pos 0) ≡ true → v ≡ bySign x u v w
 below (pos zero) u v w e = cc
 below (pos (suc n)) u v w e = let f : false ≡ true = simp leb·suc-zero at e in cc
 below (negsuc n) u v w e = refl
 
+-- 0 picks still
 pub at-zero : (x u v w : ℤ) → ltZ (pos 0) x ≡ false → ltZ x (pos 0) ≡ false → w ≡ bySign x u v w
 at-zero (pos zero) u v w e f = refl
 at-zero (pos (suc n)) u v w e f = absurd (omega (arith, ltb-false 0 (suc n) e))
@@ -61,6 +63,7 @@ way-sym (negsuc n) (pos zero) = refl
 way-sym (negsuc n) (pos (suc m)) = refl
 way-sym (negsuc n) (negsuc m) = refl
 
+-- the clipped update picks among its three outcomes
 pub clip-chosen : (k : Way) (w d : ℤ) → chosen k (movedClip Way.up w d) (movedClip Way.down w d) w ≡ movedClip k w d
 clip-chosen Way.still w d = refl
 clip-chosen Way.up w d = refl

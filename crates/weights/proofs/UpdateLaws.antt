@@ -49,6 +49,7 @@ pub updated-sym : (w d x y : ℤ) → updated w d x y ≡ updated w d y x
 unfolding updated
 updated-sym w d x y = ap (λ k. moved k w d) (way-sym x y)
 
+-- in the clipped update too
 pub updatedClip-sym : (w d x y : ℤ) → updatedClip w d x y ≡ updatedClip w d y x
 unfolding updatedClip
 updatedClip-sym w d x y = ap (λ k. movedClip k w d) (way-sym x y)

@@ -18,10 +18,11 @@ sample weight source res = wrap32 (predict weight source +ℤ res)
 unfoldable pub residual : ℤ → ℤ → ℤ → ℤ
 residual weight source x = wrap32 (x -ℤ predict weight source)
 
--- the sources of terms 17 and 18, from the last sample and the one before it: wrapping products by 2 and 3 (P7, P8)
+-- the source of term 17, from the last sample and the one before it: the products by 2 and 3 wrap (P7, P8)
 unfoldable pub source17 : ℤ → ℤ → ℤ
 source17 last before = wrap32 (wrap32 (last *ℤ pos 2) -ℤ before)
 
+-- the source of term 18: half, rounded down
 unfoldable pub source18 : ℤ → ℤ → ℤ
 source18 last before = floorDiv (wrap32 (wrap32 (last *ℤ pos 3) -ℤ before)) 2
 
@@ -47,6 +48,7 @@ moved Way.still weight delta = weight
 moved Way.up weight delta = wrap32 (weight +ℤ delta)
 moved Way.down weight delta = wrap32 (weight -ℤ delta)
 
+-- x where the test holds, else y
 abbrev pub pick : Bool → ℤ → ℤ → ℤ
 pick true x y = x
 pick false x y = y
@@ -62,9 +64,10 @@ movedClip Way.still weight delta = weight
 movedClip Way.up weight delta = atMost1024 (wrap32 (weight +ℤ delta))
 movedClip Way.down weight delta = wrap32 (negℤ (atMost1024 (wrap32 (delta -ℤ weight))))
 
--- a weight after a step with this source and residual: the terms that do not clip, and the cross terms
+-- a weight after a step with this source and residual: the terms that do not clip
 unfoldable pub updated : ℤ → ℤ → ℤ → ℤ → ℤ
 updated weight delta source res = moved (wayOf source res) weight delta
 
+-- the cross terms
 unfoldable pub updatedClip : ℤ → ℤ → ℤ → ℤ → ℤ
 updatedClip weight delta source res = movedClip (wayOf source res) weight delta

@@ -44,7 +44,7 @@ pub fn source_18(last: i32, before: i32) -> i32
 }
 
 // `up` where x is above 0, `down` where it is below, else `still`.
-pub fn by_sign(x: i64, up: i32, down: i32, still: i32) -> i32
+fn by_sign(x: i64, up: i32, down: i32, still: i32) -> i32
     ensures { λ r. ⌜ r ≡ bySign x up down still ⌝ }
 {
     if x > 0 {
@@ -55,14 +55,14 @@ pub fn by_sign(x: i64, up: i32, down: i32, still: i32) -> i32
 }
 
 // `up` where the signs of x and y agree, `down` where they differ, `still` where one is 0: by the sign of the product.
-pub fn by_product(x: i32, y: i32, up: i32, down: i32, still: i32) -> i32
+fn by_product(x: i32, y: i32, up: i32, down: i32, still: i32) -> i32
     ensures { λ r. ⌜ r ≡ chosen (wayOf x y) up down still ⌝ }
 {
     by_sign(x as i64 * y as i64, up, down, still)
 }
 
 // The same by one sign after the other.
-pub fn by_both(late: i32, early: i32, up: i32, down: i32, still: i32) -> i32
+fn by_both(late: i32, early: i32, up: i32, down: i32, still: i32) -> i32
     ensures { λ r. ⌜ r ≡ chosen (wayOf late early) up down still ⌝ }
 {
     let e = early as i64;
@@ -84,21 +84,21 @@ pub fn update_weight(weight: i32, delta: i32, late: i32, early: i32) -> i32
 }
 
 // x, and 1024 where x is above it.
-pub fn at_most_1024(x: i32) -> i32
+fn at_most_1024(x: i32) -> i32
     ensures { λ r. ⌜ r ≡ atMost1024 x ⌝ }
 {
     if x > 1024 { 1024 } else { x }
 }
 
 // A cross weight that grows.
-pub fn up_clip(weight: i32, delta: i32) -> i32
+fn up_clip(weight: i32, delta: i32) -> i32
     ensures { λ r. ⌜ r ≡ movedClip Way.up weight delta ⌝ }
 {
     at_most_1024(wrapping::wrapping_add(weight, delta))
 }
 
 // A cross weight that falls.
-pub fn down_clip(weight: i32, delta: i32) -> i32
+fn down_clip(weight: i32, delta: i32) -> i32
     ensures { λ r. ⌜ r ≡ movedClip Way.down weight delta ⌝ }
 {
     wrapping::wrapping_neg(at_most_1024(wrapping::wrapping_sub(delta, weight)))

@@ -27,13 +27,15 @@ mag-neg (pos zero) = omega arith
 mag-neg (pos (suc n)) = omega arith
 mag-neg (negsuc n) = omega arith
 
--- a sum, a difference and a negation of 32-bit numbers fit 64 bits
+-- a sum of 32-bit numbers fits 64 bits
 pub add-fits64 : (a b : ℤ) → SFits w32 a → SFits w32 b → SFits w64 (a +ℤ b)
 add-fits64 a b ha hb = record { sfits = omega (arith, mag-add a b, ha .sfits, hb .sfits) }
 
+-- a difference of 32-bit numbers fits 64 bits
 pub sub-fits64 : (a b : ℤ) → SFits w32 a → SFits w32 b → SFits w64 (a -ℤ b)
 sub-fits64 a b ha hb = record { sfits = omega (arith, mag-add a (negℤ b), mag-neg b, ha .sfits, hb .sfits) }
 
+-- a negation of a 32-bit number fits 64 bits
 pub neg-fits64 : (a : ℤ) → SFits w32 a → SFits w64 (negℤ a)
 neg-fits64 a h = record { sfits = omega (arith, mag-neg a, h .sfits) }
 
