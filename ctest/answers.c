@@ -66,11 +66,51 @@ static void entropy(void)
     expect_list("mono medians", medians, (const int32_t[]){1, 256, 0, 0, 0, 0, 77}, 7);
 }
 
+static const uint8_t ones[12] = {0, 1, 0, 1, 0, 1, 0, 1, 0, 1, 0, 1};
+static const uint8_t payload[2] = {0x7e, 0x02};
+
+static void one_word(void)
+{
+    uint32_t state[13] = {0, 0, 0, 0, 0, 0, 0, 1, 1, 1, 1, 1, 1};
+    static const uint32_t after[13] = {9, 1, 1, 0, 0, 0, 0, 6, 6, 6, 1, 1, 1};
+    int32_t sample[1] = {77};
+    uint32_t report[2] = {77, 77};
+    expect("wv_word", wv_word(payload, 2, state, 13, sample, 1, report, 2), 0);
+    expect("the sample of a word", sample[0], 3);
+    expect("the zone of a word", report[0], 4);
+    expect("the count of a word", report[1], 3);
+    for (size_t i = 0; i < 13; i++)
+        expect("a number of the state", state[i], after[i]);
+    expect("wv_word past the end", wv_word(payload, 1, state, 13, sample, 1, report, 2), 3);
+    expect("the place after a refusal", state[0], 9);
+    state[1] = 2;
+    expect("wv_word for channel 2", wv_word(payload, 2, state, 13, sample, 1, report, 2), 12);
+}
+
+static void reading(void)
+{
+    int32_t samples[5] = {77, 77, 77, 77, 77};
+    uint32_t answer[8];
+    expect("wv_read", wv_read(ones, 12, payload, 2, 1, samples, 2, answer, 8), 0);
+    expect_list("samples", samples, (const int32_t[]){3, -1, 77}, 3);
+    expect("the bits of a reading", answer[0], 10);
+    expect("the samples of a reading", answer[7], 2);
+    expect("wv_read of a run", wv_read(ones, 12, (const uint8_t[]){7}, 1, 2, samples, 4, answer, 8), 0);
+    expect_list("samples of a run", samples, (const int32_t[]){0, 0, 0, 0, 77}, 5);
+    expect("the bits of a run", answer[0], 6);
+    expect("wv_read past the end", wv_read(ones, 12, payload, 1, 1, samples, 2, answer, 8), 3);
+    expect("the bits of a refused reading", answer[0], 0);
+    expect("wv_read into a list of another length", wv_read(ones, 12, payload, 2, 1, samples, 3, answer, 8), 6);
+    expect("wv_read of a mono payload", wv_read(ones, 6, payload, 2, 1, samples, 2, answer, 8), 2);
+}
+
 int main(void)
 {
     log_words();
     pass_bytes();
     entropy();
+    one_word();
+    reading();
     if (failures == 0)
         puts("ctest: every answer is the expected one");
     return failures != 0;

@@ -2,11 +2,20 @@
 //!
 //! A list passes as pointer and length; the answer is a refusal number of document 01, 0 for accepted.
 
+#[rustfmt::skip]
 unsafe extern "C" {
     fn wv_log_word(word: i16, value: *mut i32, value_len: usize) -> u32;
     fn wv_term_byte(byte: u8, out: *mut i32, out_len: usize) -> u32;
     fn wv_weight_byte(byte: u8, out: *mut i32, out_len: usize) -> u32;
     fn wv_entropy(entropy: *const u8, entropy_len: usize, medians: *mut i32, medians_len: usize) -> u32;
+    fn wv_word(
+        payload: *const u8, payload_len: usize, state: *mut u32, state_len: usize,
+        sample: *mut i32, sample_len: usize, report: *mut u32, report_len: usize,
+    ) -> u32;
+    fn wv_read(
+        entropy: *const u8, entropy_len: usize, payload: *const u8, payload_len: usize, frames: usize,
+        samples: *mut i32, samples_len: usize, answer: *mut u32, answer_len: usize,
+    ) -> u32;
 }
 
 pub fn log_word(word: i16, value: &mut [i32]) -> u32 {
@@ -23,4 +32,24 @@ pub fn weight_byte(byte: u8, out: &mut [i32]) -> u32 {
 
 pub fn entropy(entropy: &[u8], medians: &mut [i32]) -> u32 {
     unsafe { wv_entropy(entropy.as_ptr(), entropy.len(), medians.as_mut_ptr(), medians.len()) }
+}
+
+#[rustfmt::skip]
+pub fn word(payload: &[u8], state: &mut [u32], sample: &mut [i32], report: &mut [u32]) -> u32 {
+    unsafe {
+        wv_word(
+            payload.as_ptr(), payload.len(), state.as_mut_ptr(), state.len(),
+            sample.as_mut_ptr(), sample.len(), report.as_mut_ptr(), report.len(),
+        )
+    }
+}
+
+#[rustfmt::skip]
+pub fn read(entropy: &[u8], payload: &[u8], frames: usize, samples: &mut [i32], answer: &mut [u32]) -> u32 {
+    unsafe {
+        wv_read(
+            entropy.as_ptr(), entropy.len(), payload.as_ptr(), payload.len(), frames,
+            samples.as_mut_ptr(), samples.len(), answer.as_mut_ptr(), answer.len(),
+        )
+    }
 }

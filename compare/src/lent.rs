@@ -35,6 +35,14 @@ impl<T: Cell> Lent<T> {
         Lent { made: cells.clone(), cells }
     }
 
+    /// A list that holds `values`.
+    pub fn holding(values: &[T]) -> Lent<T> {
+        let mut lent = Lent::marked(values.len());
+        lent.cells[MARGIN..MARGIN + values.len()].copy_from_slice(values);
+        lent.made.copy_from_slice(&lent.cells);
+        lent
+    }
+
     /// The list itself, to lend.
     pub fn list(&mut self) -> &mut [T] {
         let end = self.cells.len() - MARGIN;

@@ -2,13 +2,17 @@
 //!
 //! `compare` compares them on every kind of input. `compare SEED SCALE` does so with other random inputs, SCALE times
 //! as many. The seed is printed; the same seed gives the same inputs. `compare store` writes the answers of the
-//! published Rust that the program `replay` carries.
+//! published Rust that the program `replay` carries. `compare bench` prints a table of both sides' speed.
+mod bench;
 mod capi;
 mod case;
+mod fields;
 mod kinds;
 mod lent;
+mod payloads;
 mod random;
 mod store;
+mod theirs;
 
 use case::{Failed, Run};
 use std::process::ExitCode;
@@ -49,9 +53,13 @@ fn main() -> ExitCode {
             }
         };
     }
+    if words == ["bench"] {
+        bench::run(SEED);
+        return ExitCode::SUCCESS;
+    }
     let number = |i: usize, default: u64| words.get(i).map_or(Ok(default), |word| word.parse());
     let (Ok(seed), Ok(scale)) = (number(0, SEED), number(1, 1)) else {
-        eprintln!("usage: compare [SEED [SCALE]] | compare store");
+        eprintln!("usage: compare [SEED [SCALE]] | compare store | compare bench");
         return ExitCode::from(2);
     };
     match compare(seed, scale as usize) {

@@ -4,14 +4,18 @@ use crate::case::{Failed, Run};
 pub mod entropy;
 mod log_words;
 mod pass_bytes;
+mod reads;
+pub mod words;
 
 /// A kind: its name, and what runs it.
 pub type Kind = (&'static str, fn(&mut Run) -> Result<(), Failed>);
 
 /// Every kind, in the order in which they run.
-pub const KINDS: [Kind; 4] = [
+pub const KINDS: [Kind; 6] = [
     ("log words", log_words::run),
     ("term bytes", pass_bytes::run_terms),
     ("weight bytes", pass_bytes::run_weights),
     ("entropy payloads", entropy::run),
+    ("words", words::run),
+    ("readings", reads::run),
 ];

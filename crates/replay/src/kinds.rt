@@ -2,6 +2,7 @@
 use crate::numbers::holds_signed;
 use crate::numbers::number_at;
 use crate::numbers::part;
+use crate::words;
 
 // What a file holds.
 pub enum Kind {
@@ -9,6 +10,8 @@ pub enum Kind {
     TermBytes,
     WeightBytes,
     Entropy,
+    Words,
+    Readings,
 }
 
 // What became of the next record.
@@ -29,6 +32,8 @@ pub fn next(kind: Kind, fd: i32, record: u32) -> Step {
         Kind::TermBytes => next_term_byte(fd, record),
         Kind::WeightBytes => next_weight_byte(fd, record),
         Kind::Entropy => next_entropy(fd),
+        Kind::Words => next_word(fd),
+        Kind::Readings => next_reading(fd),
     }
 }
 
@@ -92,4 +97,20 @@ fn next_entropy(fd: i32) -> Step {
         return Step::End;
     }
     told(entropy_agrees(&record))
+}
+
+fn next_word(fd: i32) -> Step {
+    let mut record = [0u8; 140];
+    if io::read_full(fd, &mut record) < 140 {
+        return Step::End;
+    }
+    told(words::word_agrees(&record))
+}
+
+fn next_reading(fd: i32) -> Step {
+    let mut record = [0u8; 232];
+    if io::read_full(fd, &mut record) < 232 {
+        return Step::End;
+    }
+    told(words::reading_agrees(&record))
 }

@@ -2,6 +2,7 @@
 // functions, and prints for each kind how many there are and how many agree.
 mod kinds;
 mod numbers;
+mod words;
 
 use kinds::Kind;
 use kinds::Step;
@@ -54,4 +55,6 @@ fn main() {
     replay_file(Kind::TermBytes, b"term_bytes.bin");
     replay_file(Kind::WeightBytes, b"weight_bytes.bin");
     replay_file(Kind::Entropy, b"entropy.bin");
+    replay_file(Kind::Words, b"words.bin");
+    replay_file(Kind::Readings, b"readings.bin");
 }

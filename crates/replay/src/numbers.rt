@@ -34,6 +34,27 @@ pub fn holds_signed(record: &[u8], list: &[i32]) -> bool {
     true
 }
 
+// Whether the numbers of a record are those of a list.
+pub fn holds(record: &[u8], list: &[u32]) -> bool {
+    let mut i = 0;
+    while i < list.len() {
+        if number_at(record, i) != list[i] {
+            return false;
+        }
+        i += 1;
+    }
+    true
+}
+
+// Fills a list with the numbers of a record.
+pub fn load(record: &[u8], list: &mut [u32]) {
+    let mut i = 0;
+    while i < list.len() {
+        list[i] = number_at(record, i);
+        i += 1;
+    }
+}
+
 // The first bytes of a list, all of them where it has fewer.
 pub fn part(bytes: &[u8], length: u32) -> &[u8] {
     let count = length as usize;

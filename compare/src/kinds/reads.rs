@@ -1,0 +1,113 @@
+//! Whole readings: every payload of up to 2 bytes, random, damaged and cut payloads, and the largest sizes.
+use crate::capi;
+use crate::case::{Case, Failed, Run, Smaller, plainer, same, shorter};
+use crate::fields;
+use crate::lent::Lent;
+use crate::payloads::{encoded, entropy, entropy_of, residuals};
+use crate::theirs::{self, MAX_BYTES, MAX_FRAMES};
+use reference::entropy::expand_entropy;
+use reference::samples::encode_packed_samples_stereo_from_entropy;
+use std::fmt;
+
+#[derive(Clone)]
+pub struct Read {
+    pub entropy: Vec<u8>,
+    pub payload: Vec<u8>,
+    pub frames: usize,
+    /// The length of the list of samples, and that of the answer.
+    pub length: usize,
+    pub slots: usize,
+}
+
+impl fmt::Debug for Read {
+    fn fmt(&self, f: &mut fmt::Formatter<'_>) -> fmt::Result {
+        let shown = &self.payload[..self.payload.len().min(4096)];
+        write!(f, "Read {{ entropy: {:02x?}, payload of {}: {shown:02x?}, ", self.entropy, self.payload.len())?;
+        write!(f, "frames: {}, length: {}, slots: {} }}", self.frames, self.length, self.slots)
+    }
+}
+
+impl Case for Read {
+    fn compare(&self) -> Result<u32, String> {
+        let (mut samples, mut answer) = (Lent::marked(self.length), Lent::marked(self.slots));
+        let refusal = capi::read(&self.entropy, &self.payload, self.frames, samples.list(), answer.list());
+        if self.slots < 8 {
+            same("refusal", &refusal, &6)?;
+            samples.kept("samples")?;
+            answer.kept("answer")?;
+            return Ok(refusal);
+        }
+        let (number, told, read) = theirs::read(&self.entropy, &self.payload, self.frames, self.length);
+        same("refusal", &refusal, &number)?;
+        answer.written("answer", &told)?;
+        samples.written("samples", &read)?;
+        Ok(refusal)
+    }
+
+    fn smaller(&self) -> Smaller<'_, Read> {
+        let frames =
+            [self.frames / 2, self.frames.saturating_sub(1)].into_iter().filter(|&frames| frames < self.frames);
+        let frames = frames.filter(|_| self.length == 2 * self.frames);
+        let frames = frames.map(|frames| Read { frames, length: 2 * frames, ..self.clone() });
+        let payloads = shorter(&self.payload).chain(plainer(&self.payload));
+        let payloads = payloads.map(|payload| Read { payload, ..self.clone() });
+        let entropies = plainer(&self.entropy).map(|entropy| Read { entropy, ..self.clone() });
+        Box::new(frames.chain(payloads).chain(entropies))
+    }
+}
+
+fn agree_on(run: &mut Run, entropy: &[u8], payload: Vec<u8>, frames: usize) -> Result<(), Failed> {
+    run.agree(Read { entropy: entropy.to_vec(), payload, frames, length: 2 * frames, slots: 8 })
+}
+
+/// Every payload of up to two bytes.
+fn short_payloads(run: &mut Run) -> Result<(), Failed> {
+    for words in [[0, 0, 0, 256, 0, 0], [256; 6], [0, 0, 0, 0, 0, 300], [1000, 900, 800, 1100, 1000, 900], [8191; 6]] {
+        let entropy = entropy_of(words);
+        for both in 0..=u16::MAX {
+            agree_on(run, &entropy, both.to_le_bytes().to_vec(), 3)?;
+            if both < 256 {
+                agree_on(run, &entropy, vec![both as u8], 2)?;
+            }
+        }
+    }
+    Ok(())
+}
+
+pub fn run(run: &mut Run) -> Result<(), Failed> {
+    short_payloads(run)?;
+    for round in 0..100_000 * run.scale {
+        let random = &mut run.random;
+        let (mut entropy, frames, length) = (entropy(random), random.below(24), random.below(60));
+        let payload = if round % 2 == 0 { encoded(random, &entropy, frames) } else { None };
+        let payload = payload.unwrap_or_else(|| fields::payload(random, length));
+        if random.once_in(16) {
+            entropy.truncate(random.below(13));
+        }
+        let length = if random.once_in(16) { random.below(60) } else { 2 * frames };
+        let slots = if random.once_in(16) { random.below(11) } else { 8 };
+        run.agree(Read { entropy, payload, frames, length, slots })?;
+    }
+    largest(run)
+}
+
+/// Frames and bytes at their limits and one above.
+fn largest(run: &mut Run) -> Result<(), Failed> {
+    let entropy = entropy_of([1500, 1400, 1300, 1600, 1500, 1400]);
+    for bits in [0, 1, 4, 12, 24, 31] {
+        let info = expand_entropy(&entropy).unwrap();
+        let values = residuals(&mut run.random, 2 * MAX_FRAMES, bits, 500);
+        let payload = encode_packed_samples_stereo_from_entropy(&values, &info).unwrap();
+        agree_on(run, &entropy, payload.clone(), MAX_FRAMES)?;
+        agree_on(run, &entropy, payload, MAX_FRAMES + 1)?;
+    }
+    for length in [MAX_BYTES, MAX_BYTES + 1] {
+        let payload = run.random.bytes(length);
+        agree_on(run, &entropy, payload, MAX_FRAMES)?;
+        agree_on(run, &entropy, vec![0xff; length], MAX_FRAMES)?;
+    }
+    for frames in [usize::MAX, usize::MAX / 2 + 1] {
+        run.agree(Read { entropy: entropy.clone(), payload: vec![0; 4], frames, length: 0, slots: 8 })?;
+    }
+    Ok(())
+}

@@ -1,0 +1,133 @@
+//! What the published Rust answers, told as document 01 tells it.
+//!
+//! A refusal is a number. Of a refused word only the number counts: the Rust has then already changed medians and
+//! flags, document 01 hands back the old ones. A reading's bits and medians are those after its last accepted word.
+use reference::PackedSamples;
+use reference::entropy::expand_entropy;
+use reference::error::Error;
+use reference::samples::{
+    AdaptiveMedians, BitReader, RunState, StereoDecodeState, Zone, decode_packed_samples_stereo_from_entropy,
+    decode_sample_stateful_stereo, read_folded_ones_count,
+};
+
+/// The limits of document 01, which the Rust does not have.
+pub const MAX_FRAMES: usize = 131_072;
+pub const MAX_BYTES: usize = 4_194_304;
+
+/// The state of one word, in the order of the C interface: place, channel, flags, debt, six medians.
+pub type State = [u32; 13];
+
+/// An accepted word.
+pub struct Word {
+    pub sample: i32,
+    pub state: State,
+    pub report: [u32; 2],
+}
+
+fn number(error: Error) -> u32 {
+    match error {
+        Error::Truncated => 3,
+        Error::EndOfStream => 4,
+        other => unreachable!("{other:?} is no refusal of a word"),
+    }
+}
+
+fn unpacked(state: &State) -> (StereoDecodeState, [AdaptiveMedians; 2]) {
+    let flags = StereoDecodeState {
+        run: RunState { last_zero: state[2] != 0, last_one: state[3] != 0 },
+        zero_run_pending: state[4],
+        run_break: state[5] != 0,
+        ever_took_zero_run: state[6] != 0,
+        next_channel: state[1] as u8,
+    };
+    let set = |from: usize| AdaptiveMedians::new([state[from], state[from + 1], state[from + 2]]);
+    (flags, [set(7), set(10)])
+}
+
+fn packed(place: usize, flags: &StereoDecodeState, medians: &[AdaptiveMedians; 2]) -> State {
+    let [a, b, c] = medians[0].values;
+    let [d, e, f] = medians[1].values;
+    [
+        place as u32,
+        u32::from(flags.next_channel),
+        u32::from(flags.run.last_zero),
+        u32::from(flags.run.last_one),
+        flags.zero_run_pending,
+        u32::from(flags.run_break),
+        u32::from(flags.ever_took_zero_run),
+        a,
+        b,
+        c,
+        d,
+        e,
+        f,
+    ]
+}
+
+/// The zone of the next word and its count, by the Rust's own steps; none for a zero out of a run.
+fn report(
+    reader: &BitReader<'_>,
+    flags: &StereoDecodeState,
+    medians: &[AdaptiveMedians; 2],
+) -> Result<[u32; 2], Error> {
+    let (mut reader, mut flags, mut medians) = (reader.clone(), *flags, *medians);
+    if flags.zero_run_pending > 0 || flags.take_zero_run(&mut medians, &mut reader)?.is_some() {
+        return Ok([0, 0]);
+    }
+    let zone = Zone::from_ones_count(read_folded_ones_count(&mut reader, &mut flags.run)?);
+    Ok([1 + u32::from(zone.index()), zone.ones_count()])
+}
+
+/// One word, read from the place that the state names.
+pub fn word(payload: &[u8], state: &State) -> Result<Word, u32> {
+    if payload.len() > MAX_BYTES {
+        return Err(5);
+    }
+    if state[1] > 1 {
+        return Err(12);
+    }
+    let place = state[0] as usize;
+    let (mut flags, mut medians) = unpacked(state);
+    let mut reader = BitReader::new(payload.get(place / 8..).unwrap_or(&[]));
+    // A place past the end leaves nothing to skip: a word that needs a bit is then truncated.
+    let _ = reader.get_bits((place % 8) as u32);
+    let start = reader.bits_consumed();
+    let report = report(&reader, &flags, &medians);
+    let sample = decode_sample_stateful_stereo(&mut reader, &mut medians, &mut flags).map_err(number)?;
+    let state = packed(place + reader.bits_consumed() - start, &flags, &medians);
+    Ok(Word { sample, state, report: report.expect("an accepted word has a zone") })
+}
+
+/// A reading: its refusal number, the eight numbers of its answer, and the samples that were read.
+pub fn read(entropy: &[u8], payload: &[u8], frames: usize, length: usize) -> (u32, [u32; 8], Vec<i32>) {
+    let before = |refusal| (refusal, [0; 8], Vec::new());
+    if frames > MAX_FRAMES || payload.len() > MAX_BYTES {
+        return before(5);
+    }
+    if length != 2 * frames {
+        return before(6);
+    }
+    let Ok(info) = expand_entropy(entropy) else {
+        return before(1);
+    };
+    let Some(mut medians) = AdaptiveMedians::stereo_pair_from_entropy(&info) else {
+        return before(2);
+    };
+    let (mut reader, mut flags) = (BitReader::new(payload), StereoDecodeState::new());
+    let (mut refusal, mut state, mut samples) = (Ok(()), packed(0, &flags, &medians), Vec::with_capacity(length));
+    while samples.len() < length && refusal.is_ok() {
+        match decode_sample_stateful_stereo(&mut reader, &mut medians, &mut flags) {
+            Ok(sample) => {
+                samples.push(sample);
+                state = packed(reader.bits_consumed(), &flags, &medians);
+            }
+            Err(error) => refusal = Err(error),
+        }
+    }
+    // The Rust's own entry answers the same samples, or refuses for the same reason.
+    let whole = decode_packed_samples_stereo_from_entropy(&PackedSamples::new(payload), &info, frames);
+    assert_eq!(whole, refusal.clone().map(|()| samples.clone()));
+    let [place, _, _, _, _, _, _, a, b, c, d, e, f] = state;
+    let answer = [place, a, b, c, d, e, f, samples.len() as u32];
+    (refusal.map_or_else(number, |()| 0), answer, samples)
+}
