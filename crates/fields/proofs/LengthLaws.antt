@@ -15,6 +15,7 @@ pub record Long (n b : ℕ) : Type 0 where
   pub above : n < 2 ^ b
   pub below : 2 ^ (b - 1) ≤ n
 
+-- `bitLength` is that length
 pub long : (n : ℕ) → 0 < n → n < 2 ^ 32 → Long n (bitLength n)
 unfolding bitLength
 long n p h =

@@ -25,10 +25,12 @@ pub data Ended : Type 0 where
   at : ℕ → Ended
   never : Ended
 
+-- the place after a field
 abbrev pub fieldEnd : Field → Ended
 fieldEnd (Value v q) = at q
 fieldEnd Truncated = never
 
+-- the place after a prefix
 abbrev pub prefixEnd : Prefix → Ended
 prefixEnd (Prefix.Value v q) = at q
 prefixEnd Prefix.EndOfStream = never
@@ -51,6 +53,7 @@ pub data Split {A B : Type 0} (end-b : B → Ended) (end-a : A → Ended) (then 
   part : (v q : ℕ) → end-b x ≡ at q → ((k : ℕ → ℕ → A) → then x k ≡ k v q) → Split end-b end-a then x
   stop : ((k : ℕ → ℕ → A) → end-a (then x k) ≡ never) → Split end-b end-a then x
 
+-- an answer does not both end and not end
 clash : {X : Type 0} {e : Ended} {q : ℕ} → e ≡ at q → e ≡ never → X
 clash {e = e} e1 e2 = let z : _≡_ {A = ℕ} 0 1 = cc in absurd (omega arith)
 
@@ -84,10 +87,12 @@ local-then {A} {B} end-b end-a then split p f k lf lk = record { on = on; inside
             ap (λ (x : B). then x (k b)) (lf .same a b m h u) ∙ g (k b) ∙ lk v m .same a b q i t ∙ sym (g (k a))
         go (stop h) = clash e (h (k a))
 
+-- a field before a field
 pub field-field : (x : Field) → Split fieldEnd fieldEnd andThen x
 field-field (Value v q) = part v q refl (λ k. refl)
 field-field Truncated = stop (λ k. refl)
 
+-- a field before a prefix
 field-prefix : (x : Field) → Split fieldEnd prefixEnd thenPrefix x
 field-prefix (Value v q) = part v q refl (λ k. refl)
 field-prefix Truncated = stop (λ k. refl)
@@ -97,6 +102,7 @@ local-pick : (t : Bool) (p : ℕ) (f g : List Bool → Field) → Local fieldEnd
 local-pick true p f g x y = x
 local-pick false p f g x y = y
 
+-- the same of two prefixes
 local-pick-prefix : (t : Bool) (p : ℕ) (f g : List Bool → Prefix) → Local prefixEnd p f → Local prefixEnd p g → Local prefixEnd p (λ a. pickPrefix t (f a) (g a))
 local-pick-prefix true p f g x y = x
 local-pick-prefix false p f g x y = y
@@ -105,20 +111,25 @@ local-pick-prefix false p f g x y = y
 value-here : (p v : ℕ) → Local fieldEnd p (λ a. Value v p)
 value-here p v = local-still fieldEnd p (Value v p) (λ q e. let z : p ≡ q = cc in sym z)
 
+-- no value reads nothing on
 value-none : (p : ℕ) → Local fieldEnd p (λ a. Truncated)
 value-none p = local-still fieldEnd p Truncated (λ q e. clash e refl)
 
+-- a prefix that is known at its place
 prefix-here : (p v : ℕ) → Local prefixEnd p (λ a. Prefix.Value v p)
 prefix-here p v = local-still prefixEnd p (Prefix.Value v p) (λ q e. let z : p ≡ q = cc in sym z)
 
+-- no prefix
 prefix-truncated : (p : ℕ) → Local prefixEnd p (λ a. Prefix.Truncated)
 prefix-truncated p = local-still prefixEnd p Prefix.Truncated (λ q e. clash e refl)
 
+-- the end of the stream
 prefix-ended : (p : ℕ) → Local prefixEnd p (λ a. Prefix.EndOfStream)
 prefix-ended p = local-still prefixEnd p Prefix.EndOfStream (λ q e. clash e refl)
 
 -- ---- bits and counts
 
+-- what is dropped of a part is a part of what is left
 drop-take : (p k : ℕ) (l : List Bool) → drop p (take (p + k) l) ≡ take k (drop p l)
 drop-take zero k l = rw zero-add
 drop-take (suc p) k [] = rw suc-add (sym (take-nil k))
@@ -128,10 +139,12 @@ drop-take (suc p) k (x ∷ l) = rw suc-add (drop-take p k l)
 part-same : (a b : List Bool) (p k : ℕ) → take (p + k) a ≡ take (p + k) b → take k (drop p a) ≡ take k (drop p b)
 part-same a b p k t = sym (drop-take p k a) ∙ ap (drop p) t ∙ drop-take p k b
 
+-- a field that ends has a value
 ended : (x : Field) (q : ℕ) → fieldEnd x ≡ at q → (v : ℕ) × (x ≡ Value v q)
 ended (Value v m) q e = let z : m ≡ q = cc in (v, ap (Value v) z)
 ended Truncated q e = clash e refl
 
+-- a number of bits
 pub bits-local : (p k : ℕ) → Local fieldEnd p (λ a. getBits a p k)
 bits-local p k = record { on = on; inside = inside; same = same }
   where
@@ -162,6 +175,7 @@ counted-ones a p c q e = go (ltb (ones (drop p a)) (length (drop p a))) refl e
         (sym z, omega (arith, ltb-true (ones (drop p a)) (length (drop p a)) h), omega arith)
     go false h e = let z : _≡_ {A = ℕ} 0 1 = cc in absurd (omega arith)
 
+-- a zero is not a one
 different : {X : Type 0} → false ≡ true → X
 different e = let z : _≡_ {A = ℕ} 0 1 = ap val e in absurd (omega arith)
 
@@ -179,6 +193,7 @@ ones-same (true ∷ l) (true ∷ m) (suc n) e h t =
     let r = ones-same l m n (omega arith) (omega arith) z in
     (ap suc (r .0), omega (arith, r .1))
 
+-- a count of ones
 pub unary-local : (p : ℕ) → Local fieldEnd p (λ a. unary a p)
 unary-local p = record { on = on; inside = inside; same = same }
   where
@@ -200,6 +215,7 @@ unary-local p = record { on = on; inside = inside; same = same }
 
 -- ---- the fields of a word
 
+-- the number behind a count
 counted-local : (q c : ℕ) → Local fieldEnd q (λ a. counted a q c)
 unfolding counted
 counted-local q c =
@@ -207,12 +223,14 @@ counted-local q c =
     (local-then fieldEnd fieldEnd andThen field-field q (λ a. getBits a q (c - 1)) (λ a v n. Value (2 ^ (c - 1) + v) n) (bits-local q (c - 1))
     (λ v n. value-here n (2 ^ (c - 1) + v)))
 
+-- a run length
 pub run-local : (p : ℕ) → Local fieldEnd p (λ a. runLength a p)
 unfolding runLength
 run-local p =
     local-then fieldEnd fieldEnd andThen field-field p (λ a. unary a p) (λ a c q. pick (ltb c 33) (counted a q c) Truncated) (unary-local p)
     (λ c q. local-pick (ltb c 33) q (λ a. counted a q c) (λ a. Truncated) (counted-local q c) (value-none q))
 
+-- the value behind a second count
 escaped-local : (c q : ℕ) → Local prefixEnd q (λ a. escaped a c q)
 unfolding escaped
 escaped-local c q =
@@ -224,6 +242,7 @@ escaped-local c q =
     within : ℕ → ℕ → Prefix
     within v n = pickPrefix (leb (16 + v) 4294967295) (Prefix.Value (16 + v) n) Prefix.Truncated
 
+-- a prefix
 pub prefix-local : (p : ℕ) → Local prefixEnd p (λ a. prefix a p)
 unfolding prefix
 prefix-local p =
@@ -231,6 +250,7 @@ prefix-local p =
     (λ r q. local-pick-prefix (ltb r 16) q (λ a. Prefix.Value r q) (λ a. thenPrefix (unary a q) (escaped a)) (prefix-here q r)
     (local-then fieldEnd prefixEnd thenPrefix field-prefix q (λ a. unary a q) (λ a. escaped a) (unary-local q) escaped-local))
 
+-- a code of b bits or one less
 code-local : (p b x : ℕ) → Local fieldEnd p (λ a. codeOf a p b x)
 unfolding codeOf
 code-local p b x =
@@ -241,6 +261,7 @@ code-local p b x =
     rest : List Bool → ℕ → ℕ → Field
     rest a s q = pick (ltb s x) (Value s q) (andThen (getBits a q 1) λ t n. Value (2 * s - x + t) n)
 
+-- a code in an interval
 pub truncated-binary-local : (p M : ℕ) → Local fieldEnd p (λ a. truncatedBinary a p M)
 unfolding truncatedBinary
 truncated-binary-local p M =

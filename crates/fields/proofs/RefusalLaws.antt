@@ -17,6 +17,7 @@ use Rattle.fields.specs.Code.{bitLength, codeOf, truncatedBinary}
 use Rattle.fields.specs.Refused.{Missing, NoZero, NoRun, Second, NoPrefix, Ends, NoCode}
 use Rattle.fields.specs.declared.Prefix.{Prefix}
 
+-- a value is not missing
 value-clash : {X : Type 0} {v q : ℕ} → Value v q ≡ Truncated → X
 value-clash e = let z : _≡_ {A = ℕ} 0 1 = cc in absurd (omega arith)
 
@@ -29,6 +30,7 @@ bits-missing bits q n e = go (leb n (length (drop q bits))) refl e
     go true h e = value-clash e
     go false h e = leb-false n (length (drop q bits)) h
 
+-- a count that is missing has no zero
 pub zero-missing : (bits : List Bool) (q : ℕ) → unary bits q ≡ Truncated → NoZero bits q
 unfolding unary
 zero-missing bits q e = go (ltb (ones (drop q bits)) (length (drop q bits))) refl e
@@ -37,6 +39,7 @@ zero-missing bits q e = go (ltb (ones (drop q bits)) (length (drop q bits))) ref
     go true h e = value-clash e
     go false h e = ltb-false (ones (drop q bits)) (length (drop q bits)) h
 
+-- the number behind a count misses a bit
 counted-missing : (bits : List Bool) (q c : ℕ) → counted bits q c ≡ Truncated → Missing bits q (c - 1)
 unfolding counted
 counted-missing bits q c e = go (ltb c 2) (getBits bits q (c - 1)) refl e
@@ -63,9 +66,11 @@ run-refused bits p e = go (unary bits p) refl e
 prefix-clash : {X : Type 0} {a b : Prefix} → a ≡ b → (a ≡ Prefix.Truncated) × (b ≡ Prefix.EndOfStream) → X
 prefix-clash e h = let x = h .0 in let y = h .1 in let z : _≡_ {A = ℕ} 0 1 = cc in absurd (omega arith)
 
+-- a value is not refused
 value-truncated : {X : Type 0} {v q : ℕ} → Prefix.Value v q ≡ Prefix.Truncated → X
 value-truncated e = let z : _≡_ {A = ℕ} 0 1 = cc in absurd (omega arith)
 
+-- a value is not the end
 value-ended : {X : Type 0} {v q : ℕ} → Prefix.Value v q ≡ Prefix.EndOfStream → X
 value-ended e = let z : _≡_ {A = ℕ} 0 1 = cc in absurd (omega arith)
 
@@ -94,6 +99,7 @@ module _ (bits : List Bool) (p : ℕ) where
       first true e = prefix-clash (sym e) (refl, refl)
       first false e = second (ltb 33 c) refl e
 
+  -- the stream ends behind a second count
   escaped-ended : (c n : ℕ) → Second bits p c n → escaped bits c n ≡ Prefix.EndOfStream → Ends bits p
   unfolding escaped
   escaped-ended c n s e = first (eqb c 33) refl e
@@ -117,6 +123,7 @@ module _ (bits : List Bool) (p : ℕ) where
       first true h e = record { behind = n; second = rw (eqb-true c 33 h) at s }
       first false h e = second (ltb 33 c) e
 
+  -- a prefix that is refused
   pub prefix-refused : prefix bits p ≡ Prefix.Truncated → NoPrefix bits p
   unfolding prefix
   prefix-refused e = go (unary bits p) refl e
@@ -133,6 +140,7 @@ module _ (bits : List Bool) (p : ℕ) where
       go (Field.Value r q) f e = test r q (ltb r 16) refl f e
       go Field.Truncated f e = NoPrefix.no-zero (zero-missing bits p f)
 
+  -- a prefix that ends the stream
   pub prefix-ended : prefix bits p ≡ Prefix.EndOfStream → Ends bits p
   unfolding prefix
   prefix-ended e = go (unary bits p) refl e

@@ -24,10 +24,12 @@ pub up-is : (d m a : ℕ) → 32 ≤ d → a ≡ hold (m + d) → hold (m + a / 
 unfolding up
 up-is d m a h e = rw (sym e) (omega (arith, div-small a d h))
 
+-- down, where the step would pass 0
 pub down-low : (d m a : ℕ) → 32 ≤ d → a ≡ hold (m + (d - 2)) → m < a / d * 2 → 0 ≡ down d m
 unfolding down
 down-low d m a h e l = rw (sym e) (omega (arith, div-small a d h))
 
+-- down, where it does not
 pub down-high : (d m a : ℕ) → 32 ≤ d → a ≡ hold (m + (d - 2)) → a / d * 2 ≤ m → m - a / d * 2 ≡ down d m
 unfolding down
 down-high d m a h e l = rw (sym e) (omega (arith, div-small a d h))

@@ -13,6 +13,7 @@ base-many m zero a b c n h ea eb en ec = absurd (omega arith)
 base-many m (suc zero) a b c n h ea eb en ec = absurd (omega arith)
 base-many m (suc (suc j)) a b c n h ea eb en ec = let e : n ≡ j = omega arith in rw (ea, eb, e, ec)
 
+-- the width of a count of 2 or more
 pub width-many : (m : Medians) (k : ℕ) → 2 ≤ k → width m k ≡ g (m .m2)
 width-many m zero h = absurd (omega arith)
 width-many m (suc zero) h = absurd (omega arith)
@@ -31,9 +32,11 @@ ends m k = (omega arith, omega arith)
 wrap-is : (n : ℕ) → wrapped n ≡ n % 2147483648
 wrap-is n = omega arith
 
+-- the larger of two is the first
 max-left : (a b : ℕ) → b ≤ a → a ≡ max a b
 max-left a b h = omega arith
 
+-- the larger of two is the second
 max-right : (a b : ℕ) → a ≤ b → b ≡ max a b
 max-right a b h = omega arith
 
@@ -41,6 +44,7 @@ max-right a b h = omega arith
 pub cut-low : (b h : ℕ) → h % 2147483648 < b % 2147483648 → (b % 2147483648 ≡ wrapped b) × (b % 2147483648 ≡ max (wrapped b) (wrapped h))
 cut-low b h l = (sym (wrap-is b), rw (wrap-is b, wrap-is h) (max-left (b % 2147483648) (h % 2147483648) (omega arith)))
 
+-- high at low or above
 pub cut-high : (b h : ℕ) → b % 2147483648 ≤ h % 2147483648 → (b % 2147483648 ≡ wrapped b) × (h % 2147483648 ≡ max (wrapped b) (wrapped h))
 cut-high b h l = (sym (wrap-is b), rw (wrap-is b, wrap-is h) (max-right (b % 2147483648) (h % 2147483648) l))
 

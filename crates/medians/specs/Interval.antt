@@ -14,6 +14,7 @@ base m zero = 0
 base m (suc zero) = g (m .m0)
 base m (suc (suc j)) = g (m .m0) + g (m .m1) + j * g (m .m2)
 
+-- the widths of the same sentence
 abbrev pub width : Medians → ℕ → ℕ
 width m zero = g (m .m0)
 width m (suc zero) = g (m .m1)
@@ -23,6 +24,7 @@ width m (suc (suc j)) = g (m .m2)
 abbrev pub wrapped : ℕ → ℕ
 wrapped n = n % 4294967296 % 2147483648
 
+-- the low end
 unfoldable pub lowOf : Medians → ℕ → ℕ
 lowOf m k = wrapped (base m k)
 

@@ -28,6 +28,7 @@ use Rattle.samples.specs.View.{ReadTold, readRefusal, readEntry}
 abbrev seeds : List ℕ
 seeds = 0 ∷ 1 ∷ 0 ∷ 1 ∷ 0 ∷ 1 ∷ 0 ∷ 1 ∷ 0 ∷ 1 ∷ 0 ∷ 1 ∷ []
 
+-- a lent list that holds sevens
 abbrev blank : ℕ → List ℤ
 blank n = replicate n (pos 7)
 

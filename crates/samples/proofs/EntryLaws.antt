@@ -41,10 +41,12 @@ module _ (entropy payload : List ℕ) (frames : ℕ) (list : List ℤ) where
   unfolding readRefusal
   refused-frames h = rw (lt-ltb 131072 frames h)
 
+  -- too many payload bytes
   pub refused-payload : 4194304 < length payload → 5 ≡ readRefusal entropy payload frames list
   unfolding readRefusal
   refused-payload h = rw (lt-ltb 4194304 (length payload) h, or-true (ltb 131072 frames))
 
+  -- a list of another length
   pub refused-list : frames ≤ 131072 → length payload ≤ 4194304 → (length list ≡ 2 * frames → ⊥) → 6 ≡ readRefusal entropy payload frames list
   unfolding readRefusal
   refused-list h l n = rw (le-ltb 131072 frames h, le-ltb 4194304 (length payload) l, ne-eqb (length list) (2 * frames) n)

@@ -58,6 +58,7 @@ pub record Replaced (ms : List AdaptiveMedians) (x : AdaptiveMedians) (c k : ℕ
   pub at-left : side c (adapt (pairOf ms .left) k) (pairOf ms .left) ≡ pairOf (set ms c x) .left
   pub at-right : side c (pairOf ms .right) (adapt (pairOf ms .right) k) ≡ pairOf (set ms c x) .right
 
+-- a set that is stored replaces the one of its channel
 pub replaced : (ms : List AdaptiveMedians) (x : AdaptiveMedians) (c k : ℕ) → length ms ≡ 2 → c < 2 → mediansOf x ≡ adapt (mediansOf (getD ms c zeroSet)) k → Replaced ms x c k
 replaced [] x c k l h e = absurd (omega arith)
 replaced (a ∷ []) x c k l h e = absurd (omega arith)

@@ -22,32 +22,39 @@ use Rattle.samples.specs.Word.{Report, none, zoneOf, Word, given, refuse
 use Rattle.samples.specs.Reading.{Reading, onWord, more, reading}
 use Rattle.samples.proofs.RefusalLaws.{word-refused}
 
+-- the place after a word
 abbrev wordEnd : Word → Ended
 wordEnd (given v q t z) = at q
 wordEnd (refused c) = never
 
+-- a field before the rest of a word
 field-word : (x : Field) → Split fieldEnd wordEnd onField x
 field-word (Field.Value v q) = part v q refl (λ k. refl)
 field-word Field.Truncated = stop (λ k. refl)
 
+-- a prefix before the rest of a word
 prefix-word : (x : Prefix) → Split prefixEnd wordEnd onPrefix x
 prefix-word (Prefix.Value v q) = part v q refl (λ k. refl)
 prefix-word Prefix.EndOfStream = stop (λ k. refl)
 prefix-word Prefix.Truncated = stop (λ k. refl)
 
+-- a sample that is known at its place
 given-here : (p : ℕ) (v : ℤ) (t : State) (z : Report) → Local wordEnd p (λ a. given v p t z)
 given-here p v t z = local-still wordEnd p (given v p t z) (λ q e. let y : p ≡ q = cc in sym y)
 
+-- the first or the second, by a flag
 local-cond : (t : Bool) (p : ℕ) (f g : List Bool → Word) → Local wordEnd p f → Local wordEnd p g → Local wordEnd p (λ a. cond t (f a) (g a))
 local-cond true p f g x y = x
 local-cond false p f g x y = y
 
+-- a zero, or the rest
 local-zeros : (n p : ℕ) (f : ℕ → Word) (g : List Bool → Word) → ((d : ℕ) → Local wordEnd p (λ a. f d)) → Local wordEnd p g → Local wordEnd p (λ a. onZeros n f (g a))
 local-zeros zero p f g x y = y
 local-zeros (suc d) p f g x y = x d
 
 -- ---- the four steps
 
+-- step 4
 value-local : (p k : ℕ) (s : State) → Local wordEnd p (λ a. value a p k s)
 unfolding value
 value-local p k s =
@@ -60,6 +67,7 @@ value-local p k s =
     sample : ℕ → ℕ → ℕ → Word
     sample c t n = given (signed t (lowOf (due s) k + c)) n (after k s) (zoneOf k)
 
+-- step 3
 plain-local : (p : ℕ) (s : State) → Local wordEnd p (λ a. plain a p s)
 unfolding plain
 plain-local p s =
@@ -69,6 +77,7 @@ plain-local p s =
     next : List Bool → ℕ → ℕ → Word
     next a r q = value a q (r / 2 + val (s .lastOne)) (flagged (bitOf (r % 2)) s)
 
+-- step 2
 fresh-local : (p : ℕ) (s : State) → Local wordEnd p (λ a. fresh a p s)
 unfolding fresh
 fresh-local p s =
@@ -81,6 +90,7 @@ fresh-local p s =
     next : List Bool → ℕ → ℕ → Word
     next a n q = onZeros n (λ d. given (pos 0) q (inRun d s) none) (plain a q s)
 
+-- step 1
 word-local : (p : ℕ) (s : State) → Local wordEnd p (λ a. word a p s)
 unfolding word
 word-local p s = local-zeros (s .debt) p (λ d. given (pos 0) p (paid d s) none) (λ a. fresh a p s) (λ d. given-here p (pos 0) (paid d s) none) (fresh-local p s)
@@ -95,6 +105,7 @@ word-upto a b p q s t v z e h = word-local p s .same a b q (ap wordEnd e) h ∙ 
 pub word-on : (a : List Bool) (p q : ℕ) (s t : State) (v : ℤ) (z : Report) → word a p s ≡ given v q t z → p ≤ q
 word-on a p q s t v z e = word-local p s .on a q (ap wordEnd e)
 
+-- and within the payload
 pub word-inside : (a : List Bool) (p q : ℕ) (s t : State) (v : ℤ) (z : Report) → word a p s ≡ given v q t z → p ≤ length a → q ≤ length a
 word-inside a p q s t v z e h = word-local p s .inside a q (ap wordEnd e) h
 
@@ -109,6 +120,7 @@ reading-on a (suc n) p s = go (word a p s) refl (reading-on a n)
     go (given v q t z) e ih = omega (arith, word-on a p q s t v z e, ih q t)
     go (refused c) e ih = omega arith
 
+-- and within the payload
 pub reading-inside : (a : List Bool) (n p : ℕ) (s : State) → p ≤ length a → reading a n p s .place ≤ length a
 unfolding reading
 reading-inside a zero p s h = h

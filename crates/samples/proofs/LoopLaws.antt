@@ -33,6 +33,7 @@ pub record Loop (payload : List ℕ) (out₀ : List ℤ) (s₀ : State) (out : L
   pub is : prepend (take i out) (reading (bitsOf payload) (length out₀ - i) p state) ≡ reading (bitsOf payload) (length out₀) 0 s₀
   pub others : drop i out ≡ drop i out₀
 
+-- before the first word the locals hold the start
 pub loop-start : (payload : List ℕ) (out : List ℤ) (ms : List AdaptiveMedians) → length ms ≡ 2
     → Loop payload out (start (pairOf ms .left) (pairOf ms .right)) out ms 0 false false false 0 0
 loop-start payload out ms l =

@@ -29,14 +29,17 @@ use Rattle.samples.specs.declared.coded.ZeroRun.{ZeroRun}
 -- ---- code and sign, in an interval from lo to hi
 
 module _ (bits : List Bool) (p k : ℕ) (m : Medians) (lo hi : ℕ) (a : lo ≡ lowOf m k) (b : hi ≡ highOf m k) where
+  -- a missing code
   pub value-no-code : truncatedBinary bits p (hi - lo) ≡ Truncated → ValueIs bits p m k SignedValue.Truncated
   unfolding value
   value-no-code e = record { is = λ s d. rw (d, ← a, ← b, e) }
 
+  -- a missing sign
   pub value-no-sign : (c q : ℕ) → truncatedBinary bits p (hi - lo) ≡ Value c q → getBits bits q 1 ≡ Truncated → ValueIs bits p m k SignedValue.Truncated
   unfolding value
   value-no-sign c q e f = record { is = λ s d. rw (d, ← a, ← b, e, f) }
 
+  -- code and sign
   pub value-read : (c q t n : ℕ) → truncatedBinary bits p (hi - lo) ≡ Value c q → getBits bits q 1 ≡ Value t n
       → ValueIs bits p m k (SignedValue.Sample (signed t (lo + c)) n)
   unfolding value
@@ -64,6 +67,7 @@ count-none bits p o Prefix.Truncated h t = record { is = λ s z e. rw (z, h) }
 
 -- ---- the run length
 
+-- a flag is not both set and clear
 clash : {A : Type 0} {b : Bool} → b ≡ true → b ≡ false → A
 clash {b = b} e f = let z : _≡_ {A = ℕ} 0 1 = ap val (sym f ∙ e) in absurd (omega arith)
 
@@ -99,34 +103,43 @@ fresh-run bits p s e = go (s .runBreak) (runDue s) refl e
     go false true f h = ap read (same-unbroken s f)
     go false false f h = clash h refl
 
+-- no run length is read
 pub run-skipped : (bits : List Bool) (p : ℕ) → RunIs bits p false (ZeroRun.Word p)
 run-skipped bits p = record { is = λ s e. sym (fresh-word bits p s e) }
 
+-- a run length that is missing
 pub run-missing : (bits : List Bool) (p : ℕ) → runLength bits p ≡ Truncated → RunIs bits p true ZeroRun.Truncated
 run-missing bits p h = record { is = λ s e. rw (fresh-run bits p s e, h) }
 
+-- a run length of 0
 pub run-zero : (bits : List Bool) (p n q : ℕ) → runLength bits p ≡ Value n q → n ≡ 0 → RunIs bits p true (ZeroRun.Word q)
 run-zero bits p n q h z = record { is = λ s e. rw (fresh-run bits p s e, h, z) }
 
-zeros-some : {A : Type 0} (n : ℕ) (f : ℕ → A) (a : A) → 0 < n → f (n - 1) ≡ onZeros n f a
+-- a number of zeros above 0
+pub zeros-some : {A : Type 0} (n : ℕ) (f : ℕ → A) (a : A) → 0 < n → f (n - 1) ≡ onZeros n f a
 zeros-some zero f a h = absurd (omega arith)
 zeros-some (suc d) f a h = ap f (omega arith)
 
+-- a run length above 0
 pub run-some : (bits : List Bool) (p n q : ℕ) → runLength bits p ≡ Value n q → 0 < n → RunIs bits p true (ZeroRun.Run (n - 1) q)
 run-some bits p n q h l = record { is = λ s e. rw (fresh-run bits p s e, h) (zeros-some n (λ d. given (pos 0) q (inRun d s) none) (plain bits q (unbroken s)) l) }
 
 -- ---- whether a run length is read, test by test
 
 module _ (l r : ℕ) (b z o : Bool) where
+  -- a left median above 1
   pub eligible-left : 1 < l → false ≡ eligible l r b z o
   eligible-left h = rw (lt-leb l 1 h, and-false (not b))
 
+  -- a right median above 1
   pub eligible-right : 1 < r → false ≡ eligible l r b z o
   eligible-right h = rw (lt-leb r 1 h, and-false (leb l 1), and-false (not b))
 
+  -- last_zero is set
   pub eligible-zero : z ≡ true → false ≡ eligible l r b z o
   eligible-zero h = rw (h, and-false (leb l 1 && leb r 1), and-false (not b))
 
+  -- nothing is in the way but last_one
   pub eligible-one : l ≤ 1 → r ≤ 1 → b ≡ false → z ≡ false → not o ≡ eligible l r b z o
   eligible-one h k f g = rw (le-leb l 1 h, le-leb r 1 k, f, g)
 

@@ -24,6 +24,7 @@ use Rattle.samples.specs.Refused.{lastCode, Starts, Counts, Why}
 use Rattle.samples.proofs.PartLaws.{fresh-word, fresh-run}
 
 module _ (bits : List Bool) (p : ℕ) (s : State) (c : ℕ) where
+  -- a reason, under the number that was told
   number : (n : ℕ) → Why bits p s n → refused n ≡ refused c → Why bits p s c
   number n w e = let z : n ≡ c = cc in rw z at w
 
@@ -95,6 +96,7 @@ why-some (Why.no-code q k h n) = omega arith
 why-some (Why.no-sign q k x n h a m) = omega arith
 why-some (Why.end-of-stream q h z n) = omega arith
 
+-- no word is refused with 0
 pub word-refused : (bits : List Bool) (p : ℕ) (s : State) (c : ℕ) → word bits p s ≡ refused c → c ≡ 0 → ⊥
 word-refused bits p s c e z = omega (arith, why-some (word-why bits p s c e))
 

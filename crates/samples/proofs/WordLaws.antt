@@ -16,12 +16,10 @@ use Rattle.samples.specs.Parts.{eligible, codedWord, CodedIs}
 use Rattle.samples.specs.View.{stateOf, toldWord, oneWord}
 use Rattle.samples.specs.declared.StereoDecodeState.{StereoDecodeState}
 use Rattle.samples.specs.declared.coded.Coded.{Coded}
+use Rattle.samples.proofs.PartLaws.{zeros-some}
 use Rattle.samples.proofs.HeldLaws.{noSet, there, picked}
 
-zeros-some : {A : Type 0} (n : ℕ) (f : ℕ → A) (a : A) → 0 < n → onZeros n f a ≡ f (n - 1)
-zeros-some zero f a h = absurd (omega arith)
-zeros-some (suc d) f a h = ap f (omega arith)
-
+-- no zeros
 zeros-none : {A : Type 0} (n : ℕ) (f : ℕ → A) (a : A) → n ≡ 0 → onZeros n f a ≡ a
 zeros-none zero f a h = refl
 zeros-none (suc d) f a h = absurd (omega arith)
@@ -29,22 +27,26 @@ zeros-none (suc d) f a h = absurd (omega arith)
 -- a zero is owed
 pub word-paid : (bits : List Bool) (p : ℕ) (s : State) → 0 < s .debt → word bits p s ≡ given (pos 0) p (paid (s .debt - 1) s) none
 unfolding word
-word-paid bits p s h = zeros-some (s .debt) (λ d. given (pos 0) p (paid d s) none) (fresh bits p s) h
+word-paid bits p s h = sym (zeros-some (s .debt) (λ d. given (pos 0) p (paid d s) none) (fresh bits p s) h)
 
 -- no zero is owed
 pub word-fresh : (bits : List Bool) (p : ℕ) (s : State) → s .debt ≡ 0 → word bits p s ≡ fresh bits p s
 unfolding word
 word-fresh bits p s h = zeros-none (s .debt) (λ d. given (pos 0) p (paid d s) none) (fresh bits p s) h
 
--- the entry: a payload that is too large, a channel that is none, and the word itself
+-- ---- the entry by its refusals
+
+-- a payload that is too large
 pub one-large : (payload : List ℕ) (p : ℕ) (s : State) → 4194304 < length payload → toldWord p s (refused 5) ≡ oneWord payload p s
 unfolding oneWord
 one-large payload p s h = rw (lt-ltb 4194304 (length payload) h)
 
+-- a channel that is none
 pub one-channel : (payload : List ℕ) (p : ℕ) (s : State) → length payload ≤ 4194304 → 1 < s .channel → toldWord p s (refused 12) ≡ oneWord payload p s
 unfolding oneWord
 one-channel payload p s h l = rw (le-ltb 4194304 (length payload) h, lt-ltb 1 (s .channel) l)
 
+-- the word itself
 pub one-word : (payload : List ℕ) (p : ℕ) (s : State) (w : Word) → length payload ≤ 4194304 → s .channel ≤ 1 → w ≡ word (bitsOf payload) p s → toldWord p s w ≡ oneWord payload p s
 unfolding oneWord
 one-word payload p s w h l e = rw (le-ltb 4194304 (length payload) h, le-ltb 1 (s .channel) l) (ap (toldWord p s) e)

@@ -20,6 +20,7 @@ abbrev pub valueWord : ℕ → State → SignedValue → Word
 valueWord k s (SignedValue.Sample v q) = given v q (after k s) (zoneOf k)
 valueWord k s SignedValue.Truncated = refused 3
 
+-- code and sign at p, for the medians due
 pub record ValueIs (bits : List Bool) (p : ℕ) (medians : Medians) (k : ℕ) (r : SignedValue) : Type 0 where
   pub is : (s : State) → due s ≡ medians → valueWord k s r ≡ value bits p k s
 
@@ -29,6 +30,7 @@ countWord bits s (OnesCount.Count k q z o) = value bits q k (withFlags z o s)
 countWord bits s OnesCount.EndOfStream = refused 4
 countWord bits s OnesCount.Truncated = refused 3
 
+-- the count at p, for the two flags
 pub record CountIs (bits : List Bool) (p : ℕ) (lastZero lastOne : Bool) (r : OnesCount) : Type 0 where
   pub is : (s : State) → s .lastZero ≡ lastZero → s .lastOne ≡ lastOne → countWord bits s r ≡ plain bits p s
 
@@ -42,6 +44,7 @@ notCounted Prefix.Truncated = OnesCount.Truncated
 abbrev pub eligible : ℕ → ℕ → Bool → Bool → Bool → Bool
 eligible l r broken z o = not broken && (leb l 1 && leb r 1 && not z && not o)
 
+-- the same of a state
 abbrev pub runRead : State → Bool
 runRead s = eligible (s .left .m0) (s .right .m0) (s .runBreak) (s .lastZero) (s .lastOne)
 
@@ -51,6 +54,7 @@ runWord bits s (ZeroRun.Run d q) = given (pos 0) q (inRun d s) none
 runWord bits s (ZeroRun.Word q) = plain bits q (unbroken s)
 runWord bits s ZeroRun.Truncated = refused 3
 
+-- the run length at p, where it is read or not
 pub record RunIs (bits : List Bool) (p : ℕ) (read : Bool) (r : ZeroRun) : Type 0 where
   pub is : (s : State) → runRead s ≡ read → runWord bits s r ≡ fresh bits p s
 

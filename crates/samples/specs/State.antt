@@ -30,23 +30,29 @@ side (suc n) a b = b
 abbrev pub due : State → Medians
 due s = side (s .channel) (s .left) (s .right)
 
+-- and those of the other channel
 abbrev pub other : State → Medians
 other s = side (s .channel) (s .right) (s .left)
 
 -- ---- the state with a part of it set
 
+-- with both sets of medians
 abbrev pub withMedians : Medians → Medians → State → State
 withMedians l r s = record { left = l; right = r; lastZero = s .lastZero; lastOne = s .lastOne; debt = s .debt; runBreak = s .runBreak; everRun = s .everRun; channel = s .channel }
 
+-- with last_zero and last_one
 abbrev pub withFlags : Bool → Bool → State → State
 withFlags z o s = record { left = s .left; right = s .right; lastZero = z; lastOne = o; debt = s .debt; runBreak = s .runBreak; everRun = s .everRun; channel = s .channel }
 
+-- with the debt
 abbrev pub withDebt : ℕ → State → State
 withDebt d s = record { left = s .left; right = s .right; lastZero = s .lastZero; lastOne = s .lastOne; debt = d; runBreak = s .runBreak; everRun = s .everRun; channel = s .channel }
 
+-- with run_break and ever_took_zero_run
 abbrev pub withRun : Bool → Bool → State → State
 withRun b e s = record { left = s .left; right = s .right; lastZero = s .lastZero; lastOne = s .lastOne; debt = s .debt; runBreak = b; everRun = e; channel = s .channel }
 
+-- with the channel due
 abbrev pub withChannel : ℕ → State → State
 withChannel c s = record { left = s .left; right = s .right; lastZero = s .lastZero; lastOne = s .lastOne; debt = s .debt; runBreak = s .runBreak; everRun = s .everRun; channel = c }
 

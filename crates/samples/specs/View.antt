@@ -41,6 +41,7 @@ reportOfZone Zone.Zone1 = zone1
 reportOfZone Zone.Zone2 = zone2
 reportOfZone (Zone.Zone2Overflow k) = over k
 
+-- and none
 abbrev pub reportOf : MaybeZone → Report
 reportOf MaybeZone.None = none
 reportOf (MaybeZone.Some z) = reportOfZone z
