@@ -16,6 +16,20 @@ unsafe extern "C" {
         entropy: *const u8, entropy_len: usize, payload: *const u8, payload_len: usize, frames: usize,
         samples: *mut i32, samples_len: usize, answer: *mut u32, answer_len: usize,
     ) -> u32;
+    #[cfg(passes)]
+    fn wv_pass(
+        term: i8, delta: i32, weight_a: i32, weight_b: i32, seed_a: *const i32, seed_a_len: usize,
+        seed_b: *const i32, seed_b_len: usize, pass: *mut i32, pass_len: usize,
+    ) -> u32;
+    #[cfg(passes)]
+    fn wv_decorrelate(passes: *mut i32, passes_len: usize, buffer: *mut i32, buffer_len: usize) -> u32;
+    #[cfg(passes)]
+    fn wv_analyse(passes: *mut i32, passes_len: usize, buffer: *mut i32, buffer_len: usize) -> u32;
+    #[cfg(packing)]
+    fn wv_pack(
+        residuals: *const i32, residuals_len: usize, entropy: *const u8, entropy_len: usize, frames: usize,
+        out: *mut u8, out_len: usize, answer: *mut u32, answer_len: usize,
+    ) -> u32;
 }
 
 pub fn log_word(word: i16, value: &mut [i32]) -> u32 {
@@ -50,6 +64,39 @@ pub fn read(entropy: &[u8], payload: &[u8], frames: usize, samples: &mut [i32], 
         wv_read(
             entropy.as_ptr(), entropy.len(), payload.as_ptr(), payload.len(), frames,
             samples.as_mut_ptr(), samples.len(), answer.as_mut_ptr(), answer.len(),
+        )
+    }
+}
+
+/// `numbers` are delta, weight A and weight B.
+#[cfg(passes)]
+#[rustfmt::skip]
+pub fn pass(term: i8, numbers: [i32; 3], seed_a: &[i32], seed_b: &[i32], pass: &mut [i32]) -> u32 {
+    unsafe {
+        wv_pass(
+            term, numbers[0], numbers[1], numbers[2], seed_a.as_ptr(), seed_a.len(),
+            seed_b.as_ptr(), seed_b.len(), pass.as_mut_ptr(), pass.len(),
+        )
+    }
+}
+
+#[cfg(passes)]
+pub fn decorrelate(passes: &mut [i32], buffer: &mut [i32]) -> u32 {
+    unsafe { wv_decorrelate(passes.as_mut_ptr(), passes.len(), buffer.as_mut_ptr(), buffer.len()) }
+}
+
+#[cfg(passes)]
+pub fn analyse(passes: &mut [i32], buffer: &mut [i32]) -> u32 {
+    unsafe { wv_analyse(passes.as_mut_ptr(), passes.len(), buffer.as_mut_ptr(), buffer.len()) }
+}
+
+#[cfg(packing)]
+#[rustfmt::skip]
+pub fn pack(residuals: &[i32], entropy: &[u8], frames: usize, out: &mut [u8], answer: &mut [u32]) -> u32 {
+    unsafe {
+        wv_pack(
+            residuals.as_ptr(), residuals.len(), entropy.as_ptr(), entropy.len(), frames,
+            out.as_mut_ptr(), out.len(), answer.as_mut_ptr(), answer.len(),
         )
     }
 }

@@ -22,6 +22,13 @@ impl Cell for u32 {
     }
 }
 
+#[cfg(packing)]
+impl Cell for u8 {
+    fn mark(place: usize) -> u8 {
+        u32::mark(place).to_le_bytes()[3]
+    }
+}
+
 /// A list to lend, and what it held when it was made.
 pub struct Lent<T> {
     cells: Vec<T>,

@@ -6,6 +6,10 @@ use crate::random::Random;
 use crate::theirs::MAX_FRAMES;
 use std::time::{Duration, Instant};
 
+#[cfg(packing)]
+mod packing;
+#[cfg(passes)]
+mod passes;
 mod reading;
 
 const TURNS: usize = 40;
@@ -32,4 +36,8 @@ pub fn run(seed: u64) {
     let random = &mut Random::new(seed);
     let sounds = reading::sounds(random);
     reading::run(&sounds);
+    #[cfg(passes)]
+    passes::run(random);
+    #[cfg(packing)]
+    packing::run(&sounds);
 }

@@ -3,7 +3,13 @@ use crate::case::{Failed, Run};
 
 pub mod entropy;
 mod log_words;
+#[cfg(passes)]
+mod making;
+#[cfg(packing)]
+mod packs;
 mod pass_bytes;
+#[cfg(passes)]
+mod passes;
 mod reads;
 pub mod words;
 
@@ -11,11 +17,25 @@ pub mod words;
 pub type Kind = (&'static str, fn(&mut Run) -> Result<(), Failed>);
 
 /// Every kind, in the order in which they run.
-pub const KINDS: [Kind; 6] = [
+pub const KINDS: &[Kind] = &[
     ("log words", log_words::run),
     ("term bytes", pass_bytes::run_terms),
     ("weight bytes", pass_bytes::run_weights),
     ("entropy payloads", entropy::run),
     ("words", words::run),
     ("readings", reads::run),
+    #[cfg(passes)]
+    ("pass making", making::run),
+    #[cfg(passes)]
+    ("decorrelation and analysis", passes::run),
+    #[cfg(packing)]
+    ("packing", packs::run),
+];
+
+/// What the library does not have yet.
+pub const MISSING: &[&str] = &[
+    #[cfg(not(passes))]
+    "passes",
+    #[cfg(not(packing))]
+    "packing",
 ];

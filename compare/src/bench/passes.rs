@@ -1,0 +1,52 @@
+//! Decorrelation and analysis of the largest number of frames: each term alone, five passes and sixteen.
+use super::{row, timed};
+use crate::capi;
+use crate::random::Random;
+use crate::their_passes::{Pass, TERMS, made};
+use crate::theirs::MAX_FRAMES;
+use reference::decorrelation::{DecorrPass, decorrelate_stereo, recorrelate_stereo};
+
+fn pass(random: &mut Random, term: i8) -> Pass {
+    let mut pass: Pass = std::array::from_fn(|_| random.below(65_536) as i32 - 32_768);
+    (pass[0], pass[1]) = (i32::from(term), 2);
+    (pass[2], pass[3]) = (random.below(1024) as i32, random.below(1024) as i32);
+    pass
+}
+
+fn turn(name: &str, analyse: bool, passes: &[Pass], buffer: &[i32]) {
+    let theirs_made: Vec<DecorrPass> = passes.iter().map(made).collect();
+    let ours_way = if analyse { capi::analyse } else { capi::decorrelate };
+    let their_way = if analyse { recorrelate_stereo } else { decorrelate_stereo };
+    let mut expected = buffer.to_vec();
+    their_way(&mut theirs_made.clone(), &mut expected).unwrap();
+    let mut ours_out = buffer.to_vec();
+    let mut their_out = buffer.to_vec();
+    let ours = || {
+        let mut flat = passes.concat();
+        ours_out.copy_from_slice(buffer);
+        let (time, refusal) = timed(|| ours_way(&mut flat, &mut ours_out));
+        assert!(refusal == 0 && ours_out == expected, "{name}: the outputs differ");
+        time
+    };
+    let theirs = || {
+        let mut list = theirs_made.clone();
+        their_out.copy_from_slice(buffer);
+        timed(|| their_way(&mut list, &mut their_out).unwrap()).0
+    };
+    row(name, ours, theirs);
+}
+
+pub fn run(random: &mut Random) {
+    let buffer: Vec<i32> = (0..2 * MAX_FRAMES).map(|_| (random.next() as i32) >> 16).collect();
+    let usual: [i8; 5] = [18, 18, 2, 17, 3];
+    let sixteen: Vec<i8> = TERMS.iter().copied().chain([18, 17, 2]).collect();
+    for (what, analyse) in [("decorrelation", false), ("analysis", true)] {
+        for term in TERMS {
+            turn(&format!("{what}, term {term}"), analyse, &[pass(random, term)], &buffer);
+        }
+        for terms in [&usual[..], &sixteen] {
+            let list: Vec<Pass> = terms.iter().map(|&term| pass(random, term)).collect();
+            turn(&format!("{what}, {} passes", list.len()), analyse, &list, &buffer);
+        }
+    }
+}

@@ -1,0 +1,116 @@
+//! Packing: residuals of every loudness under every kind of entropy payload, at the ends of the span, short and largest.
+use crate::capi;
+use crate::case::{Case, Failed, Run, Smaller, plainer, same, shorter};
+use crate::lent::Lent;
+use crate::payloads::{entropy, entropy_of, residuals};
+use crate::random::Random;
+use crate::their_packing::{self, SPAN};
+use crate::theirs::MAX_FRAMES;
+use std::fmt;
+
+#[derive(Clone)]
+struct Pack {
+    residuals: Vec<i32>,
+    entropy: Vec<u8>,
+    frames: usize,
+    /// The length of the lent buffer, and that of the answer.
+    room: usize,
+    slots: usize,
+}
+
+impl fmt::Debug for Pack {
+    fn fmt(&self, f: &mut fmt::Formatter<'_>) -> fmt::Result {
+        let shown = &self.residuals[..self.residuals.len().min(1024)];
+        write!(f, "Pack {{ {} residuals: {shown:?}, entropy: {:02x?}, ", self.residuals.len(), self.entropy)?;
+        write!(f, "frames: {}, room: {}, slots: {} }}", self.frames, self.room, self.slots)
+    }
+}
+
+impl Case for Pack {
+    fn compare(&self) -> Result<u32, String> {
+        let (mut out, mut answer) = (Lent::marked(self.room), Lent::marked(self.slots));
+        let refusal = capi::pack(&self.residuals, &self.entropy, self.frames, out.list(), answer.list());
+        if self.slots < 7 {
+            same("refusal", &refusal, &6)?;
+            out.kept("out")?;
+            answer.kept("answer")?;
+            return Ok(refusal);
+        }
+        match their_packing::pack(&self.residuals, &self.entropy, self.frames, self.room) {
+            Ok((told, bytes)) => {
+                same("refusal", &refusal, &0)?;
+                answer.written("answer", &told)?;
+                out.written("out", &bytes)?;
+            }
+            Err(number) => {
+                same("refusal", &refusal, &number)?;
+                answer.written("answer", &[0; 7])?;
+                out.kept("out")?;
+            }
+        }
+        Ok(refusal)
+    }
+
+    fn smaller(&self) -> Smaller<'_, Pack> {
+        let whole = self.residuals.len() == 2 * self.frames && self.room == 28 * self.frames;
+        let lists = shorter(&self.residuals).filter(move |list| whole && list.len() % 2 == 0);
+        let lists = lists.map(|list| whole_pack(list, self.entropy.clone()));
+        let plain = plainer(&self.residuals).map(|residuals| Pack { residuals, ..self.clone() });
+        let entropies = plainer(&self.entropy).map(|entropy| Pack { entropy, ..self.clone() });
+        Box::new(lists.chain(plain).chain(entropies))
+    }
+}
+
+/// All of a list, with just the room that it needs.
+fn whole_pack(residuals: Vec<i32>, entropy: Vec<u8>) -> Pack {
+    let frames = residuals.len() / 2;
+    Pack { residuals, entropy, frames, room: 28 * frames, slots: 7 }
+}
+
+/// Residuals of one or of changing loudness, at times at the ends of the span.
+fn list(random: &mut Random, count: usize) -> Vec<i32> {
+    let (bits, silence) = (random.below(31) as u32, random.pick(&[0, 5, 50]));
+    let mut out = residuals(random, count, bits, silence);
+    for value in &mut out {
+        match random.below(48) {
+            0 => *value = random.pick(&[SPAN - 1, -SPAN, SPAN - 2, 1 - SPAN]),
+            1 => *value = (random.next() as i32) >> random.pick(&[2, 5, 10, 20, 30]),
+            2 => *value = 0,
+            _ => {}
+        }
+    }
+    out
+}
+
+pub fn run(run: &mut Run) -> Result<(), Failed> {
+    for _ in 0..100_000 * run.scale {
+        let random = &mut run.random;
+        let frames = random.below(30);
+        let mut case = whole_pack(list(random, 2 * frames), entropy(random));
+        match random.below(40) {
+            0 => case.entropy.truncate(random.below(13)),
+            1 => case.residuals.truncate(random.below(60)),
+            2 => case.room = random.below(28 * frames + 40),
+            3 => case.slots = random.below(10),
+            4 if frames > 0 => {
+                case.residuals[random.below(2 * frames)] = random.pick(&[SPAN, -SPAN - 1, i32::MAX, i32::MIN])
+            }
+            5 => case.frames = random.pick(&[frames + 1, MAX_FRAMES + 1, usize::MAX]),
+            6 => case.room += random.below(40),
+            _ => {}
+        }
+        run.agree(case)?;
+    }
+    largest(run)
+}
+
+/// 131,072 frames, and one more.
+fn largest(run: &mut Run) -> Result<(), Failed> {
+    let entropy = entropy_of([1500, 1400, 1300, 1600, 1500, 1400]);
+    for bits in [0, 1, 4, 12, 24, 30] {
+        let values = residuals(&mut run.random, 2 * MAX_FRAMES, bits, 500);
+        run.agree(whole_pack(values.clone(), entropy.clone()))?;
+        run.agree(whole_pack([values, vec![1, 2]].concat(), entropy.clone()))?;
+    }
+    run.agree(whole_pack([SPAN - 1, -SPAN].repeat(MAX_FRAMES), entropy_of([0, 0, 0, 256, 0, 0])))
+}

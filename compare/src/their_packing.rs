@@ -1,0 +1,37 @@
+//! What the published Rust packs, told as document 01 tells it.
+use crate::theirs::{MAX_FRAMES, read};
+use reference::entropy::expand_entropy;
+use reference::samples::{AdaptiveMedians, encode_packed_samples_stereo};
+
+/// Packing takes residuals from -SPAN up to but without SPAN.
+pub const SPAN: i32 = 1_879_048_192;
+
+/// Packing: the seven numbers of its answer and the packed bytes, or the refusal number.
+///
+/// The Rust pads to an even number of bytes with a zero byte, document 01 does not; the bits that were written are
+/// those that the Rust reads back.
+pub fn pack(residuals: &[i32], entropy: &[u8], frames: usize, room: usize) -> Result<([u32; 7], Vec<u8>), u32> {
+    if frames > MAX_FRAMES {
+        return Err(5);
+    }
+    if residuals.len() != 2 * frames {
+        return Err(6);
+    }
+    let info = expand_entropy(entropy).map_err(|_| 1u32)?;
+    let mut medians = AdaptiveMedians::stereo_pair_from_entropy(&info).ok_or(2u32)?;
+    if room < 28 * frames {
+        return Err(11);
+    }
+    if residuals.iter().any(|residual| !(-SPAN..SPAN).contains(residual)) {
+        return Err(10);
+    }
+    let mut bytes = encode_packed_samples_stereo(residuals, &mut medians).expect("the span is encodable");
+    let (refusal, read, samples) = read(entropy, &bytes, frames, 2 * frames);
+    assert!(refusal == 0 && samples == residuals, "the Rust reads back what it wrote");
+    let length = read[0].div_ceil(8) as usize;
+    assert!(bytes.len() == length.next_multiple_of(2) && bytes[length..].iter().all(|&byte| byte == 0));
+    bytes.truncate(length);
+    let [a, b, c] = medians[0].values;
+    let [d, e, f] = medians[1].values;
+    Ok(([read[0], a, b, c, d, e, f], bytes))
+}
