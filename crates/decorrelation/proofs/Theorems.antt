@@ -1,18 +1,19 @@
 -- What holds of the two entries together. A recording, or a residual list, is a list of 32-bit numbers (`Fit`); passes are well-made when
 -- every term is valid, whatever their weights, deltas and histories hold. Assumes nothing.
 use mathlib.Core.Path.{_≡_, refl, sym, ap, _∙_}
-use mathlib.Core.Bool.{true}
-use mathlib.Core.List.{List}
+use mathlib.Core.Bool.{Bool, true}
+use mathlib.Core.List.{List, _++_}
 use Prim.Native.Nat.{ℕ, zero, suc, _≤_}
 use borrow.Author.Tests.{le-ltb}
 use lib.IntN.{ℤ}
-use lib.ListN.{length}
+use lib.ListN.{length, take, drop, take-append-drop}
+use lib.Seq.{length-take-le}
 use Rattle.passes.specs.Run.{Chain, decorrelated, analysed}
 use Rattle.passes.specs.declared.DecorrPass.{DecorrPass}
 use Rattle.passes.proofs.RunInverse.{Fit, analysed-fit, analysed-length, decorrelated-fit, decorrelated-length, decorrelated-analysed, analysed-decorrelated}
 use Rattle.passes.proofs.Unique.{residuals-unique}
 use Rattle.passes.proofs.Bounds.{AllBounded, decorrelated-bounded, analysed-bounded}
-use Rattle.decorrelation.specs.Lists.{allValid, decorrelationNumber, analysisNumber, Answer, answerBy, decorrelation, analysis}
+use Rattle.decorrelation.specs.Lists.{allValid, decorrelationNumber, analysisNumber, numberBy, Answer, answerBy, chained, listed, followed, arrayAnswer, decorrelation, analysis}
 
 -- what both entries accept: at most 16 well-made passes, and at most 262,144 elements
 pub record Accepted (ps : List DecorrPass) (l : List ℤ) : Type 0 where
@@ -94,3 +95,22 @@ decorrelation-bounded ps l h = bounded-by (decorrelationNumber (allValid ps) (le
 pub analysis-bounded : (ps : List DecorrPass) (l : List ℤ) → AllBounded ps → AllBounded (analysis ps l .passes)
 unfolding analysis
 analysis-bounded ps l h = bounded-by (analysisNumber (allValid ps) (length ps) (length l)) (analysed ps l) ps l h (analysed-bounded ps l h)
+
+-- ---- the array form
+-- the passes of an answer, followed by those that are not run
+abbrev pub extended : List DecorrPass → Answer → Answer
+extended rest a = record { refusal = a .refusal; passes = a .passes ++ rest; buffer = a .buffer }
+
+extended-by : (k : ℕ) (c : Chain) (ps rest : List DecorrPass) (l : List ℤ) → answerBy k (followed rest c) (ps ++ rest) l ≡ extended rest (answerBy k c ps l)
+extended-by zero c ps rest l = refl
+extended-by (suc k) c ps rest l = refl
+
+-- the first n passes of an array are answered as a list of n is, and those behind keep their values
+pub array-as-list : (back : Bool) (ps : List DecorrPass) (n : ℕ) (l : List ℤ) → n ≤ 16 → n ≤ length ps → arrayAnswer back ps n l ≡ extended (drop n ps) (listed back (take n ps) l)
+unfolding arrayAnswer listed
+array-as-list back ps n l h k =
+    let whole : take n ps ++ drop n ps ≡ ps = take-append-drop n ps in
+    let len : length (take n ps) ≡ n = length-take-le n ps k in
+    rw (le-ltb 16 n h, len)
+    (ap (λ qs. answerBy (numberBy back (allValid (take n ps)) n (length l)) (followed (drop n ps) (chained back (take n ps) l)) qs l) (sym whole)
+    ∙ extended-by (numberBy back (allValid (take n ps)) n (length l)) (chained back (take n ps) l) (take n ps) (drop n ps) l)
