@@ -26,8 +26,11 @@ extern "C" {
 #define WV_NOT_STEREO 2u       /* the entropy payload is mono, or holds a negative median */
 #define WV_TRUNCATED 3u        /* a word needs a bit past the end, or a count or prefix value is over its cap */
 #define WV_END_OF_STREAM 4u    /* the second count of a prefix is 33 */
-#define WV_TOO_LARGE 5u        /* over 131,072 frames, or over 4,194,304 payload bytes */
-#define WV_LIST_LENGTH 6u      /* a lent list has fewer elements than slots, or `samples` not two elements a frame */
+#define WV_TOO_LARGE 5u        /* over 131,072 frames, over 4,194,304 payload bytes, or over 262,144 elements of a buffer */
+#define WV_LIST_LENGTH 6u      /* a list has fewer elements than slots, `samples` not 2 a frame, or `passes` not 20 a pass */
+#define WV_INVALID_TERM 7u     /* a term is none of 1 to 8, 17, 18, -1, -2, -3 */
+#define WV_SEED_TOO_SHORT 8u   /* a seed has fewer samples than the term takes */
+#define WV_TOO_MANY_PASSES 9u  /* over 16 passes */
 #define WV_INVALID_CHANNEL 12u /* next_channel is neither 0 nor 1 */
 
 /* Slots of the lists. */
@@ -39,6 +42,7 @@ extern "C" {
 #define WV_WORD_STATE_SLOTS 13u
 #define WV_WORD_SAMPLE_SLOTS 1u
 #define WV_WORD_REPORT_SLOTS 2u
+#define WV_PASS_SLOTS 20u
 
 /* The signed 32-bit value of a log word.
  * value: its value. Refuses WV_LIST_LENGTH. */
@@ -75,6 +79,23 @@ uint32_t wv_read(const uint8_t *entropy, size_t entropy_len, const uint8_t *payl
  * WV_END_OF_STREAM, with sample 0, report 0, 0 and state as it was. */
 uint32_t wv_word(const uint8_t *payload, size_t payload_len, uint32_t *state, size_t state_len, int32_t *sample,
                  size_t sample_len, uint32_t *report, size_t report_len);
+
+/* Makes a pass. Any delta and weights are taken; an empty seed means zeros, except that a cross term with an A seed needs a B seed.
+ * pass: term, delta, weight of A, weight of B, history of A (8), history of B (8).
+ * Refuses WV_LIST_LENGTH, then WV_INVALID_TERM, then WV_SEED_TOO_SHORT for A or B: no pass results, and nothing is written. */
+uint32_t wv_pass(int8_t term, int32_t delta, int32_t weight_a, int32_t weight_b, const int32_t *seed_a, size_t seed_a_len,
+                 const int32_t *seed_b, size_t seed_b_len, int32_t *pass, size_t pass_len);
+
+/* Decorrelation: turns the residuals of buffer, left then right, into samples, by each pass in turn. An odd last element keeps its
+ * value.
+ * passes: the slots of `wv_pass` for each pass, one pass behind the other; the passes before the call, and then after it.
+ * Refuses WV_LIST_LENGTH for a passes_len that is no multiple of WV_PASS_SLOTS; then WV_TOO_LARGE, WV_TOO_MANY_PASSES and
+ * WV_INVALID_TERM, also for a term outside 8 bits. Both lists are then as they were. */
+uint32_t wv_decorrelate(int32_t *passes, size_t passes_len, int32_t *buffer, size_t buffer_len);
+
+/* Analysis, the inverse: turns the samples of buffer into the residuals that decorrelate to them, and leaves the passes as
+ * decorrelation would. Refuses as `wv_decorrelate` does. */
+uint32_t wv_analyse(int32_t *passes, size_t passes_len, int32_t *buffer, size_t buffer_len);
 
 #ifdef __cplusplus
 }

@@ -3,3 +3,6 @@ pub mod SlotLaws
 pub mod EntropySlots
 pub mod PlaceLaws
 pub mod WordSlots
+pub mod PassSlotLaws
+pub mod PassCallLaws
+pub mod ListCallLaws

@@ -1,3 +1,4 @@
 pub mod Slots
 pub mod Answers
 pub mod Words
+pub mod PassSlots

@@ -1,10 +1,14 @@
 // The C interface of the decoder: thin functions over the layers below, declared for C in include/wavpack_stereo.h.
 // Each answers a refusal number of document 01, 0 for accepted. Values are laid into the first slots of a lent list; one that
-// has fewer slots is refused with 6, and then nothing is written. No function copies a list.
+// has fewer slots is refused with 6, and then nothing is written. Only the passes of a list are copied, into an array of 16.
+pub mod pass_lists;
 pub mod slots;
 pub mod values;
 pub mod words;
 
+pub use crate::pass_lists::wv_analyse;
+pub use crate::pass_lists::wv_decorrelate;
+pub use crate::pass_lists::wv_pass;
 pub use crate::values::wv_entropy;
 pub use crate::values::wv_log_word;
 pub use crate::values::wv_term_byte;
