@@ -1,0 +1,5 @@
+pub mod FieldTrips
+pub mod CountLaws
+pub mod StepLaws
+pub mod ReadingLaws
+pub mod LongLaws

@@ -1,0 +1,1 @@
+// Implements document 01, "Packing".
