@@ -3,3 +3,4 @@ pub mod CountLaws
 pub mod StepLaws
 pub mod ReadingLaws
 pub mod LongLaws
+pub mod LayLaws
