@@ -4,3 +4,6 @@ pub mod StepLaws
 pub mod ReadingLaws
 pub mod LongLaws
 pub mod LayLaws
+pub mod WrittenLaws
+pub mod LocateLaws
+pub mod SignLaws

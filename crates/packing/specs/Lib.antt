@@ -1,3 +1,4 @@
 pub mod Written
 pub mod Counts
 pub mod Packing
+pub mod View

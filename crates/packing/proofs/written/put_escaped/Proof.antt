@@ -1,0 +1,50 @@
+-- `packing::written::put_escaped` meets its contract.
+-- Assumes nothing.
+use mathlib.Core.Path.{_≡_, refl, sym, ap, _∙_}
+use Prim.Native.Nat.{ℕ, _+_, _-_, _*_, _/_, _%_, _^_, _≤_, _<_}
+use native.Mathlib.Omega.{arith}
+use denote.Ref.{now}
+use Rattle.bits.specs.Fields.{unaryField}
+use Rattle.bits.specs.Laid.{put}
+use Rattle.bits.proofs.RoundTrip.{length-unary}
+use Rattle.bits.proofs.WriteLaws.{put-two, length-two}
+use Rattle.packing.specs.Written.{runField}
+use Rattle.packing.proofs.WrittenLaws.{prefix-escaped}
+use borrow.Author.Needs.{needs}
+use Rattle.packing.proofs.written.put_escaped.Statement.{statement}
+use Rattle.packing.proofs.written.put_escaped.Tie as tie
+use Rattle.packing.proofs.written.put_escaped.Reads as reads
+use Rattle.packing.proofs.written.put_escaped.Lts as lts
+use Rattle.bits.proofs.write.put_unary.Reads as put-unary-reads
+use Rattle.packing.proofs.written.put_run.Reads as put-run-reads
+
+put-unary-requires : tie.Need-put-unary-requires
+put-unary-requires c κs =
+    let v = c .before .before .args .prefix in
+    omega (arith, length-two (unaryField 16) (runField (v - 16)) _ (prefix-escaped v (omega arith)))
+
+sub-put-run : tie.Need-sub-put-run
+sub-put-run c = search needs
+
+put-run-requires : tie.Need-put-run-requires
+put-run-requires c κs =
+    let v = c .before .before .before .before .before .before .args .prefix in
+    let u = c .before .before .before .put-unary in
+    omega (arith, u .ensures .1, u .kept .0, length-unary 16, length-two (unaryField 16) (runField (v - 16)) _ (prefix-escaped v (omega arith)))
+
+same-length : tie.Need-same-length
+same-length c = search needs
+
+returns : tie.Need-returns
+returns c =
+    let a = c .before .before .before .before .before .before .before .before .before .args in
+    let u = c .before .before .before .before .before .before .put-unary in
+    let r = c .before .before .put-run in
+    let e = prefix-escaped (a .prefix) (omega arith) in (
+      r .ensures .0 ∙ put-two (now (a .out)) _ (a .at) _ (unaryField 16) (runField (a .prefix - 16)) (u .ensures .0) (u .ensures .1) (omega arith) ∙ ap (put (now (a .out)) (a .at)) (sym e),
+      omega (arith, u .ensures .1, r .ensures .1, length-two (unaryField 16) (runField (a .prefix - 16)) _ e),
+    )
+
+pub put-escaped-spec : {M : Type 1} → statement M
+put-escaped-spec =
+    tie.close (tie.spec put-unary-requires sub-put-run put-run-requires same-length returns)

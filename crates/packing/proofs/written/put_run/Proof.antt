@@ -1,0 +1,88 @@
+-- `packing::written::put_run` meets its contract.
+-- Assumes nothing.
+use borrow.Author.Needs.{needs}
+use native.Mathlib.Omega.{arith}
+use mathlib.Core.Path.{sym, ap, _∙_}
+use Prim.Native.Nat.{_-_}
+use denote.Ref.{now}
+use lib.ListN.{length}
+use Rattle.bits.specs.Bits.{low}
+use Rattle.bits.specs.Laid.{put}
+use Rattle.bits.specs.Fields.{unaryField}
+use Rattle.bits.proofs.WriteLaws.{put-two}
+use Rattle.packing.proofs.WrittenLaws.{run-short, RunParts, run-parts}
+use Rattle.bits.proofs.RoundTrip.{length-unary}
+use Rattle.packing.proofs.written.put_run.Statement.{statement}
+use Rattle.packing.proofs.written.put_run.Tie as tie
+use Rattle.packing.proofs.written.put_run.Reads as reads
+use Rattle.packing.proofs.written.put_run.Lts as lts
+use Rattle.fields.proofs.code.bit_length.Reads as bit-length-reads
+use Rattle.bits.proofs.write.put_bits.Reads as put-bits-reads
+use Rattle.bits.proofs.write.put_unary.Reads as put-unary-reads
+
+put-unary-requires : tie.Need-put-unary-requires
+put-unary-requires c κs = let n = c .before .before .before .args .run in omega (arith, ap length (run-short n (omega arith)))
+
+same-length : tie.Need-same-length
+same-length c = search needs
+
+returns : tie.Need-returns
+returns c = rw (run-short (c .before .before .before .before .before .before .args .run) (omega arith)) (c .before .before .put-unary .ensures)
+
+bit-length-requires : tie.Need-bit-length-requires
+bit-length-requires c κs = search needs
+
+parts : (c : tie.After-bit-length) → RunParts (c .before .before .before .args .run) (c .bit-length .result)
+parts c = run-parts _ _ (c .before .if1 .left) (omega arith) (c .bit-length .ensures)
+
+put-unary-requires-2 : tie.Need-put-unary-requires-2
+put-unary-requires-2 c κs = let r = parts (c .before) in omega (arith, length-unary (c .before .bit-length .result))
+
+sub-put-bits : tie.Need-sub-put-bits
+sub-put-bits c = let r = parts (c .before .before .before .before .before) in omega arith
+
+put-bits-requires : tie.Need-put-bits-requires
+put-bits-requires c κs =
+    let r = parts (c .before .before .before .before .before) in omega (arith, c .before .before .before .put-unary2 .ensures .1, c .before .before .before .put-unary2 .kept .0, length-unary (c .before .before .before .before .before .bit-length .result))
+
+sub-result : tie.Need-sub-result
+sub-result c = let r = parts (c .before .before .before .before .before .before .before .before) in omega arith
+
+cast-result : tie.Need-cast-result
+cast-result c = search needs
+
+add-result : tie.Need-add-result
+add-result c =
+    let r = parts (c .before .before .before .before .before .before .before .before) in omega (arith, c .before .before .before .before .before .before .put-unary2 .ensures .1, length-unary (c .before .before .before .before .before .before .before .before .bit-length .result))
+
+same-length-2 : tie.Need-same-length-2
+same-length-2 c = search needs
+
+returns-2 : tie.Need-returns-2
+returns-2 c =
+    let a = c .before .before .before .before .before .before .before .before .before .before .before .args in
+    let b = c .before .before .before .before .before .before .before .before .bit-length .result in
+    let r = parts (c .before .before .before .before .before .before .before .before) in
+    let u = c .before .before .before .before .before .before .put-unary2 in (
+      c .before .before .put-bits .ensures
+          ∙ put-two (now (a .out)) _ (a .at) _ (unaryField b) (low (b - 1) (a .run)) (u .ensures .0) (u .ensures .1) (omega arith)
+          ∙ ap (put (now (a .out)) (a .at)) (sym (r .parts)),
+      omega (arith, u .ensures .1),
+    )
+
+pub put-run-spec : {M : Type 1} → statement M
+put-run-spec =
+    tie.close
+    (tie.spec
+    put-unary-requires
+    same-length
+    returns
+    bit-length-requires
+    put-unary-requires-2
+    sub-put-bits
+    put-bits-requires
+    sub-result
+    cast-result
+    add-result
+    same-length-2
+    returns-2)
