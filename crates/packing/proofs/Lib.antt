@@ -7,3 +7,7 @@ pub mod LayLaws
 pub mod WrittenLaws
 pub mod LocateLaws
 pub mod SignLaws
+pub mod ZeroLaws
+pub mod PutLaws
+pub mod WordLaws
+pub mod TurnLaws

@@ -162,7 +162,7 @@ none-small : Small noMed
 none-small = omega arith
 
 -- neither flag is set where a run length is due
-due-flags : (s : State) → runDue s ≡ true → (s .lastZero ≡ false) × (s .lastOne ≡ false)
+pub due-flags : (s : State) → runDue s ≡ true → (s .lastZero ≡ false) × (s .lastOne ≡ false)
 unfolding runDue
 due-flags s e =
     let low = leb (s .left .m0) 1 && leb (s .right .m0) 1 in

@@ -1,15 +1,25 @@
 -- What the code's structs stand for.
 -- Assumes nothing.
 use mathlib.Core.Path.{_≡_}
-use mathlib.Core.Bool.{Bool}
-use mathlib.Core.List.{List}
+use mathlib.Core.Bool.{Bool, false, not, cond, _&&_}
+use mathlib.Core.List.{List, [], _∷_, _++_}
 use Prim.Native.Nat.{ℕ, _+_, _-_, _<_}
+use lib.Dec.{leb}
+use lib.IntN.{ℤ}
 use lib.ListN.{length}
+use lib.Signed.{mag}
 use Rattle.bits.specs.Bits.{num}
+use Rattle.bits.specs.Laid.{put}
 use Rattle.entropy.specs.Medians.{Medians}
 use Rattle.medians.specs.Interval.{g, lowOf, highOf}
 use Rattle.medians.specs.Adaptation.{up, adapt}
 use Rattle.packing.specs.Counts.{Small, count}
+use Rattle.samples.specs.Word.{State, due, other, side, flip, inRun}
+use Rattle.packing.specs.Packing.{zeros, valueField, prefixOf, wordOut}
+use Rattle.packing.specs.Written.{runField, prefixField}
+use Rattle.packing.specs.declared.word.Before.{Before}
+use Rattle.packing.specs.declared.word.Turn.{Turn}
+use Rattle.packing.specs.declared.word.Word.{Word}
 use Rattle.packing.specs.declared.locating.Located.{Located}
 use Rattle.packing.specs.declared.written.Gathered.{Gathered}
 
@@ -37,3 +47,65 @@ pub record Above (m : Medians) (v rest m0 m1 c : ℕ) : Type 0 where
 -- where every such v lies
 pub record AboveIs (rest m0 m1 c : ℕ) (r : Located) : Type 0 where
   pub lies : (m : Medians) (v : ℕ) → Above m v rest m0 m1 c → LocatedIs m v r
+
+-- the bits f laid into a buffer from a place on, and the place after them
+pub record PutIs (before after : List ℕ) (at : ℕ) (f : List Bool) (r : ℕ) : Type 0 where
+  pub bytes : after ≡ put before at f
+  pub place : r ≡ at + length f
+
+-- the bits of a word outside a run
+abbrev pub wordField : Bool → Bool → Bool → Medians → ℤ → List Bool
+wordField lastZero lastOne more m v =
+    cond lastZero
+    (valueField m (count m (mag v)) v)
+    (prefixField (prefixOf (count m (mag v)) lastOne more) ++ valueField m (count m (mag v)) v)
+
+-- such a word written, and the medians after it
+pub record WordIs (before after : List ℕ) (at : ℕ) (m : Medians) (v : ℤ) (lastZero lastOne more : Bool) (r : Word) : Type 0 where
+  pub laid : PutIs before after at (wordField lastZero lastOne more m v) (r .place)
+  pub medians-are : record { m0 = r .m0; m1 = r .m1; m2 = r .m2 } ≡ adapt m (count m (mag v))
+
+-- whether a run length is due, by the first medians of both channels and the flags
+abbrev pub runTest : ℕ → ℕ → Bool → Bool → Bool → Bool
+runTest a b lastZero lastOne runBreak = leb a 1 && leb b 1 && not lastZero && not lastOne && not runBreak
+
+-- the run length written where it is due
+pub record BeforeIs (before after : List ℕ) (at : ℕ) (asked : Bool) (vs : List ℤ) (r : Before) : Type 0 where
+  pub laid : PutIs before after at (cond asked (runField (zeros vs)) []) (r .place)
+  pub run-is : r .run ≡ cond asked (zeros vs) 0
+
+-- what the loop holds of a state that owes no zeros: the medians of the channel due and of the other, and the flags
+pub record Seen (s : State) (d o : Medians) (lastZero lastOne runBreak : Bool) : Type 0 where
+  pub owes : s .debt ≡ 0
+  pub due-is : due s ≡ d
+  pub other-is : other s ≡ o
+  pub zero-is : s .lastZero ≡ lastZero
+  pub one-is : s .lastOne ≡ lastOne
+  pub break-is : s .runBreak ≡ runBreak
+
+-- a word outside a run takes the state s to t, m being the medians of its channel after it
+pub record Next (s t : State) (m : Medians) (lastZero lastOne : Bool) : Type 0 where
+  pub left-is : t .left ≡ side (s .channel) m (s .left)
+  pub right-is : t .right ≡ side (s .channel) (s .right) m
+  pub channel-is : t .channel ≡ flip (s .channel)
+  pub owes : t .debt ≡ s .debt
+  pub zero-is : t .lastZero ≡ lastZero
+  pub one-is : t .lastOne ≡ lastOne
+  pub break-is : t .runBreak ≡ false
+
+-- a run takes it to t
+pub record RunIs (s t : State) (vs : List ℤ) (run : ℕ) (lastZero lastOne : Bool) : Type 0 where
+  pub length-is : run ≡ zeros vs
+  pub state-is : t ≡ inRun (run - 1) s
+  pub zero-is : lastZero ≡ false
+  pub one-is : lastOne ≡ false
+
+-- what a turn of the loop writes for the residual v before vs in the state s is what the definition writes for it
+pub record Turned (before after : List ℕ) (at : ℕ) (s : State) (v : ℤ) (vs : List ℤ) (r : Turn) : Type 0 where
+  pub laid : PutIs before after at (wordOut s v vs .bits) (r .place)
+  pub word : r .run ≡ 0 → Next s (wordOut s v vs .next) (record { m0 = r .m0; m1 = r .m1; m2 = r .m2 }) (r .«last_zero») (r .«last_one»)
+  pub run : 0 < r .run → RunIs s (wordOut s v vs .next) (v ∷ vs) (r .run) (r .«last_zero») (r .«last_one»)
+
+-- in every state that has these medians and flags
+pub record TurnIs (before after : List ℕ) (at : ℕ) (d o : Medians) (lastZero lastOne runBreak : Bool) (v : ℤ) (vs : List ℤ) (r : Turn) : Type 0 where
+  pub turned : (s : State) → Seen s d o lastZero lastOne runBreak → Turned before after at s v vs r

@@ -3,4 +3,5 @@
 // what goes before it (`word`), all words and the entry (`packing`).
 pub mod laying;
 pub mod locating;
+pub mod word;
 pub mod written;

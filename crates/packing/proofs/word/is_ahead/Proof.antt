@@ -1,0 +1,51 @@
+-- `packing::word::is_ahead` meets its contract.
+-- Assumes nothing.
+use mathlib.Core.Path.{_≡_, refl, sym, ap, _∙_}
+use Prim.Native.Nat.{ℕ, _+_, _-_, _*_, _/_, _%_, _^_, _≤_, _<_}
+use native.Mathlib.Omega.{arith}
+use denote.Ref.{now}
+use lib.IntN.{pos}
+use lib.ListN.{getD}
+use mir.Facts.{toZ-ofZ}
+use mir.Syntax.{w32}
+use mir.Val.{SFits}
+use Rattle.entropy.specs.Medians.{mediansOf}
+use Rattle.packing.proofs.TurnLaws.{ahead-some, ahead-end}
+use borrow.Author.Needs.{needs}
+use Rattle.packing.proofs.word.is_ahead.Statement.{statement}
+use Rattle.packing.proofs.word.is_ahead.Tie as tie
+use Rattle.packing.proofs.word.is_ahead.Reads as reads
+use Rattle.packing.proofs.word.is_ahead.Lts as lts
+use Rattle.packing.proofs.locating.magnitude.Reads as magnitude-reads
+
+array-read-result : tie.Need-array-read-result
+array-read-result c = search needs
+
+mul-magnitude : tie.Need-mul-magnitude
+mul-magnitude c = search needs
+
+shared-slice-copy-out-magnitude : tie.Need-shared-slice-copy-out-magnitude
+shared-slice-copy-out-magnitude c = search needs
+
+magnitude-requires : tie.Need-magnitude-requires
+magnitude-requires c κs = search needs
+
+returns : tie.Need-returns
+returns c =
+    let a = c .before .before .before .before .args in
+    let f : SFits w32 (getD (now (a .residuals)) (a .next) (pos 0)) = search needs in
+    rw (c .magnitude .ensures, toZ-ofZ f) (ahead-some (mediansOf (a .medians)) (now (a .residuals)) (a .next) (c .before .before .before .before .pre) (omega arith))
+
+returns-2 : tie.Need-returns-2
+returns-2 c = let a = c .before .args in ahead-end (mediansOf (a .medians)) (now (a .residuals)) (a .next) (omega arith)
+
+pub is-ahead-spec : {M : Type 1} → statement M
+is-ahead-spec =
+    tie.close
+    (tie.spec
+    array-read-result
+    mul-magnitude
+    shared-slice-copy-out-magnitude
+    magnitude-requires
+    returns
+    returns-2)

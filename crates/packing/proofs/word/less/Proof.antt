@@ -1,0 +1,25 @@
+-- `packing::word::less` meets its contract.
+-- Assumes nothing.
+use mathlib.Core.Path.{_≡_, refl, sym, ap, _∙_}
+use Prim.Native.Nat.{ℕ, _+_, _-_, _*_, _/_, _%_, _^_, _≤_, _<_}
+use native.Mathlib.Omega.{arith}
+use borrow.Author.Needs.{needs}
+use Rattle.packing.proofs.word.less.Statement.{statement}
+use Rattle.packing.proofs.word.less.Tie as tie
+use Rattle.packing.proofs.word.less.Reads as reads
+use Rattle.packing.proofs.word.less.Lts as lts
+
+returns : tie.Need-returns
+returns c = search needs
+
+sub-result : tie.Need-sub-result
+sub-result c = search needs
+
+returns-2 : tie.Need-returns-2
+returns-2 c = rw (c .before .if1 .taken)
+
+returns-3 : tie.Need-returns-3
+returns-3 c = rw (c .if1 .left) (omega arith)
+
+pub less-spec : {M : Type 1} → statement M
+less-spec = tie.close (tie.spec returns sub-result returns-2 returns-3)

@@ -1,0 +1,51 @@
+-- `packing::word::put_before` meets its contract.
+-- Assumes nothing.
+use mathlib.Core.Path.{_≡_, refl, sym, ap, _∙_}
+use Prim.Native.Nat.{ℕ, _+_, _-_, _*_, _/_, _%_, _^_, _≤_, _<_}
+use native.Mathlib.Omega.{arith}
+use denote.Ref.{now}
+use lib.ListN.{length-drop, drop}
+use Rattle.bits.proofs.LaidLaws.{put-nil}
+use Rattle.packing.proofs.LongLaws.{run-long}
+use Rattle.packing.proofs.TurnLaws.{before-run}
+use Rattle.packing.proofs.StepLaws.{zeros-le}
+use borrow.Author.Needs.{needs}
+use Rattle.packing.proofs.word.put_before.Statement.{statement}
+use Rattle.packing.proofs.word.put_before.Tie as tie
+use Rattle.packing.proofs.word.put_before.Reads as reads
+use Rattle.packing.proofs.word.put_before.Lts as lts
+use Rattle.packing.proofs.word.zeros_from.Reads as zeros-from-reads
+use Rattle.packing.proofs.written.put_run.Reads as put-run-reads
+
+zeros-from-requires : tie.Need-zeros-from-requires
+zeros-from-requires c κs = search needs
+
+few : (c : tie.After-zeros-from) → c .zeros-from .result ≤ 262144
+few c =
+    let a = c .before .before .before .args in
+    omega (arith, c .zeros-from .ensures, zeros-le (drop (a .i) (now (a .residuals))), length-drop (a .i) (now (a .residuals)))
+
+cast-put-run : tie.Need-cast-put-run
+cast-put-run c = record { fits = omega (arith, few (c .before)) }
+
+put-run-requires : tie.Need-put-run-requires
+put-run-requires c κs =
+    let r = c .before .zeros-from .result in
+    omega (arith, run-long r 32 (omega arith) (omega (arith, few (c .before))) (omega (arith, few (c .before))))
+
+same-length : tie.Need-same-length
+same-length c = search needs
+
+returns : tie.Need-returns
+returns c =
+    let x = c .before .before .before .before in
+    let a = x .before .before .before .args in
+    rw (x .before .if1 .taken) (before-run (now (a .out)) _ (a .at) (drop (a .i) (now (a .residuals))) (x .zeros-from .result) _ (x .zeros-from .ensures) (c .before .before .put-run .ensures))
+
+returns-2 : tie.Need-returns-2
+returns-2 c = rw (c .if1 .left) (record { laid = record { bytes = sym (put-nil _ _); place = omega arith }; run-is = refl })
+
+pub put-before-spec : {M : Type 1} → statement M
+put-before-spec =
+    tie.close
+    (tie.spec zeros-from-requires cast-put-run put-run-requires same-length returns returns-2)

@@ -1,0 +1,146 @@
+-- `packing::word::put_turn` meets its contract.
+-- Assumes nothing.
+use mathlib.Core.Path.{_≡_, refl, sym, ap, _∙_}
+use Prim.Native.Nat.{ℕ, suc, _+_, _-_, _*_, _/_, _%_, _^_, _≤_, _<_}
+use native.Mathlib.Omega.{arith}
+use mathlib.Core.List.{_∷_}
+use native.Mathlib.Numerals.{add-one}
+use denote.Ref.{now}
+use lib.IntN.{pos}
+use lib.ListN.{drop, getD}
+use lib.Seq.{drop-cons}
+use mir.Facts.{toZ-ofZ}
+use mir.Syntax.{w32}
+use mir.Val.{SFits}
+use Rattle.entropy.specs.Medians.{mediansOf}
+use Rattle.packing.specs.Packing.{ahead}
+use Rattle.packing.specs.View.{runTest, BeforeIs, WordIs}
+use Rattle.packing.proofs.TurnLaws.{before-few, turn-run, turn-word}
+use borrow.Author.Needs.{needs}
+use Rattle.packing.proofs.word.put_turn.Statement.{statement}
+use Rattle.packing.proofs.word.put_turn.Tie as tie
+use Rattle.packing.proofs.word.put_turn.Reads as reads
+use Rattle.packing.proofs.word.put_turn.Lts as lts
+use Rattle.packing.proofs.word.is_ahead.Reads as is-ahead-reads
+use Rattle.packing.proofs.word.one_after.Reads as one-after-reads
+use Rattle.packing.proofs.word.put_before.Reads as put-before-reads
+use Rattle.packing.proofs.word.put_word.Reads as put-word-reads
+use Rattle.packing.proofs.word.run_due.Reads as run-due-reads
+use Rattle.packing.proofs.word.zero_after.Reads as zero-after-reads
+
+abbrev start : tie.After-put-before → tie.Start
+start c = c .before .before .before .before .before .before
+
+-- the run length, by the code's test
+before-is : (c : tie.After-put-before) → let a = start c .args in let vs = now (a .residuals) in
+    BeforeIs (now (a .out)) (c .put-before .last .0) (a .at) (runTest (mediansOf (a .due) .m0) (mediansOf (a .other) .m0) (a .last-zero) (a .last-one) (a .run-break))
+    (getD vs (a .i) (pos 0) ∷ drop (suc (a .i)) vs) (c .put-before .result)
+before-is c =
+    let a = start c .args in
+    rw (← c .before .before .run-due .ensures, ← drop-cons (now (a .residuals)) (a .i) (pos 0) (omega arith)) (c .put-before .ensures)
+
+-- whether the next word's count is above 0
+more-is : (c : tie.After-is-ahead) → let a = start (c .before .before .before .before .before) .args in
+    c .is-ahead .result ≡ ahead (mediansOf (a .other)) (drop (suc (a .i)) (now (a .residuals)))
+more-is c =
+    let a = start (c .before .before .before .before .before) .args in
+    c .is-ahead .ensures ∙ ap (λ (n : ℕ). ahead (mediansOf (a .other)) (drop n (now (a .residuals)))) (add-one (a .i))
+
+-- the word
+word-is : (c : tie.After-put-word) → let b = c .before .before .before .before .before .before .before .before in let a = start b .args in
+    WordIs (b .put-before .last .0) (c .put-word .last .0) (b .put-before .result .place) (mediansOf (a .due)) (getD (now (a .residuals)) (a .i) (pos 0)) (a .last-zero) (a .last-one)
+    (ahead (mediansOf (a .other)) (drop (suc (a .i)) (now (a .residuals)))) (c .put-word .result)
+word-is c =
+    let a = start (c .before .before .before .before .before .before .before .before) .args in
+    let f : SFits w32 (getD (now (a .residuals)) (a .i) (pos 0)) = search needs in
+    rw (← more-is (c .before .before .before), ← toZ-ofZ f) (c .put-word .ensures)
+
+array-read-run-due : tie.Need-array-read-run-due
+array-read-run-due c = search needs
+
+array-read-run-due-2 : tie.Need-array-read-run-due-2
+array-read-run-due-2 c = search needs
+
+run-due-requires : tie.Need-run-due-requires
+run-due-requires c κs = search needs
+
+put-before-requires : tie.Need-put-before-requires
+put-before-requires c κs = search needs
+
+same-length : tie.Need-same-length
+same-length c = search needs
+
+returns : tie.Need-returns
+returns c =
+    let x = start (c .before .before .before .before) in
+    let a = x .args in
+    let vs = now (a .residuals) in
+    record {
+      turned = λ s seen.
+          turn-run s (mediansOf (a .due)) (mediansOf (a .other)) (a .last-zero) (a .last-one) (a .run-break) (getD vs (a .i) (pos 0)) (drop (suc (a .i)) vs) seen
+          (now (a .out)) _ (a .at) _ _ (before-is (c .before .before .before .before)) (omega arith) refl refl refl refl;
+    }
+
+add-is-ahead : tie.Need-add-is-ahead
+add-is-ahead c = search needs
+
+is-ahead-requires : tie.Need-is-ahead-requires
+is-ahead-requires c κs = search needs
+
+mul-put-word : tie.Need-mul-put-word
+mul-put-word c = search needs
+
+shared-slice-copy-out-put-word : tie.Need-shared-slice-copy-out-put-word
+shared-slice-copy-out-put-word c = search needs
+
+put-word-requires : tie.Need-put-word-requires
+put-word-requires c κs =
+    let b = c .before .before .before .before .before .before .before in
+    let x = start b in
+    let f : SFits w32 (getD (now (x .args .residuals)) (x .args .i) (pos 0)) = search needs in
+    let n = before-few _ _ _ _ _ _ (before-is b) (omega arith) in
+    ((omega arith, omega (arith, b .put-before .kept .0)), (x .pre .1 .0, rw (toZ-ofZ f) (x .pre .1 .2)))
+
+zero-after-requires : tie.Need-zero-after-requires
+zero-after-requires c κs = search needs
+
+one-after-requires : tie.Need-one-after-requires
+one-after-requires c κs = search needs
+
+same-length-2 : tie.Need-same-length-2
+same-length-2 c = search needs
+
+returns-2 : tie.Need-returns-2
+returns-2 c =
+    let b = c .before .before .before .before .before .before .before .before .before .before .before .before in
+    let w = c .before .before .before .before in
+    let x = start b in
+    let a = x .args in
+    let vs = now (a .residuals) in
+    record {
+      turned = λ s seen.
+          turn-word s (mediansOf (a .due)) (mediansOf (a .other)) (a .last-zero) (a .last-one) (a .run-break) (getD vs (a .i) (pos 0)) (drop (suc (a .i)) vs) seen
+          (now (a .out)) _ _ (a .at) _ _ _ (omega arith) (before-is b) (omega arith) (word-is w) refl refl refl refl refl
+          (c .before .zero-after .ensures ∙ rw (more-is (c .before .before .before .before .before .before .before)))
+          (c .one-after .ensures ∙ rw (more-is (c .before .before .before .before .before .before .before)));
+    }
+
+pub put-turn-spec : {M : Type 1} → statement M
+put-turn-spec =
+    tie.close
+    (tie.spec
+    array-read-run-due
+    array-read-run-due-2
+    run-due-requires
+    put-before-requires
+    same-length
+    returns
+    add-is-ahead
+    is-ahead-requires
+    mul-put-word
+    shared-slice-copy-out-put-word
+    put-word-requires
+    zero-after-requires
+    one-after-requires
+    same-length-2
+    returns-2)

@@ -1,0 +1,81 @@
+-- `packing::word::put_word` meets its contract.
+-- Assumes nothing.
+use mathlib.Core.Path.{_≡_, refl, sym, ap, _∙_}
+use Prim.Native.Nat.{ℕ, _+_, _-_, _*_, _/_, _%_, _^_, _≤_, _<_}
+use native.Mathlib.Omega.{arith}
+use denote.Ref.{now}
+use lib.IntN.{ℤ}
+use lib.Signed.{mag}
+use mir.Facts.{toZ-ofZ}
+use mir.Syntax.{w32}
+use mir.Val.{SFits}
+use Rattle.entropy.specs.Medians.{mediansOf}
+use Rattle.packing.specs.Packing.{sign}
+use Rattle.packing.proofs.WordLaws.{Fits, located-fits, sign-lt, coded, word-put}
+use borrow.Author.Needs.{needs}
+use Rattle.packing.proofs.word.put_word.Statement.{statement}
+use Rattle.packing.proofs.word.put_word.Tie as tie
+use Rattle.packing.proofs.word.put_word.Reads as reads
+use Rattle.packing.proofs.word.put_word.Lts as lts
+use Rattle.packing.proofs.locating.locate.Reads as locate-reads
+use Rattle.packing.proofs.locating.magnitude.Reads as magnitude-reads
+use Rattle.packing.proofs.locating.sign_bit.Reads as sign-bit-reads
+use Rattle.packing.proofs.word.prefix_of.Reads as prefix-of-reads
+use Rattle.packing.proofs.word.put_coded.Reads as put-coded-reads
+use Rattle.packing.proofs.written.gather_code.Reads as gather-code-reads
+
+magnitude-requires : tie.Need-magnitude-requires
+magnitude-requires c κs = search needs
+
+-- magnitude and sign of the residual itself
+mag-is : (c : tie.After-magnitude) → c .magnitude .result ≡ mag (c .before .before .args .residual)
+mag-is c = let f : SFits w32 (c .before .before .args .residual) = search needs in c .magnitude .ensures ∙ ap mag (toZ-ofZ f)
+
+sign-is : (c : tie.After-sign-bit) → c .sign-bit .result ≡ sign (c .before .before .before .before .args .residual)
+sign-is c = let f : SFits w32 (c .before .before .before .before .args .residual) = search needs in c .sign-bit .ensures ∙ ap (λ (v : ℤ). sign v) (toZ-ofZ f)
+
+locate-requires : tie.Need-locate-requires
+locate-requires c κs = let x = c .before .before in (x .pre .1 .0, rw (mag-is c) (x .pre .1 .1))
+
+sign-bit-requires : tie.Need-sign-bit-requires
+sign-bit-requires c κs = search needs
+
+fits : (c : tie.After-locate) → Fits (c .locate .result)
+fits c =
+    let x = c .before .before .before in
+    located-fits (mediansOf (x .args .medians)) (c .before .magnitude .result) (c .locate .result) (x .pre .1 .0) (rw (mag-is (c .before)) (x .pre .1 .1)) (c .locate .ensures)
+
+gather-code-requires : tie.Need-gather-code-requires
+gather-code-requires c κs = let k = fits (c .before) in (k .within, k .wide, rw (sign-is c) (sign-lt (c .before .before .before .before .args .residual)))
+
+prefix-of-requires : tie.Need-prefix-of-requires
+prefix-of-requires c κs = let k = fits (c .before .before .before) in k .few
+
+put-coded-requires : tie.Need-put-coded-requires
+put-coded-requires c κs =
+    let k = fits (c .before .before .before .before) in
+    let d = coded _ _ _ _ (k .wide) (c .before .before .gather-code .ensures) in
+    (omega (arith, c .before .before .before .before .before .before .before .pre .0), d .below)
+
+same-length : tie.Need-same-length
+same-length c = search needs
+
+returns : tie.Need-returns
+returns c =
+    let b = c .before .before .before .before .before .before in
+    let l = b .before in
+    let a = l .before .before .before .args in
+    word-put (now (a .out)) _ (a .at) (mediansOf (a .medians)) (a .residual) (a .last-zero) (a .last-one) (a .more) (l .before .magnitude .result) (b .sign-bit .result) _ _ (l .locate .result) _ (mag-is (l .before)) (l .locate .ensures) (sign-is b) (c .before .before .before .before .before .gather-code .ensures) (c .before .before .before .prefix-of .ensures) (c .before .before .put-coded .ensures)
+
+pub put-word-spec : {M : Type 1} → statement M
+put-word-spec =
+    tie.close
+    (tie.spec
+    magnitude-requires
+    locate-requires
+    sign-bit-requires
+    gather-code-requires
+    prefix-of-requires
+    put-coded-requires
+    same-length
+    returns)
