@@ -11,3 +11,5 @@ pub mod ZeroLaws
 pub mod PutLaws
 pub mod WordLaws
 pub mod TurnLaws
+pub mod SizeLaws
+pub mod LoopLaws

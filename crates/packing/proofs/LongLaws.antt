@@ -20,7 +20,8 @@ use Rattle.fields.proofs.LengthLaws.{long, long-le}
 use Rattle.bits.proofs.RoundTrip.{length-unary}
 use Rattle.medians.specs.Interval.{lowOf, highOf}
 use Rattle.packing.proofs.CountLaws.{smallest}
-use Rattle.samples.specs.Word.{State, due, other, paid, inRun, unbroken, cleared, flagged, runDue, onZeros}
+use Rattle.samples.specs.State.{State, due, other, paid, inRun, unbroken, cleared, flagged, runDue}
+use Rattle.samples.specs.Word.{onZeros}
 use Rattle.packing.specs.Packing.{zeros, ahead, sign, Out, behind, silent, valueField, valueOut, plainOut, freshOut, wordOut, packed}
 use Rattle.packing.proofs.StepLaws.{Inv, due-small, zeros-le, val-le}
 

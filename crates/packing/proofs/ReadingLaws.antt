@@ -16,7 +16,9 @@ use Rattle.bits.specs.Laid.{laid}
 use Rattle.bits.proofs.Trip.{at-bytes}
 use Rattle.bits.proofs.RoundTrip.{At, at-first, at-second}
 use Rattle.entropy.specs.Medians.{Medians}
-use Rattle.samples.specs.Word.{State, start, Word, Reading, onWord, more, word, reading}
+use Rattle.samples.specs.State.{State, start}
+use Rattle.samples.specs.Word.{Word, word}
+use Rattle.samples.specs.Reading.{Reading, onWord, more, reading}
 use Rattle.packing.specs.Counts.{Small}
 use Rattle.packing.specs.Packing.{spanned, wordOut, packed}
 use Rattle.packing.proofs.StepLaws.{Inv, Step, step}

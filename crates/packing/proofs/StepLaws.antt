@@ -12,7 +12,7 @@ use lib.Signed.{mag}
 use lib.ListN.{length, length-append}
 use Rattle.bits.specs.Bits.{val, bitOf, low}
 use Rattle.fields.specs.Counts.{runLength, prefix}
-use Rattle.entropy.specs.Medians.{Medians}
+use Rattle.entropy.specs.Medians.{Medians, mediansOf, zeroSet}
 use Rattle.packing.specs.Written.{runField, prefixField, codeField}
 use Rattle.fields.specs.declared.Prefix.{Prefix}
 use Rattle.bits.specs.declared.Field.the-variants.{Value}
@@ -23,7 +23,8 @@ use Rattle.medians.specs.Adaptation.{adapt}
 use Rattle.packing.specs.Counts.{Small, count}
 use Rattle.packing.proofs.CountLaws.{smallest, adapt-small, clash, both}
 use Rattle.packing.proofs.FieldTrips.{run-at, prefix-at, code-at}
-use Rattle.samples.specs.Word.{State, due, other, flip, side, noMed, paid, inRun, unbroken, cleared, flagged, after, runDue, Report, none, zoneOf, Word, given, onField, onPrefix, onZeros, signed, value, plain, fresh, word}
+use Rattle.samples.specs.State.{State, due, other, flip, side, paid, inRun, unbroken, cleared, flagged, after, runDue}
+use Rattle.samples.specs.Word.{Report, none, zoneOf, Word, given, onField, onPrefix, onZeros, signed, value, plain, fresh, word}
 use Rattle.packing.specs.Packing.{zeros, ahead, sign, Out, behind, silent, prefixOf, valueField, valueOut, plainOut, freshOut, wordOut}
 
 -- ---- code and sign
@@ -74,6 +75,9 @@ side-small (suc c) x y = y
 
 pub due-small : {s : State} {vs : List ℤ} → Inv s vs → Small (due s)
 due-small {s} i = side-small (s .channel) (i .small-left) (i .small-right)
+
+pub other-small : {s : State} {vs : List ℤ} → Inv s vs → Small (other s)
+other-small {s} i = side-small (s .channel) (i .small-right) (i .small-left)
 
 turns : (c k : ℕ) (l r : Medians) → side (flip c) (side c (adapt l k) l) (side c r (adapt r k)) ≡ side c r l
 turns zero k l r = refl
@@ -145,7 +149,7 @@ plain-at {bits} {p} s v vs d i h a = go (s .lastZero) refl a
 
 -- ---- run length or not
 
-zeros-head : (v : ℤ) (vs : List ℤ) (d : ℕ) → suc d ≤ zeros (v ∷ vs) → (pos 0 ≡ v) × (d ≤ zeros vs)
+pub zeros-head : (v : ℤ) (vs : List ℤ) (d : ℕ) → suc d ≤ zeros (v ∷ vs) → (pos 0 ≡ v) × (d ≤ zeros vs)
 unfolding zeros
 zeros-head (pos zero) vs d h = (refl, omega arith)
 zeros-head (pos (suc n)) vs d h = absurd (omega arith)
@@ -158,7 +162,7 @@ zeros-le (pos zero ∷ vs) = omega (arith, zeros-le vs)
 zeros-le (pos (suc n) ∷ vs) = omega arith
 zeros-le (negsuc n ∷ vs) = omega arith
 
-none-small : Small noMed
+pub none-small : Small (mediansOf zeroSet)
 none-small = omega arith
 
 -- neither flag is set where a run length is due

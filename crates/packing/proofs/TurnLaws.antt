@@ -16,7 +16,8 @@ use Rattle.bits.specs.Laid.{put}
 use Rattle.entropy.specs.Medians.{Medians}
 use Rattle.medians.specs.Interval.{g, lowOf, highOf}
 use Rattle.medians.specs.Adaptation.{adapt}
-use Rattle.samples.specs.Word.{State, due, other, side, flip, paid, inRun, unbroken, cleared, flagged, after, runDue, onZeros}
+use Rattle.samples.specs.State.{State, due, other, side, flip, paid, inRun, unbroken, cleared, flagged, after, runDue}
+use Rattle.samples.specs.Word.{onZeros}
 use Rattle.packing.specs.Counts.{Small, contains, least, count}
 use Rattle.packing.specs.Packing.{zeros, ahead, Out, behind, silent, prefixOf, valueField, valueOut, plainOut, freshOut, wordOut}
 use Rattle.packing.specs.Written.{runField, prefixField}
@@ -229,6 +230,8 @@ module _ (s : State) (d o : Medians) (lz lo brk : Bool) (v : ℤ) (vs : List ℤ
                 record {
                   length-is = q ∙ h .run-is;
                   state-is = ap (λ (x : Out). x .next) i ∙ ap (λ (x : ℕ). inRun (x - 1) s) (sym q);
+                  no-zero = c .0;
+                  no-one = c .1;
                   zero-is = z ∙ sym (seen .zero-is) ∙ c .0;
                   one-is = w ∙ sym (seen .one-is) ∙ c .1;
                 };

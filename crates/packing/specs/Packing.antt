@@ -9,7 +9,8 @@ use lib.Signed.{mag}
 use Rattle.bits.specs.Bits.{val, low}
 use Rattle.entropy.specs.Medians.{Medians}
 use Rattle.medians.specs.Interval.{lowOf, highOf}
-use Rattle.samples.specs.Word.{State, due, other, paid, inRun, unbroken, cleared, flagged, after, runDue, onZeros}
+use Rattle.samples.specs.State.{State, due, other, paid, inRun, unbroken, cleared, flagged, after, runDue}
+use Rattle.samples.specs.Word.{onZeros}
 use Rattle.packing.specs.Counts.{count}
 use Rattle.packing.specs.Written.{runField, prefixField, codeField}
 

@@ -10,13 +10,14 @@ use lib.ListN.{length}
 use lib.Signed.{mag}
 use Rattle.bits.specs.Bits.{num}
 use Rattle.bits.specs.Laid.{put}
-use Rattle.entropy.specs.Medians.{Medians}
+use Rattle.entropy.specs.Medians.{Medians, MedianPair, pairOf}
 use Rattle.medians.specs.Interval.{g, lowOf, highOf}
 use Rattle.medians.specs.Adaptation.{up, adapt}
 use Rattle.packing.specs.Counts.{Small, count}
-use Rattle.samples.specs.Word.{State, due, other, side, flip, inRun}
-use Rattle.packing.specs.Packing.{zeros, valueField, prefixOf, wordOut}
+use Rattle.samples.specs.State.{State, start, due, other, side, flip, inRun}
+use Rattle.packing.specs.Packing.{zeros, valueField, prefixOf, wordOut, packed}
 use Rattle.packing.specs.Written.{runField, prefixField}
+use Rattle.packing.specs.declared.packing.Packed.{Packed}
 use Rattle.packing.specs.declared.word.Before.{Before}
 use Rattle.packing.specs.declared.word.Turn.{Turn}
 use Rattle.packing.specs.declared.word.Word.{Word}
@@ -97,6 +98,8 @@ pub record Next (s t : State) (m : Medians) (lastZero lastOne : Bool) : Type 0 w
 pub record RunIs (s t : State) (vs : List ℤ) (run : ℕ) (lastZero lastOne : Bool) : Type 0 where
   pub length-is : run ≡ zeros vs
   pub state-is : t ≡ inRun (run - 1) s
+  pub no-zero : s .lastZero ≡ false
+  pub no-one : s .lastOne ≡ false
   pub zero-is : lastZero ≡ false
   pub one-is : lastOne ≡ false
 
@@ -109,3 +112,10 @@ pub record Turned (before after : List ℕ) (at : ℕ) (s : State) (v : ℤ) (vs
 -- in every state that has these medians and flags
 pub record TurnIs (before after : List ℕ) (at : ℕ) (d o : Medians) (lastZero lastOne runBreak : Bool) (v : ℤ) (vs : List ℤ) (r : Turn) : Type 0 where
   pub turned : (s : State) → Seen s d o lastZero lastOne runBreak → Turned before after at s v vs r
+
+-- all words written from the start of a buffer on, from the medians that are seeded
+pub record PackedIs (before after : List ℕ) (seeds : MedianPair) (vs : List ℤ) (r : Packed) : Type 0 where
+  pub bytes : after ≡ put before 0 (packed (start (seeds .left) (seeds .right)) vs .bits)
+  pub bits-are : r .bits ≡ length (packed (start (seeds .left) (seeds .right)) vs .bits)
+  pub medians-are : pairOf (r .medians)
+      ≡ record { left = packed (start (seeds .left) (seeds .right)) vs .next .left; right = packed (start (seeds .left) (seeds .right)) vs .next .right }

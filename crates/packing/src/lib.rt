@@ -3,5 +3,6 @@
 // what goes before it (`word`), all words and the entry (`packing`).
 pub mod laying;
 pub mod locating;
+pub mod packing;
 pub mod word;
 pub mod written;

@@ -1,0 +1,320 @@
+-- The packing loop: what is written so far, and what is left, is the whole.
+-- Assumes nothing.
+use mathlib.Core.Path.{_≡_, refl, sym, ap, ap₂, _∙_}
+use mathlib.Core.Bool.{Bool, true, false}
+use mathlib.Core.List.{List, [], _∷_, _++_, append-assoc, append-nil}
+use Prim.Native.Nat.{ℕ, zero, suc, _+_, _-_, _*_, _/_, _%_, _^_, _≤_, _<_}
+use native.Mathlib.Numerals.{add-one}
+use native.Mathlib.Omega.{arith}
+use lib.IntN.{ℤ, pos, negsuc}
+use lib.ListN.{length, drop, getD, set, length-append, length-drop, length-set, drop-of-length-le}
+use lib.Seq.{drop-cons, drop-drop}
+use lib.Signed.{mag}
+use Rattle.bits.specs.Laid.{put}
+use Rattle.bits.proofs.LaidLaws.{Bytes, put-put, put-nil}
+use Rattle.entropy.specs.declared.AdaptiveMedians.{AdaptiveMedians}
+use Rattle.entropy.specs.Medians.{Medians, MedianPair, mediansOf, pairOf, zeroSet}
+use Rattle.samples.specs.State.{State, start, side, flip, due, other, paid, inRun}
+use Rattle.samples.specs.Word.{onZeros}
+use Rattle.packing.specs.Counts.{Small}
+use Rattle.packing.specs.Packing.{zeros, spanned, Out, behind, silent, wordOut, packed}
+use Rattle.packing.specs.View.{PutIs, Seen, Next, RunIs, Turned, PackedIs}
+use Rattle.packing.specs.declared.packing.Packed.{Packed}
+use Rattle.packing.specs.declared.word.Turn.{Turn}
+use Rattle.packing.proofs.CountLaws.{clash}
+use Rattle.packing.proofs.LongLaws.{word-long}
+use Rattle.packing.proofs.ReadingLaws.{spanned-parts, start-inv}
+use Rattle.packing.proofs.SizeLaws.{kept}
+use Rattle.packing.proofs.StepLaws.{Inv, due-small, other-small, zeros-le, zeros-head, none-small}
+
+-- ---- the definition, word by word
+
+-- w is written, and the first of the residuals that are left is written next
+packing-on : (w : List Bool) (s : State) (v : ℤ) (vs : List ℤ)
+    → behind w (packed s (v ∷ vs)) ≡ behind (w ++ wordOut s v vs .bits) (packed (wordOut s v vs .next) vs)
+unfolding packed
+packing-on w s v vs =
+    let o = wordOut s v vs in
+    ap (λ (l : List Bool). record { bits = l; next = packed (o .next) vs .next }) (sym (append-assoc w (o .bits) (packed (o .next) vs .bits)))
+
+-- none is left
+packing-end : (w : List Bool) (s : State) → behind w (packed s []) ≡ record { bits = w; next = s }
+unfolding packed
+packing-end w s = ap (λ (l : List Bool). record { bits = l; next = s }) (append-nil w)
+
+-- ---- a debt is paid
+
+flip-mod : (c j : ℕ) → c ≡ j % 2 → flip c ≡ (j + 1) % 2
+flip-mod zero j e = omega arith
+flip-mod (suc zero) j e = omega arith
+flip-mod (suc (suc c)) j e = absurd (omega arith)
+
+-- the zeros of a debt write no bits, and leave all but the channel
+record Settled (s : State) (l : List ℤ) (d j : ℕ) : Type 0 where
+  t : State
+  same : packed s l ≡ packed t (drop d l)
+  owes : t .debt ≡ 0
+  left-is : t .left ≡ s .left
+  right-is : t .right ≡ s .right
+  zero-is : t .lastZero ≡ s .lastZero
+  one-is : t .lastOne ≡ s .lastOne
+  break-is : t .runBreak ≡ s .runBreak
+  channel-is : t .channel ≡ (j + d) % 2
+
+word-paid : (s : State) (v : ℤ) (l : List ℤ) (d : ℕ) → s .debt ≡ suc d → wordOut s v l ≡ silent (paid d s)
+unfolding wordOut
+word-paid s v l d e = rw e
+
+packed-paid : (s : State) (v : ℤ) (l : List ℤ) (d : ℕ) → s .debt ≡ suc d → packed s (v ∷ l) ≡ packed (paid d s) l
+unfolding packed
+packed-paid s v l d e = ap (λ (o : Out). behind (o .bits) (packed (o .next) l)) (word-paid s v l d e)
+
+settle : (d j : ℕ) (s : State) (l : List ℤ) → s .debt ≡ d → d ≤ zeros l → s .channel ≡ j % 2 → Settled s l d j
+unfolding zeros paid
+settle zero j s l e h c = record {
+  t = s;
+  same = refl;
+  owes = e;
+  left-is = refl;
+  right-is = refl;
+  zero-is = refl;
+  one-is = refl;
+  break-is = refl;
+  channel-is = c ∙ omega arith;
+}
+settle (suc d) j s [] e h c = absurd (omega arith)
+settle (suc d) j s (pos (suc n) ∷ l) e h c = absurd (omega arith)
+settle (suc d) j s (negsuc n ∷ l) e h c = absurd (omega arith)
+settle (suc d) j s (pos zero ∷ l) e h c =
+    let r = settle d (j + 1) (paid d s) l refl (omega arith) (flip-mod (s .channel) j c) in
+    record {
+      t = r .t;
+      same = packed-paid s (pos 0) l d e ∙ r .same;
+      owes = r .owes;
+      left-is = r .left-is;
+      right-is = r .right-is;
+      zero-is = r .zero-is;
+      one-is = r .one-is;
+      break-is = r .break-is;
+      channel-is = r .channel-is ∙ omega arith;
+    }
+
+-- ---- the loop
+
+-- w is written, and in this state the residuals from i on are left
+pub record Loop (before : List ℕ) (vs : List ℤ) (s₀ : State) (out : List ℕ) (sets : List AdaptiveMedians) (place : ℕ) (lz lo brk : Bool) (i : ℕ) : Type 0 where
+  pub state : State
+  pub w : List Bool
+  pub joined : behind w (packed state (drop i vs)) ≡ packed s₀ vs
+  pub bytes : out ≡ put before 0 w
+  pub place-is : place ≡ length w
+  pub room : place ≤ 111 * i
+  pub here : i ≤ length vs
+  pub same : length out ≡ length before
+  pub low-bytes : Bytes out
+  pub two : length sets ≡ 2
+  pub left-is : state .left ≡ mediansOf (getD sets 0 zeroSet)
+  pub right-is : state .right ≡ mediansOf (getD sets 1 zeroSet)
+  pub channel-is : state .channel ≡ i % 2
+  pub owes : state .debt ≡ 0
+  pub zero-is : state .lastZero ≡ lz
+  pub one-is : state .lastOne ≡ lo
+  pub break-is : state .runBreak ≡ brk
+  pub inv : Inv state (drop i vs)
+
+-- what an element of an array is read as where there is none
+abbrev unset : AdaptiveMedians
+unset = record { values = [] }
+
+-- one of the two sets, and the other
+set-is : (sets : List AdaptiveMedians) (c : ℕ) → length sets ≡ 2 → c < 2 → side c (mediansOf (getD sets 0 zeroSet)) (mediansOf (getD sets 1 zeroSet)) ≡ mediansOf (getD sets c unset)
+set-is [] c e h = absurd (omega arith)
+set-is (a ∷ []) c e h = absurd (omega arith)
+set-is (a ∷ b ∷ l) zero e h = refl
+set-is (a ∷ b ∷ l) (suc zero) e h = refl
+set-is (a ∷ b ∷ l) (suc (suc c)) e h = absurd (omega arith)
+
+other-is : (sets : List AdaptiveMedians) (c : ℕ) → length sets ≡ 2 → c < 2 → side c (mediansOf (getD sets 1 zeroSet)) (mediansOf (getD sets 0 zeroSet)) ≡ mediansOf (getD sets (1 - c) unset)
+other-is [] c e h = absurd (omega arith)
+other-is (a ∷ []) c e h = absurd (omega arith)
+other-is (a ∷ b ∷ l) zero e h = refl
+other-is (a ∷ b ∷ l) (suc zero) e h = refl
+other-is (a ∷ b ∷ l) (suc (suc c)) e h = absurd (omega arith)
+
+-- one of them replaced
+record Replaced (sets : List AdaptiveMedians) (x : AdaptiveMedians) (c : ℕ) : Type 0 where
+  at-left : side c (mediansOf x) (mediansOf (getD sets 0 zeroSet)) ≡ mediansOf (getD (set sets c x) 0 zeroSet)
+  at-right : side c (mediansOf (getD sets 1 zeroSet)) (mediansOf x) ≡ mediansOf (getD (set sets c x) 1 zeroSet)
+
+replaced : (sets : List AdaptiveMedians) (x : AdaptiveMedians) (c : ℕ) → length sets ≡ 2 → c < 2 → Replaced sets x c
+replaced [] x c l h = absurd (omega arith)
+replaced (a ∷ []) x c l h = absurd (omega arith)
+replaced (a ∷ b ∷ l) x zero e h = record { at-left = refl; at-right = refl }
+replaced (a ∷ b ∷ l) x (suc zero) e h = record { at-left = refl; at-right = refl }
+replaced (a ∷ b ∷ l) x (suc (suc c)) e h = absurd (omega arith)
+
+-- a residual of a list in the span is in the span
+pub spanned-at : (vs : List ℤ) (i : ℕ) → spanned vs ≡ true → i < length vs → mag (getD vs i (pos 0)) < 1879048192
+spanned-at [] i h l = absurd (omega arith)
+spanned-at (v ∷ vs) zero h l = spanned-parts v vs h .0
+spanned-at (v ∷ vs) (suc i) h l = spanned-at vs i (spanned-parts v vs h .1) (omega arith)
+
+pub loop-start : (before : List ℕ) (vs : List ℤ) (sets : List AdaptiveMedians) → Bytes before → length sets ≡ 2 → Small (pairOf sets .left) → Small (pairOf sets .right)
+    → Loop before vs (start (pairOf sets .left) (pairOf sets .right)) before sets 0 false false false 0
+loop-start before vs sets b e l r = record {
+  state = start (pairOf sets .left) (pairOf sets .right);
+  w = [];
+  joined = refl;
+  bytes = sym (put-nil before 0);
+  place-is = refl;
+  room = omega arith;
+  here = omega arith;
+  same = refl;
+  low-bytes = b;
+  two = e;
+  left-is = refl;
+  right-is = refl;
+  channel-is = refl;
+  owes = refl;
+  zero-is = refl;
+  one-is = refl;
+  break-is = refl;
+  inv = start-inv (pairOf sets .left) (pairOf sets .right) vs l r;
+}
+
+module _ (before : List ℕ) (vs : List ℤ) (s₀ : State) (out : List ℕ) (sets : List AdaptiveMedians) (place : ℕ) (lz lo brk : Bool) (i : ℕ)
+    (l : Loop before vs s₀ out sets place lz lo brk i) where
+  -- the loop's locals are the state's medians and flags
+  pub loop-seen : Seen (l .state) (mediansOf (getD sets (i % 2) unset)) (mediansOf (getD sets (1 - i % 2) unset)) lz lo brk
+  loop-seen = record {
+    owes = l .owes;
+    due-is = rw (l .channel-is, l .left-is, l .right-is) (set-is sets (i % 2) (l .two) (omega arith));
+    other-is = rw (l .channel-is, l .left-is, l .right-is) (other-is sets (i % 2) (l .two) (omega arith));
+    zero-is = l .zero-is;
+    one-is = l .one-is;
+    break-is = l .break-is;
+  }
+
+  pub loop-due-small : Small (mediansOf (getD sets (i % 2) unset))
+  loop-due-small = rw (loop-seen .due-is) at (due-small (l .inv))
+
+  pub loop-other-small : Small (mediansOf (getD sets (1 - i % 2) unset))
+  loop-other-small = rw (loop-seen .other-is) at (other-small (l .inv))
+
+  -- the residual due, and those behind it
+  abbrev pub head : ℤ
+  head = getD vs i (pos 0)
+
+  abbrev pub tail : List ℤ
+  tail = drop (suc i) vs
+
+  split : i < length vs → drop i vs ≡ head ∷ tail
+  split h = drop-cons vs i (pos 0) h
+
+  in-step : i < length vs → Inv (l .state) (head ∷ tail)
+  in-step h = rw (← split h) (l .inv)
+
+  -- what is written, with the word behind it
+  more-bytes : (after : List ℕ) (f : List Bool) → after ≡ put out place f → after ≡ put before 0 (l .w ++ f)
+  more-bytes after f e =
+      let p : place ≡ 0 + length (l .w) = omega (arith, l .place-is) in
+      e ∙ ap₂ (λ (x : List ℕ) (y : ℕ). put x y f) (l .bytes) p ∙ put-put before 0 (l .w) f (omega arith)
+
+  more-joined : i < length vs → behind (l .w ++ wordOut (l .state) head tail .bits) (packed (wordOut (l .state) head tail .next) tail) ≡ packed s₀ vs
+  more-joined h = sym (packing-on (l .w) (l .state) head tail) ∙ ap (λ (x : List ℤ). behind (l .w) (packed (l .state) x)) (sym (split h)) ∙ l .joined
+
+  few : length vs ≤ 262144 → i < length vs → length (head ∷ tail) < 2 ^ 32
+  few n h = omega (arith, length-drop (suc i) vs)
+
+  pub word-room : spanned vs ≡ true → length vs ≤ 262144 → i < length vs → length (wordOut (l .state) head tail .bits) ≤ 111
+  word-room s n h = word-long (l .state) head tail (due-small (in-step h)) (spanned-at vs i s h) (few n h)
+
+  -- a run ends within the residuals
+  pub run-room : (run : ℕ) (z o : Bool) → i < length vs → RunIs (l .state) (wordOut (l .state) head tail .next) (head ∷ tail) run z o → i + run ≤ length vs
+  run-room run z o h t = omega (arith, t .length-is, zeros-le (head ∷ tail), length-drop (suc i) vs)
+
+  -- a turn that writes a word
+  pub loop-word : (after : List ℕ) (q : ℕ) (x : AdaptiveMedians) (z o : Bool) → spanned vs ≡ true → length vs ≤ 262144 → i < length vs
+      → Next (l .state) (wordOut (l .state) head tail .next) (mediansOf x) z o → after ≡ put out place (wordOut (l .state) head tail .bits)
+      → q ≡ place + length (wordOut (l .state) head tail .bits) → length after ≡ length out → Bytes after → Loop before vs s₀ after (set sets (i % 2) x) q z o false (i + 1)
+  loop-word after q x z o s n h t e p k b =
+      let u = wordOut (l .state) head tail in
+      let r = replaced sets x (i % 2) (l .two) (omega arith) in
+      let j : drop (i + 1) vs ≡ tail = ap (λ (a : ℕ). drop a vs) (add-one i) in
+      record {
+        state = u .next;
+        w = l .w ++ u .bits;
+        joined = ap (λ (a : List ℤ). behind (l .w ++ u .bits) (packed (u .next) a)) j ∙ more-joined h;
+        bytes = more-bytes after (u .bits) e;
+        place-is = omega (arith, length-append (l .w) (u .bits), l .place-is);
+        room = omega (arith, word-room s n h, l .room);
+        here = omega arith;
+        same = k ∙ l .same;
+        low-bytes = b;
+        two = length-set sets (i % 2) x ∙ l .two;
+        left-is = t .left-is ∙ rw (l .channel-is, l .left-is) (r .at-left);
+        right-is = t .right-is ∙ rw (l .channel-is, l .right-is) (r .at-right);
+        channel-is = t .channel-is ∙ flip-mod (l .state .channel) i (l .channel-is);
+        owes = t .owes ∙ l .owes;
+        zero-is = t .zero-is;
+        one-is = t .one-is;
+        break-is = t .break-is;
+        inv = rw j (kept (l .state) head tail (in-step h) (spanned-at vs i s h) (few n h));
+      }
+
+  -- a turn that writes a run
+  pub loop-run : (after : List ℕ) (q run : ℕ) (z o : Bool) → spanned vs ≡ true → length vs ≤ 262144 → i < length vs → 0 < run
+      → RunIs (l .state) (wordOut (l .state) head tail .next) (head ∷ tail) run z o → after ≡ put out place (wordOut (l .state) head tail .bits)
+      → q ≡ place + length (wordOut (l .state) head tail .bits) → length after ≡ length out → Bytes after
+      → Loop before vs s₀ after (zeroSet ∷ zeroSet ∷ []) q z o true (i + run)
+  unfolding inRun
+  loop-run after q run z o s n h some t e p k b =
+      let u = wordOut (l .state) head tail in
+      let d = run - 1 in
+      let y = inRun d (l .state) in
+      let zs = zeros-head head tail d (omega (arith, t .length-is)) in
+      let r = settle d (i + 1) y tail refl (zs .1) (flip-mod (l .state .channel) i (l .channel-is)) in
+      let m : suc i + d ≡ i + run = omega arith in
+      let j : drop d tail ≡ drop (i + run) vs = drop-drop d (suc i) vs ∙ ap (λ (a : ℕ). drop a vs) m in
+      let c : packed (u .next) tail ≡ packed (r .t) (drop (i + run) vs) = ap (λ (a : State). packed a tail) (t .state-is) ∙ r .same ∙ ap (packed (r .t)) j in
+      record {
+        state = r .t;
+        w = l .w ++ u .bits;
+        joined = ap (behind (l .w ++ u .bits)) (sym c) ∙ more-joined h;
+        bytes = more-bytes after (u .bits) e;
+        place-is = omega (arith, length-append (l .w) (u .bits), l .place-is);
+        room = omega (arith, word-room s n h, l .room);
+        here = run-room run z o h t;
+        same = k ∙ l .same;
+        low-bytes = b;
+        two = refl;
+        left-is = r .left-is;
+        right-is = r .right-is;
+        channel-is = r .channel-is ∙ omega arith;
+        owes = r .owes;
+        zero-is = r .zero-is ∙ t .no-zero ∙ sym (t .zero-is);
+        one-is = r .one-is ∙ t .no-one ∙ sym (t .one-is);
+        break-is = r .break-is;
+        inv =
+            record {
+              owed = omega (arith, r .owes);
+              zeroed = λ a. clash a (r .zero-is ∙ t .no-zero);
+              oned = λ a. clash a (r .one-is ∙ t .no-one);
+              small-left = rw (r .left-is) none-small;
+              small-right = rw (r .right-is) none-small;
+            };
+      }
+
+  -- all are written
+  pub loop-end : (seeds : MedianPair) (r : Packed) → s₀ ≡ start (seeds .left) (seeds .right) → length vs ≤ i → r .bits ≡ place → r .medians ≡ sets → PackedIs before out seeds vs r
+  loop-end seeds r g h b m =
+      let j : drop i vs ≡ [] = drop-of-length-le vs {i = i} h in
+      let e : record { bits = l .w; next = l .state } ≡ packed (start (seeds .left) (seeds .right)) vs =
+      sym (packing-end (l .w) (l .state)) ∙ ap (λ (x : List ℤ). behind (l .w) (packed (l .state) x)) (sym j) ∙ l .joined ∙ ap (λ (x : State). packed x vs) g in
+      record {
+        bytes = l .bytes ∙ ap (λ (x : Out). put before 0 (x .bits)) e;
+        bits-are = b ∙ l .place-is ∙ ap (λ (x : Out). length (x .bits)) e;
+        medians-are =
+            ap pairOf m ∙ ap₂ (λ (x y : Medians). record { left = x; right = y }) (sym (l .left-is)) (sym (l .right-is))
+            ∙ ap (λ (x : Out). record { left = x .next .left; right = x .next .right }) e;
+      }
