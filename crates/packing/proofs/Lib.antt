@@ -13,3 +13,4 @@ pub mod WordLaws
 pub mod TurnLaws
 pub mod SizeLaws
 pub mod LoopLaws
+pub mod EntryLaws

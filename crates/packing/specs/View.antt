@@ -4,7 +4,7 @@ use mathlib.Core.Path.{_≡_}
 use mathlib.Core.Bool.{Bool, false, not, cond, _&&_}
 use mathlib.Core.List.{List, [], _∷_, _++_}
 use Prim.Native.Nat.{ℕ, _+_, _-_, _<_}
-use lib.Dec.{leb}
+use lib.Dec.{leb, ltb}
 use lib.IntN.{ℤ}
 use lib.ListN.{length}
 use lib.Signed.{mag}
@@ -119,3 +119,7 @@ pub record PackedIs (before after : List ℕ) (seeds : MedianPair) (vs : List �
   pub bits-are : r .bits ≡ length (packed (start (seeds .left) (seeds .right)) vs .bits)
   pub medians-are : pairOf (r .medians)
       ≡ record { left = packed (start (seeds .left) (seeds .right)) vs .next .left; right = packed (start (seeds .left) (seeds .right)) vs .next .right }
+
+-- 1 for a residual outside the span
+abbrev pub excessOf : ℤ → ℕ
+excessOf v = cond (ltb (mag v) 1879048192) 0 1

@@ -6,3 +6,13 @@ pub mod locating;
 pub mod packing;
 pub mod word;
 pub mod written;
+
+use answers::Outcome;
+use entropy::AdaptiveMedians;
+
+// What packing answers: why it refused, if it did, the bits written, and the medians after; on refusal bits and medians are 0.
+pub struct PackAnswer {
+    pub outcome: Outcome,
+    pub bits: usize,
+    pub medians: [AdaptiveMedians; 2],
+}

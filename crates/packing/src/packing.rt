@@ -2,14 +2,23 @@
 // zeros that it tells of are passed over. Each turn is lent the rest of the buffer from its first unfinished byte.
 ghost use mathlib.Core.Path.{_≡_};
 ghost use mathlib.Core.Bool.{true};
+ghost use Rattle.answers.specs.Numbers.{outcomeNumber};
 ghost use Prim.Native.Nat.{_*_, _≤_};
 ghost use lib.ListN.{length};
-ghost use Rattle.entropy.specs.Medians.{pairOf};
+ghost use lib.Dec.{ltb};
+ghost use lib.Signed.{mag};
+ghost use Rattle.entropy.specs.Medians.{pairOf, zeroPair};
 ghost use Rattle.packing.specs.Counts.{Small};
 ghost use Rattle.packing.specs.Packing.{spanned};
-ghost use Rattle.packing.specs.View.{PackedIs};
+ghost use Rattle.packing.specs.Entry.{packToldOf, packEntry};
+ghost use Rattle.packing.specs.View.{PackedIs, excessOf};
+use crate::PackAnswer;
+use crate::locating::magnitude;
 use crate::word::put_turn;
+use answers::Outcome;
+use answers::Refusal;
 use entropy::AdaptiveMedians;
+use entropy::stereo_pair_from_entropy;
 
 // The bits written, and the medians after them.
 pub struct Packed {
@@ -64,5 +73,78 @@ fn pack_words(residuals: &[i32], seeds: [AdaptiveMedians; 2], out: &mut [u8]) ->
     Packed {
         bits: place,
         medians: sets,
+    }
+}
+
+// 1 for a residual outside the span, 0 for any other.
+fn excess(residual: i32) -> usize
+    ensures { λ r. ⌜ r ≡ excessOf residual ⌝ }
+{
+    if magnitude(residual) < 1879048192 {
+        0
+    } else {
+        1
+    }
+}
+
+// Whether every residual lies within the span. No early end: the machine adds several at once.
+fn in_span(residuals: &[i32]) -> bool
+    ensures { λ r. ⌜ r ≡ spanned (now (residuals .entry)) ⌝ }
+{
+    let mut outside: usize = 0;
+    let mut i: usize = 0;
+    while i < residuals.len() {
+        outside = outside + excess(residuals[i]);
+        i = i + 1;
+    }
+    outside == 0
+}
+
+// A refusal: bits and medians 0.
+fn refused(outcome: Outcome) -> PackAnswer
+    ensures { λ r. ⌜ (r .outcome ≡ outcome) × (r .bits ≡ 0) × (pairOf (r .medians) ≡ zeroPair) ⌝ }
+{
+    let none = AdaptiveMedians { values: [0, 0, 0] };
+    PackAnswer {
+        outcome: outcome,
+        bits: 0,
+        medians: [none, none],
+    }
+}
+
+// Answers the bits written and the medians after. Refuses with 5 over 131,072 frames, 6 where there are not two residuals a frame, 1 and 2 about the entropy
+// payload, 11 where under 28 bytes a frame are lent, and 10 for a residual outside the span; the buffer then keeps its bytes.
+pub fn encode_packed_samples_stereo_from_entropy(
+    residuals: &[i32],
+    entropy: &[u8],
+    frames: usize,
+    out: &mut [u8],
+) -> PackAnswer
+    ensures { λ r. ⌜ packToldOf r (now (out .exit)) ≡ packEntry (now (residuals .entry)) (now (entropy .entry)) frames (now (out .entry)) ⌝ }
+{
+    if frames > 131072 {
+        return refused(Outcome::Refused(Refusal::TooLarge));
+    }
+    if residuals.len() != 2 * frames {
+        return refused(Outcome::Refused(Refusal::ListLength));
+    }
+    let seed = stereo_pair_from_entropy(entropy);
+    let outcome = seed.outcome;
+    let Outcome::Accepted = outcome else {
+        return refused(outcome);
+    };
+    if out.len() < 28 * frames {
+        return refused(Outcome::Refused(Refusal::OutputTooShort));
+    }
+    if !in_span(residuals) {
+        return refused(Outcome::Refused(Refusal::ResidualOutOfSpan));
+    }
+    let seeds = seed.medians;
+    let packed = pack_words(residuals, seeds, out);
+    let medians = packed.medians;
+    PackAnswer {
+        outcome: Outcome::Accepted,
+        bits: packed.bits,
+        medians: medians,
     }
 }

@@ -1,0 +1,33 @@
+-- `packing::packing::excess` meets its contract.
+-- Assumes nothing.
+use mathlib.Core.Path.{_≡_, refl, sym, ap, _∙_}
+use Prim.Native.Nat.{ℕ, _+_, _-_, _*_, _/_, _%_, _^_, _≤_, _<_}
+use native.Mathlib.Omega.{arith}
+use mir.Facts.{toZ-ofZ}
+use mir.Syntax.{w32}
+use mir.Val.{SFits}
+use Rattle.packing.proofs.EntryLaws.{excess-in, excess-out}
+use borrow.Author.Needs.{needs}
+use Rattle.packing.proofs.packing.excess.Statement.{statement}
+use Rattle.packing.proofs.packing.excess.Tie as tie
+use Rattle.packing.proofs.packing.excess.Reads as reads
+use Rattle.packing.proofs.packing.excess.Lts as lts
+use Rattle.packing.proofs.locating.magnitude.Reads as magnitude-reads
+
+magnitude-requires : tie.Need-magnitude-requires
+magnitude-requires c κs = search needs
+
+returns : tie.Need-returns
+returns c =
+    let v = c .before .before .args .residual in
+    let f : SFits w32 v = search needs in
+    excess-in v (rw (c .before .magnitude .ensures, toZ-ofZ f) at (c .if1 .taken))
+
+returns-2 : tie.Need-returns-2
+returns-2 c =
+    let v = c .before .before .args .residual in
+    let f : SFits w32 v = search needs in
+    excess-out v (rw (c .before .magnitude .ensures, toZ-ofZ f) at (c .if1 .left))
+
+pub excess-spec : {M : Type 1} → statement M
+excess-spec = tie.close (tie.spec magnitude-requires returns returns-2)

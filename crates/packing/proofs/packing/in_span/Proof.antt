@@ -1,0 +1,78 @@
+-- `packing::packing::in_span` meets its contract.
+-- Assumes nothing.
+use mathlib.Core.Path.{_≡_, refl, sym, ap, _∙_}
+use Prim.Native.Nat.{ℕ, _+_, _-_, _*_, _/_, _%_, _^_, _≤_, _<_}
+use native.Mathlib.Omega.{arith}
+use borrow.Author.Needs.{needs}
+use lib.IntN.{pos}
+use lib.ListN.{length, getD}
+use mir.Facts.{toZ-ofZ}
+use mir.Syntax.{w32}
+use mir.Val.{SFits}
+use Rattle.packing.specs.View.{excessOf}
+use Rattle.packing.proofs.EntryLaws.{excess-le, Spans, spans-step, spans-end}
+use Rattle.packing.proofs.packing.in_span.Statement.{statement}
+use Rattle.packing.proofs.packing.in_span.Tie as tie
+use Rattle.packing.proofs.packing.in_span.Reads as reads
+use Rattle.packing.proofs.packing.in_span.Lts as lts
+use Rattle.packing.proofs.packing.excess.Reads as excess-reads
+
+abbrev Inv-loop : tie.InvT-loop
+Inv-loop residuals outside₀ i₀ outside i = Spans residuals outside i
+
+abbrev μ-loop : tie.MeasureT-loop
+μ-loop residuals outside₀ i₀ outside i = length residuals - i
+
+loop-holds : tie.Need-loop-holds Inv-loop μ-loop
+loop-holds c = record { is = refl; few = omega arith; here = omega arith }
+
+mul-excess : tie.Need-mul-excess Inv-loop μ-loop
+mul-excess c = search needs
+
+shared-slice-copy-out-excess : tie.Need-shared-slice-copy-out-excess Inv-loop μ-loop
+shared-slice-copy-out-excess c = search needs
+
+excess-requires : tie.Need-excess-requires Inv-loop μ-loop
+excess-requires c κs = search needs
+
+-- the residual that was looked at
+next : (c : tie.After-excess Inv-loop μ-loop) → c .excess .result ≡ excessOf (getD (c .before .before .before .before .args .residuals .now) (c .before .before .before .loop .i) (pos 0))
+next c =
+    let v = getD (c .before .before .before .before .args .residuals .now) (c .before .before .before .loop .i) (pos 0) in
+    let f : SFits w32 v = search needs in
+    rw (toZ-ofZ f) at (c .excess .ensures)
+
+add-outside : tie.Need-add-outside Inv-loop μ-loop
+add-outside c =
+    let l = c .before .before .before .loop in
+    omega (arith, l .inv, next c, excess-le (getD (c .before .before .before .before .args .residuals .now) (l .i) (pos 0)))
+
+add-i : tie.Need-add-i Inv-loop μ-loop
+add-i c = search needs
+
+loop-less : tie.Need-loop-less Inv-loop μ-loop
+loop-less c = search needs
+
+loop-again : tie.Need-loop-again Inv-loop μ-loop
+loop-again c =
+    let l = c .before .before .before .loop in
+    rw (next c) (spans-step _ _ _ (omega arith) (l .inv))
+
+returns : tie.Need-returns Inv-loop μ-loop
+returns c = spans-end _ _ _ (omega arith) (c .before .loop .inv)
+
+pub in-span-spec : {M : Type 1} → statement M
+in-span-spec =
+    tie.close
+    (tie.spec
+    Inv-loop
+    μ-loop
+    loop-holds
+    mul-excess
+    shared-slice-copy-out-excess
+    excess-requires
+    add-outside
+    add-i
+    loop-less
+    loop-again
+    returns)
