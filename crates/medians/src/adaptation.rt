@@ -19,7 +19,7 @@ fn held(x: u64) -> u32
 }
 
 // A median moved up, `divisor` being its d.
-fn inc_median(median: u32, divisor: u32) -> u32
+pub fn inc_median(median: u32, divisor: u32) -> u32
     requires { ⌜ 32 ≤ divisor ⌝ }
     ensures { λ r. ⌜ r ≡ up divisor median ⌝ }
 {
@@ -28,7 +28,7 @@ fn inc_median(median: u32, divisor: u32) -> u32
 }
 
 // A median moved down, `divisor` being its d.
-fn dec_median(median: u32, divisor: u32) -> u32
+pub fn dec_median(median: u32, divisor: u32) -> u32
     requires { ⌜ 32 ≤ divisor ⌝ }
     ensures { λ r. ⌜ r ≡ down divisor median ⌝ }
 {

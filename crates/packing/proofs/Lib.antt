@@ -14,3 +14,4 @@ pub mod TurnLaws
 pub mod SizeLaws
 pub mod LoopLaws
 pub mod EntryLaws
+pub mod TripLaws

@@ -2,10 +2,10 @@
 -- Assumes nothing.
 use mathlib.Core.Bool.{Bool, true, cond}
 use mathlib.Core.List.{List}
-use Prim.Native.Nat.{ℕ, zero, suc, _*_}
+use Prim.Native.Nat.{ℕ, zero, suc, _+_, _*_, _/_}
 use lib.Dec.{ltb, eqb}
 use lib.IntN.{ℤ}
-use lib.ListN.{length}
+use lib.ListN.{length, take}
 use Rattle.answers.specs.Numbers.{outcomeNumber}
 use Rattle.bits.specs.Laid.{laid, over}
 use Rattle.entropy.specs.Medians.{MedianPair, pairOf, zeroPair}
@@ -55,3 +55,7 @@ unlessRefused buffer (suc c) told = record { refusal = suc c; bits = 0; medians 
 unfoldable pub packEntry : List ℤ → List ℕ → ℕ → List ℕ → PackTold
 packEntry residuals entropy frames buffer =
     unlessRefused buffer (packRefusal residuals entropy frames buffer) (toldPacked buffer (packedFrom entropy residuals))
+
+-- document 01, "The words of demand 3" (M5): "The packed bytes are those that hold the bits written."
+abbrev pub packedBytes : PackTold → List ℕ
+packedBytes told = take ((told .bits + 7) / 8) (told .bytes)
