@@ -3,10 +3,10 @@
 use mathlib.Core.Path.{_≡_}
 use mathlib.Core.Bool.{Bool, false, not, cond, _&&_}
 use mathlib.Core.List.{List, [], _∷_, _++_}
-use Prim.Native.Nat.{ℕ, _+_, _-_, _<_}
+use Prim.Native.Nat.{ℕ, zero, suc, _+_, _-_, _≤_, _<_}
 use lib.Dec.{leb, ltb}
-use lib.IntN.{ℤ}
-use lib.ListN.{length}
+use lib.IntN.{ℤ, pos, negsuc}
+use lib.ListN.{length, drop}
 use lib.Signed.{mag}
 use Rattle.bits.specs.Bits.{num}
 use Rattle.bits.specs.Laid.{put}
@@ -123,3 +123,15 @@ pub record PackedIs (before after : List ℕ) (seeds : MedianPair) (vs : List �
 -- 1 for a residual outside the span
 abbrev pub excessOf : ℤ → ℕ
 excessOf v = cond (ltb (mag v) 1879048192) 0 1
+
+-- 1 for a residual other than 0
+abbrev pub otherOf : ℤ → ℕ
+otherOf (pos zero) = 0
+otherOf (pos (suc n)) = 1
+otherOf (negsuc n) = 1
+
+-- all residuals from `first` up to r are 0
+pub record SkipIs (vs : List ℤ) (first r : ℕ) : Type 0 where
+  pub ahead-of : first ≤ r
+  pub here : r ≤ length vs
+  pub zeros-are : zeros (drop first vs) ≡ r - first + zeros (drop r vs)

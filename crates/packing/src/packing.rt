@@ -2,19 +2,16 @@
 // zeros that it tells of are passed over. Each turn is lent the rest of the buffer from its first unfinished byte.
 ghost use mathlib.Core.Path.{_≡_};
 ghost use mathlib.Core.Bool.{true};
-ghost use Rattle.answers.specs.Numbers.{outcomeNumber};
 ghost use Prim.Native.Nat.{_*_, _≤_};
 ghost use lib.ListN.{length};
-ghost use lib.Dec.{ltb};
-ghost use lib.Signed.{mag};
 ghost use Rattle.entropy.specs.Medians.{pairOf, zeroPair};
 ghost use Rattle.packing.specs.Counts.{Small};
 ghost use Rattle.packing.specs.Packing.{spanned};
 ghost use Rattle.packing.specs.Entry.{packToldOf, packEntry};
-ghost use Rattle.packing.specs.View.{PackedIs, excessOf};
+ghost use Rattle.packing.specs.View.{PackedIs};
 use crate::PackAnswer;
-use crate::locating::magnitude;
 use crate::word::put_turn;
+use crate::zeros::in_span;
 use answers::Outcome;
 use answers::Refusal;
 use entropy::AdaptiveMedians;
@@ -74,30 +71,6 @@ fn pack_words(residuals: &[i32], seeds: [AdaptiveMedians; 2], out: &mut [u8]) ->
         bits: place,
         medians: sets,
     }
-}
-
-// 1 for a residual outside the span, 0 for any other.
-fn excess(residual: i32) -> usize
-    ensures { λ r. ⌜ r ≡ excessOf residual ⌝ }
-{
-    if magnitude(residual) < 1879048192 {
-        0
-    } else {
-        1
-    }
-}
-
-// Whether every residual lies within the span. No early end: the machine adds several at once.
-fn in_span(residuals: &[i32]) -> bool
-    ensures { λ r. ⌜ r ≡ spanned (now (residuals .entry)) ⌝ }
-{
-    let mut outside: usize = 0;
-    let mut i: usize = 0;
-    while i < residuals.len() {
-        outside = outside + excess(residuals[i]);
-        i = i + 1;
-    }
-    outside == 0
 }
 
 // A refusal: bits and medians 0.

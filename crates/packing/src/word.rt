@@ -11,7 +11,7 @@ ghost use Rattle.bits.specs.Bits.{low, val};
 ghost use Rattle.bits.specs.Laid.{put};
 ghost use Rattle.entropy.specs.Medians.{mediansOf};
 ghost use Rattle.packing.specs.Counts.{Small};
-ghost use Rattle.packing.specs.Packing.{ahead, prefixOf, zeros};
+ghost use Rattle.packing.specs.Packing.{ahead, prefixOf};
 ghost use Rattle.packing.specs.Written.{prefixField};
 ghost use Rattle.packing.specs.View.{PutIs, BeforeIs, WordIs, TurnIs, runTest};
 use crate::laying::lay;
@@ -23,6 +23,7 @@ use crate::written::gather_code;
 use crate::written::gather_ones;
 use crate::written::put_escaped;
 use crate::written::put_run;
+use crate::zeros::zeros_from;
 use bits::write::put_bits;
 use entropy::AdaptiveMedians;
 
@@ -138,21 +139,6 @@ fn is_ahead(medians: AdaptiveMedians, residuals: &[i32], next: usize) -> bool
         return m[0] / 16 < magnitude(residuals[next]);
     }
     false
-}
-
-// The length of the unbroken stretch of zeros that starts at `first`.
-fn zeros_from(residuals: &[i32], first: usize) -> usize
-    requires { ⌜ first ≤ length (now residuals) ⌝ }
-    ensures { λ r. ⌜ r ≡ zeros (drop first (now (residuals .entry))) ⌝ }
-{
-    let mut i = first;
-    while i < residuals.len() {
-        if residuals[i] != 0 {
-            return i - first;
-        }
-        i = i + 1;
-    }
-    i - first
 }
 
 // Whether a run length is due, `a` and `b` being the first medians of both channels.

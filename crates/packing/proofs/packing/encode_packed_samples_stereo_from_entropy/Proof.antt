@@ -19,7 +19,7 @@ use Rattle.packing.proofs.packing.encode_packed_samples_stereo_from_ent
 use Rattle.packing.proofs.packing.encode_packed_samples_stereo_from_entropy.Reads as reads
 use Rattle.packing.proofs.packing.encode_packed_samples_stereo_from_entropy.Lts as lts
 use Rattle.entropy.proofs.stereo_pair_from_entropy.Reads as stereo-pair-from-entropy-reads
-use Rattle.packing.proofs.packing.in_span.Reads as in-span-reads
+use Rattle.packing.proofs.zeros.in_span.Reads as in-span-reads
 use Rattle.packing.proofs.packing.pack_words.Reads as pack-words-reads
 use Rattle.packing.proofs.packing.refused.Reads as refused-reads
 

@@ -14,7 +14,7 @@ use Rattle.packing.proofs.word.put_before.Statement.{statement}
 use Rattle.packing.proofs.word.put_before.Tie as tie
 use Rattle.packing.proofs.word.put_before.Reads as reads
 use Rattle.packing.proofs.word.put_before.Lts as lts
-use Rattle.packing.proofs.word.zeros_from.Reads as zeros-from-reads
+use Rattle.packing.proofs.zeros.zeros_from.Reads as zeros-from-reads
 use Rattle.packing.proofs.written.put_run.Reads as put-run-reads
 
 zeros-from-requires : tie.Need-zeros-from-requires

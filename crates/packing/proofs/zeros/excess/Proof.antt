@@ -1,4 +1,4 @@
--- `packing::packing::excess` meets its contract.
+-- `packing::zeros::excess` meets its contract.
 -- Assumes nothing.
 use mathlib.Core.Path.{_≡_, refl, sym, ap, _∙_}
 use Prim.Native.Nat.{ℕ, _+_, _-_, _*_, _/_, _%_, _^_, _≤_, _<_}
@@ -8,10 +8,10 @@ use mir.Syntax.{w32}
 use mir.Val.{SFits}
 use Rattle.packing.proofs.EntryLaws.{excess-in, excess-out}
 use borrow.Author.Needs.{needs}
-use Rattle.packing.proofs.packing.excess.Statement.{statement}
-use Rattle.packing.proofs.packing.excess.Tie as tie
-use Rattle.packing.proofs.packing.excess.Reads as reads
-use Rattle.packing.proofs.packing.excess.Lts as lts
+use Rattle.packing.proofs.zeros.excess.Statement.{statement}
+use Rattle.packing.proofs.zeros.excess.Tie as tie
+use Rattle.packing.proofs.zeros.excess.Reads as reads
+use Rattle.packing.proofs.zeros.excess.Lts as lts
 use Rattle.packing.proofs.locating.magnitude.Reads as magnitude-reads
 
 magnitude-requires : tie.Need-magnitude-requires

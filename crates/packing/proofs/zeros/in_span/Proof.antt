@@ -1,4 +1,4 @@
--- `packing::packing::in_span` meets its contract.
+-- `packing::zeros::in_span` meets its contract.
 -- Assumes nothing.
 use mathlib.Core.Path.{_≡_, refl, sym, ap, _∙_}
 use Prim.Native.Nat.{ℕ, _+_, _-_, _*_, _/_, _%_, _^_, _≤_, _<_}
@@ -11,11 +11,11 @@ use mir.Syntax.{w32}
 use mir.Val.{SFits}
 use Rattle.packing.specs.View.{excessOf}
 use Rattle.packing.proofs.EntryLaws.{excess-le, Spans, spans-step, spans-end}
-use Rattle.packing.proofs.packing.in_span.Statement.{statement}
-use Rattle.packing.proofs.packing.in_span.Tie as tie
-use Rattle.packing.proofs.packing.in_span.Reads as reads
-use Rattle.packing.proofs.packing.in_span.Lts as lts
-use Rattle.packing.proofs.packing.excess.Reads as excess-reads
+use Rattle.packing.proofs.zeros.in_span.Statement.{statement}
+use Rattle.packing.proofs.zeros.in_span.Tie as tie
+use Rattle.packing.proofs.zeros.in_span.Reads as reads
+use Rattle.packing.proofs.zeros.in_span.Lts as lts
+use Rattle.packing.proofs.zeros.excess.Reads as excess-reads
 
 abbrev Inv-loop : tie.InvT-loop
 Inv-loop residuals outside₀ i₀ outside i = Spans residuals outside i

@@ -1,0 +1,80 @@
+-- `packing::zeros::all_zero` meets its contract.
+-- Assumes nothing.
+use mathlib.Core.Path.{_≡_, refl, sym, ap, _∙_}
+use Prim.Native.Nat.{ℕ, _+_, _-_, _*_, _/_, _%_, _^_, _≤_, _<_}
+use native.Mathlib.Omega.{arith}
+use borrow.Author.Needs.{needs}
+use lib.IntN.{pos}
+use lib.ListN.{getD}
+use mir.Facts.{toZ-ofZ}
+use mir.Syntax.{w32}
+use mir.Val.{SFits}
+use Rattle.packing.specs.View.{otherOf}
+use Rattle.packing.proofs.ZeroLaws.{other-le, Block, block-start, block-step}
+use Rattle.packing.proofs.zeros.all_zero.Statement.{statement}
+use Rattle.packing.proofs.zeros.all_zero.Tie as tie
+use Rattle.packing.proofs.zeros.all_zero.Reads as reads
+use Rattle.packing.proofs.zeros.all_zero.Lts as lts
+use Rattle.packing.proofs.zeros.other.Reads as other-reads
+
+abbrev Inv-loop : tie.InvT-loop
+Inv-loop residuals from others₀ i₀ others i = (i ≤ 32) × Block residuals from others i
+
+abbrev μ-loop : tie.MeasureT-loop
+μ-loop residuals from others₀ i₀ others i = 32 - i
+
+loop-holds : tie.Need-loop-holds Inv-loop μ-loop
+loop-holds c = (omega arith, block-start _ _)
+
+add-other : tie.Need-add-other Inv-loop μ-loop
+add-other c = omega arith
+
+mul-other : tie.Need-mul-other Inv-loop μ-loop
+mul-other c = search needs
+
+shared-slice-copy-out-other : tie.Need-shared-slice-copy-out-other Inv-loop μ-loop
+shared-slice-copy-out-other c = omega arith
+
+other-requires : tie.Need-other-requires Inv-loop μ-loop
+other-requires c κs = search needs
+
+-- the residual that was looked at
+next : (c : tie.After-other Inv-loop μ-loop) → c .other .result ≡ otherOf (getD (c .before .before .before .before .args .residuals .now) (c .before .before .before .before .args .from + c .before .before .before .loop .i) (pos 0))
+next c = let f : SFits w32 (getD (c .before .before .before .before .args .residuals .now) (c .before .before .before .before .args .from + c .before .before .before .loop .i) (pos 0)) = search needs in rw (toZ-ofZ f) at (c .other .ensures)
+
+add-others : tie.Need-add-others Inv-loop μ-loop
+add-others c = omega (arith, c .before .before .before .loop .inv .1, next c, other-le (getD (c .before .before .before .before .args .residuals .now) (c .before .before .before .before .args .from + c .before .before .before .loop .i) (pos 0)))
+
+add-i : tie.Need-add-i Inv-loop μ-loop
+add-i c = omega arith
+
+loop-less : tie.Need-loop-less Inv-loop μ-loop
+loop-less c = omega arith
+
+loop-again : tie.Need-loop-again Inv-loop μ-loop
+loop-again c =
+    let l = c .before .before .before .loop in
+    (omega arith, rw (next c) (block-step _ _ _ _ (omega arith) (l .inv .1)))
+
+returns : tie.Need-returns Inv-loop μ-loop
+returns c =
+    let l = c .before .loop in
+    let e : l .i ≡ 32 = omega arith in
+    rw e at (l .inv .1 .is)
+
+pub all-zero-spec : {M : Type 1} → statement M
+all-zero-spec =
+    tie.close
+    (tie.spec
+    Inv-loop
+    μ-loop
+    loop-holds
+    add-other
+    mul-other
+    shared-slice-copy-out-other
+    other-requires
+    add-others
+    add-i
+    loop-less
+    loop-again
+    returns)

@@ -1,0 +1,61 @@
+-- `packing::zeros::skip` meets its contract.
+-- Assumes nothing.
+use mathlib.Core.Path.{_≡_, refl, sym, ap, _∙_}
+use Prim.Native.Nat.{ℕ, _+_, _-_, _*_, _/_, _%_, _^_, _≤_, _<_}
+use native.Mathlib.Omega.{arith}
+use borrow.Author.Tests.{leb-true, not-false}
+use lib.ListN.{length}
+use Rattle.packing.specs.View.{SkipIs}
+use Rattle.packing.proofs.ZeroLaws.{skip-start, skip-step}
+use Rattle.packing.proofs.zeros.skip.Statement.{statement}
+use Rattle.packing.proofs.zeros.skip.Tie as tie
+use Rattle.packing.proofs.zeros.skip.Reads as reads
+use Rattle.packing.proofs.zeros.skip.Lts as lts
+use Rattle.packing.proofs.zeros.all_zero.Reads as all-zero-reads
+
+abbrev Inv-loop : tie.InvT-loop
+Inv-loop residuals first i₀ i = SkipIs residuals first i
+
+abbrev μ-loop : tie.MeasureT-loop
+μ-loop residuals first i₀ i = length residuals - i
+
+loop-holds : tie.Need-loop-holds Inv-loop μ-loop
+loop-holds c = skip-start _ _ (c .pre)
+
+sub-loop : tie.Need-sub-loop Inv-loop μ-loop
+sub-loop c = omega (arith, c .loop .inv)
+
+all-zero-requires : tie.Need-all-zero-requires Inv-loop μ-loop
+all-zero-requires c κs = omega (arith, c .before .loop .inv)
+
+returns : tie.Need-returns Inv-loop μ-loop
+returns c = c .before .before .before .loop .inv
+
+add-i : tie.Need-add-i Inv-loop μ-loop
+add-i c = omega (arith, c .before .before .before .loop .inv)
+
+loop-less : tie.Need-loop-less Inv-loop μ-loop
+loop-less c = omega (arith, c .before .before .before .loop .inv)
+
+loop-again : tie.Need-loop-again Inv-loop μ-loop
+loop-again c =
+    let l = c .before .before .before .loop in
+    skip-step _ _ _ (omega (arith, l .inv)) (leb-true 32 _ (sym (c .before .all-zero .ensures) ∙ not-false _ (c .if1 .left))) (l .inv)
+
+returns-2 : tie.Need-returns-2 Inv-loop μ-loop
+returns-2 c = c .before .loop .inv
+
+pub skip-spec : {M : Type 1} → statement M
+skip-spec =
+    tie.close
+    (tie.spec
+    Inv-loop
+    μ-loop
+    loop-holds
+    sub-loop
+    all-zero-requires
+    returns
+    add-i
+    loop-less
+    loop-again
+    returns-2)
