@@ -1,9 +1,9 @@
 -- The packing entry: the span, each way out, and the answer of an accepted list.
 -- Assumes nothing.
-use mathlib.Core.Path.{_≡_, refl, sym, ap, ap₂, _∙_}
+use mathlib.Core.Path.{_≡_, refl, sym, ap, _∙_}
 use mathlib.Core.Bool.{Bool, true, false, cond, _&&_, and-false}
-use mathlib.Core.List.{List, [], _∷_}
-use Prim.Native.Nat.{ℕ, zero, suc, _+_, _-_, _*_, _≤_, _<_}
+use mathlib.Core.List.{List}
+use Prim.Native.Nat.{ℕ, zero, suc, _+_, _*_, _≤_, _<_}
 use native.Mathlib.Nat.{add-zero}
 use native.Mathlib.Numerals.{add-one}
 use native.Mathlib.Omega.{arith}
@@ -16,11 +16,11 @@ use lib.Signed.{mag}
 use Rattle.answers.specs.declared.Outcome.{Outcome}
 use Rattle.answers.specs.declared.Refusal.{Refusal}
 use Rattle.answers.specs.Numbers.{numberOf, outcomeNumber}
-use Rattle.bits.specs.Laid.{laid, over, put}
+use Rattle.bits.specs.Laid.{laid, over}
 use Rattle.bits.proofs.LaidLaws.{put-start}
-use Rattle.entropy.specs.Medians.{Medians, MedianPair, pairOf, zeroPair}
+use Rattle.entropy.specs.Medians.{MedianPair, pairOf, zeroPair}
 use Rattle.entropy.specs.Seed.{orElse, seedRefusal, seedMedians}
-use Rattle.entropy.proofs.SeedBounds.{Bounded, BoundedPair, seed-bounded}
+use Rattle.entropy.proofs.SeedBounds.{seed-bounded}
 use Rattle.entropy.proofs.SeedLaws.{number-positive}
 use Rattle.samples.specs.State.{start}
 use Rattle.packing.specs.Counts.{Small}

@@ -9,7 +9,7 @@ use native.Mathlib.Numerals.{add-one}
 use native.Mathlib.Decide.{decLe}
 use native.Mathlib.Omega.{arith}
 use lib.Pow.{pow-mono, shl-exact}
-use lib.ListN.{length, take, drop, getD, set, length-append, length-drop, length-set, take-append-drop, drop-of-length-le}
+use lib.ListN.{length, take, drop, getD, set, length-append, length-set, take-append-drop, drop-of-length-le}
 use lib.Seq.{take-all, take-append-le, drop-append-add, drop-drop, take-at, length-take-le, set-split}
 use Rattle.bits.specs.Bits.{low, num, bitsOf}
 use Rattle.bits.specs.Laid.{bytesOf, laid, over, put}

@@ -6,7 +6,7 @@ use native.Mathlib.Nat.{div-add-mod', div-eq-of-lt, lt-div-mul-add}
 use native.Mathlib.Decide.{decLe}
 use native.Mathlib.Omega.{arith}
 use Rattle.entropy.specs.Medians.{Medians}
-use Rattle.medians.specs.Interval.{g, base, width, lowOf, highOf}
+use Rattle.medians.specs.Interval.{g, base, width}
 use Rattle.medians.specs.Adaptation.{up, down, adapt}
 use Rattle.packing.specs.Counts.{Small, count}
 use Rattle.packing.specs.View.{LocatedIs, Above}

@@ -1,11 +1,11 @@
 -- No sample needs more than 111 bits.
 -- Assumes nothing.
-use mathlib.Core.Path.{_≡_, refl, sym, ap, ap₂, _∙_}
+use mathlib.Core.Path.{_≡_, refl}
 use mathlib.Core.Bool.{Bool, true, false, cond}
 use mathlib.Core.List.{List, [], _∷_, _++_}
 use Prim.Native.Nat.{ℕ, zero, suc, _+_, _-_, _*_, _/_, _^_, _≤_, _<_}
 use native.Mathlib.Omega.{arith}
-use borrow.Author.Tests.{ltb-true, ltb-false, eqb-true, eqb-false}
+use borrow.Author.Tests.{ltb-true, ltb-false, eqb-false}
 use lib.Dec.{ltb, eqb}
 use lib.IntN.{ℤ}
 use lib.Signed.{mag}
@@ -22,8 +22,8 @@ use Rattle.medians.specs.Interval.{lowOf, highOf}
 use Rattle.packing.proofs.CountLaws.{smallest}
 use Rattle.samples.specs.State.{State, due, other, paid, inRun, unbroken, cleared, flagged, runDue}
 use Rattle.samples.specs.Word.{onZeros}
-use Rattle.packing.specs.Packing.{zeros, ahead, sign, Out, behind, silent, valueField, valueOut, plainOut, freshOut, wordOut, packed}
-use Rattle.packing.proofs.StepLaws.{Inv, due-small, zeros-le, val-le}
+use Rattle.packing.specs.Packing.{zeros, ahead, sign, Out, behind, silent, valueField, valueOut, plainOut, freshOut, wordOut}
+use Rattle.packing.proofs.StepLaws.{zeros-le, val-le}
 
 -- a run length of w bits takes 2w bits at the most, and 0 takes one
 pub run-long : (n w : ℕ) → 0 < w → n < 2 ^ w → n < 2 ^ 32 → length (runField n) ≤ 2 * w

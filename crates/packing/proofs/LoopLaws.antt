@@ -3,7 +3,7 @@
 use mathlib.Core.Path.{_≡_, refl, sym, ap, ap₂, _∙_}
 use mathlib.Core.Bool.{Bool, true, false}
 use mathlib.Core.List.{List, [], _∷_, _++_, append-assoc, append-nil}
-use Prim.Native.Nat.{ℕ, zero, suc, _+_, _-_, _*_, _/_, _%_, _^_, _≤_, _<_}
+use Prim.Native.Nat.{ℕ, zero, suc, _+_, _-_, _*_, _%_, _^_, _≤_, _<_}
 use native.Mathlib.Numerals.{add-one}
 use native.Mathlib.Omega.{arith}
 use lib.IntN.{ℤ, pos, negsuc}
@@ -14,13 +14,11 @@ use Rattle.bits.specs.Laid.{put}
 use Rattle.bits.proofs.LaidLaws.{Bytes, put-put, put-nil}
 use Rattle.entropy.specs.declared.AdaptiveMedians.{AdaptiveMedians}
 use Rattle.entropy.specs.Medians.{Medians, MedianPair, mediansOf, pairOf, zeroSet}
-use Rattle.samples.specs.State.{State, start, side, flip, due, other, paid, inRun}
-use Rattle.samples.specs.Word.{onZeros}
+use Rattle.samples.specs.State.{State, start, side, flip, paid, inRun}
 use Rattle.packing.specs.Counts.{Small}
 use Rattle.packing.specs.Packing.{zeros, spanned, Out, behind, silent, wordOut, packed}
-use Rattle.packing.specs.View.{PutIs, Seen, Next, RunIs, Turned, PackedIs}
+use Rattle.packing.specs.View.{Seen, Next, RunIs, PackedIs}
 use Rattle.packing.specs.declared.packing.Packed.{Packed}
-use Rattle.packing.specs.declared.word.Turn.{Turn}
 use Rattle.packing.proofs.CountLaws.{clash}
 use Rattle.packing.proofs.LongLaws.{word-long}
 use Rattle.packing.proofs.ReadingLaws.{spanned-parts, start-inv}

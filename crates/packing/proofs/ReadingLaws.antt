@@ -1,27 +1,25 @@
 -- What was packed is read: the residuals, the bits written, and the state.
 -- Assumes nothing.
-use mathlib.Core.Path.{_≡_, refl, sym, ap, ap₂, _∙_}
-use mathlib.Core.Bool.{Bool, true, false}
-use mathlib.Core.List.{List, [], _∷_, _++_, append-assoc}
-use Prim.Native.Nat.{ℕ, zero, suc, _+_, _-_, _*_, _/_, _^_, _≤_, _<_}
+use mathlib.Core.Path.{_≡_, refl, ap, _∙_}
+use mathlib.Core.Bool.{Bool, true}
+use mathlib.Core.List.{List, [], _∷_, _++_}
+use Prim.Native.Nat.{ℕ, _+_, _^_, _<_}
 use native.Mathlib.Omega.{arith}
 use borrow.Author.Tests.{ltb-true}
 use lib.Dec.{ltb}
 use lib.IntN.{ℤ}
 use lib.Signed.{mag}
-use lib.ListN.{length, drop, length-append}
-use lib.Seq.{drop-append-seam}
-use Rattle.bits.specs.Bits.{low, bitsOf}
+use lib.ListN.{length, length-append}
+use Rattle.bits.specs.Bits.{bitsOf}
 use Rattle.bits.specs.Laid.{laid}
 use Rattle.bits.proofs.Trip.{at-bytes}
 use Rattle.bits.proofs.RoundTrip.{At, at-first, at-second}
 use Rattle.entropy.specs.Medians.{Medians}
 use Rattle.samples.specs.State.{State, start}
-use Rattle.samples.specs.Word.{Word, word}
-use Rattle.samples.specs.Reading.{Reading, onWord, more, reading}
+use Rattle.samples.specs.Reading.{Reading, reading}
 use Rattle.packing.specs.Counts.{Small}
 use Rattle.packing.specs.Packing.{spanned, wordOut, packed}
-use Rattle.packing.proofs.StepLaws.{Inv, Step, step}
+use Rattle.packing.proofs.StepLaws.{Inv, step}
 use Rattle.packing.proofs.CountLaws.{clash, both}
 
 -- the first residual is in the span, and so are the others

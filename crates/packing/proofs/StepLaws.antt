@@ -1,12 +1,12 @@
 -- A word that was packed is read back, and the state keeps in step with the list that is left.
 -- Assumes nothing.
-use mathlib.Core.Path.{_≡_, refl, sym, ap, ap₂, _∙_}
+use mathlib.Core.Path.{_≡_, refl, ap, ap₂, _∙_}
 use mathlib.Core.Bool.{Bool, true, false, not, cond, _&&_}
-use mathlib.Core.List.{List, [], _∷_, _++_}
+use mathlib.Core.List.{List, [], _∷_}
 use Prim.Native.Nat.{ℕ, zero, suc, _+_, _-_, _*_, _/_, _%_, _^_, _≤_, _<_}
 use native.Mathlib.Omega.{arith}
 use borrow.Author.Tests.{ltb-true, ltb-false, not-true}
-use lib.Dec.{ltb, leb}
+use lib.Dec.{leb}
 use lib.IntN.{ℤ, pos, negsuc}
 use lib.Signed.{mag}
 use lib.ListN.{length, length-append}
@@ -14,8 +14,6 @@ use Rattle.bits.specs.Bits.{val, bitOf, low}
 use Rattle.fields.specs.Counts.{runLength, prefix}
 use Rattle.entropy.specs.Medians.{Medians, mediansOf, zeroSet}
 use Rattle.packing.specs.Written.{runField, prefixField, codeField}
-use Rattle.fields.specs.declared.Prefix.{Prefix}
-use Rattle.bits.specs.declared.Field.the-variants.{Value}
 use Rattle.bits.proofs.BitLaws.{length-low}
 use Rattle.bits.proofs.RoundTrip.{At, at-first, at-second, low-at}
 use Rattle.medians.specs.Interval.{lowOf, highOf}
@@ -25,7 +23,7 @@ use Rattle.packing.proofs.CountLaws.{smallest, adapt-small, clash, both
 use Rattle.packing.proofs.FieldTrips.{run-at, prefix-at, code-at}
 use Rattle.samples.specs.State.{State, due, other, flip, side, paid, inRun, unbroken, cleared, flagged, after, runDue}
 use Rattle.samples.specs.Word.{Report, none, zoneOf, Word, given, onField, onPrefix, onZeros, signed, value, plain, fresh, word}
-use Rattle.packing.specs.Packing.{zeros, ahead, sign, Out, behind, silent, prefixOf, valueField, valueOut, plainOut, freshOut, wordOut}
+use Rattle.packing.specs.Packing.{zeros, ahead, sign, Out, behind, silent, valueField, valueOut, plainOut, freshOut, wordOut}
 
 -- ---- code and sign
 

@@ -1,26 +1,24 @@
 -- Reading what packing wrote, whatever bytes follow, over the definitions of both entries.
 -- Assumes nothing.
-use mathlib.Core.Path.{_≡_, refl, sym, ap, ap₂, _∙_}
-use mathlib.Core.Bool.{Bool, true, false, cond, _||_}
-use mathlib.Core.List.{List, [], _∷_, _++_, append-nil}
-use Prim.Native.Nat.{ℕ, zero, suc, _+_, _*_, _/_, _^_, _≤_, _<_}
+use mathlib.Core.Path.{_≡_, refl, sym, ap, _∙_}
+use mathlib.Core.Bool.{Bool, true, false, cond}
+use mathlib.Core.List.{List, [], _++_, append-nil}
+use Prim.Native.Nat.{ℕ, zero, suc, _+_, _*_, _/_, _≤_, _<_}
 use native.Mathlib.Omega.{arith}
-use borrow.Author.Tests.{lt-ltb, le-ltb, eq-eqb, ltb-true, ltb-false, eqb-true, eqb-false}
+use borrow.Author.Tests.{le-ltb, eq-eqb, ltb-false, eqb-true}
 use lib.Dec.{ltb, eqb}
 use lib.IntN.{ℤ}
-use lib.ListN.{length, take, drop, drop-of-length-le}
+use lib.ListN.{length, drop, drop-of-length-le}
 use lib.Seq.{take-at}
 use Rattle.bits.specs.Bits.{bitsOf}
 use Rattle.bits.specs.Laid.{laid, over}
 use Rattle.bits.proofs.LaidLaws.{length-laid}
-use Rattle.entropy.specs.Medians.{MedianPair}
 use Rattle.entropy.specs.Seed.{orElse, seedRefusal, seedMedians}
 use Rattle.samples.specs.State.{start}
-use Rattle.samples.specs.Reading.{Reading, reading}
-use Rattle.samples.specs.View.{ReadTold, toldReading, readRefusal, readEntry}
+use Rattle.samples.specs.Reading.{reading}
+use Rattle.samples.specs.View.{toldReading, readRefusal, readEntry}
 use Rattle.packing.specs.Packing.{spanned, Out}
 use Rattle.packing.specs.Entry.{PackTold, packedFrom, toldPacked, packRefusal, unlessRefused, packEntry, packedBytes}
-use Rattle.packing.proofs.CountLaws.{clash}
 use Rattle.packing.proofs.EntryLaws.{accepts, seeds-small}
 use Rattle.packing.proofs.ReadingLaws.{accepted, read-back}
 use Rattle.packing.proofs.SizeLaws.{bytes-enough}
@@ -41,6 +39,16 @@ refusal-is residuals entropy frames buffer = go (packRefusal residuals entropy f
     go : (n : ℕ) → unlessRefused buffer n (toldPacked buffer (packedFrom entropy residuals)) .refusal ≡ n
     go zero = refl
     go (suc n) = refl
+
+-- an answer with a refusal tells that the buffer keeps its bytes
+pub pack-refused : (residuals : List ℤ) (entropy : List ℕ) (frames : ℕ) (buffer : List ℕ) (n : ℕ) → 0 < n → packEntry residuals entropy frames buffer .refusal ≡ n
+    → packEntry residuals entropy frames buffer .bytes ≡ buffer
+unfolding packEntry
+pack-refused residuals entropy frames buffer n p e = go (packRefusal residuals entropy frames buffer) (sym (refusal-is residuals entropy frames buffer) ∙ e)
+  where
+    go : (m : ℕ) → m ≡ n → unlessRefused buffer m (toldPacked buffer (packedFrom entropy residuals)) .bytes ≡ buffer
+    go zero e = absurd (omega arith)
+    go (suc m) e = refl
 
 -- an answer without a refusal tells that packing accepts
 pub packing-accepted : (residuals : List ℤ) (entropy : List ℕ) (frames : ℕ) (buffer : List ℕ) → packEntry residuals entropy frames buffer .refusal ≡ 0

@@ -1,12 +1,12 @@
 -- A turn of the packing loop writes what the definition writes for its residual, in every state that has its medians and flags.
 -- Assumes nothing.
-use mathlib.Core.Path.{_≡_, refl, sym, ap, ap₂, _∙_, subst}
-use mathlib.Core.Bool.{Bool, true, false, not, cond, _&&_, and-false}
+use mathlib.Core.Path.{_≡_, refl, sym, ap, _∙_, subst}
+use mathlib.Core.Bool.{Bool, true, false, not, cond, _&&_}
 use mathlib.Core.List.{List, [], _∷_, _++_, append-nil}
 use Prim.Native.Nat.{ℕ, zero, suc, _+_, _-_, _*_, _/_, _≤_, _<_}
 use native.Mathlib.Decide.{decLt}
 use native.Mathlib.Omega.{arith}
-use borrow.Author.Tests.{le-leb, lt-leb, leb-true, lt-ltb, le-ltb, not-true}
+use borrow.Author.Tests.{le-leb, leb-true, lt-ltb, le-ltb, not-true}
 use lib.Dec.{ltb, leb}
 use lib.IntN.{ℤ, pos}
 use lib.ListN.{length, drop, getD, drop-of-length-le}
@@ -16,12 +16,12 @@ use Rattle.bits.specs.Laid.{put}
 use Rattle.entropy.specs.Medians.{Medians}
 use Rattle.medians.specs.Interval.{g, lowOf, highOf}
 use Rattle.medians.specs.Adaptation.{adapt}
-use Rattle.samples.specs.State.{State, due, other, side, flip, paid, inRun, unbroken, cleared, flagged, after, runDue}
+use Rattle.samples.specs.State.{State, due, other, side, flip, inRun, unbroken, cleared, flagged, after, runDue}
 use Rattle.samples.specs.Word.{onZeros}
 use Rattle.packing.specs.Counts.{Small, contains, least, count}
-use Rattle.packing.specs.Packing.{zeros, ahead, Out, behind, silent, prefixOf, valueField, valueOut, plainOut, freshOut, wordOut}
+use Rattle.packing.specs.Packing.{zeros, ahead, Out, behind, silent, prefixOf, valueOut, plainOut, freshOut, wordOut}
 use Rattle.packing.specs.Written.{runField, prefixField}
-use Rattle.packing.specs.View.{PutIs, wordField, WordIs, runTest, BeforeIs, Seen, Next, RunIs, Turned}
+use Rattle.packing.specs.View.{wordField, WordIs, runTest, BeforeIs, Seen, Next, Turned}
 use Rattle.packing.specs.declared.word.Before.{Before}
 use Rattle.packing.specs.declared.word.Turn.{Turn}
 use Rattle.packing.specs.declared.word.Word.{Word}

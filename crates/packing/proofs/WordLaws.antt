@@ -1,12 +1,12 @@
 -- A located residual, gathered and laid, is the definition's word.
 -- Assumes nothing.
-use mathlib.Core.Path.{_≡_, refl, sym, ap, ap₂, _∙_}
+use mathlib.Core.Path.{_≡_, ap, _∙_}
 use mathlib.Core.Bool.{Bool, cond}
 use mathlib.Core.List.{List, _++_}
-use Prim.Native.Nat.{ℕ, _+_, _-_, _^_, _≤_, _<_}
+use Prim.Native.Nat.{ℕ, _^_, _≤_, _<_}
 use native.Mathlib.Omega.{arith}
 use lib.IntN.{ℤ, pos, negsuc}
-use lib.ListN.{length, length-append}
+use lib.ListN.{length-append}
 use lib.Signed.{mag}
 use Rattle.bits.specs.Bits.{low}
 use Rattle.bits.proofs.BitLaws.{length-low}
@@ -14,13 +14,12 @@ use Rattle.entropy.specs.Medians.{Medians}
 use Rattle.packing.specs.Counts.{Small, count}
 use Rattle.packing.specs.Packing.{sign, prefixOf, valueField}
 use Rattle.packing.specs.Written.{prefixField, codeField}
-use Rattle.packing.specs.View.{Gathers, LocatedIs, PutIs, wordField, WordIs}
+use Rattle.packing.specs.View.{Gathers, LocatedIs, PutIs, WordIs}
 use Rattle.packing.specs.declared.locating.Located.{Located}
-use Rattle.packing.specs.declared.word.Word.{Word}
 use Rattle.packing.specs.declared.written.Gathered.{Gathered}
 use Rattle.packing.proofs.CountLaws.{smallest}
 use Rattle.packing.proofs.LongLaws.{code-long}
-use Rattle.packing.proofs.WrittenLaws.{Known, known}
+use Rattle.packing.proofs.WrittenLaws.{known}
 
 -- a located residual's code is within its interval, and 28 bits hold it
 pub record Fits (r : Located) : Type 0 where

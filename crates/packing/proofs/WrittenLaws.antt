@@ -1,20 +1,19 @@
 -- What the writers of the fields cite: the parts of each field, its length, and the number that its bits are.
 -- Assumes nothing.
 use mathlib.Core.Path.{_≡_, refl, sym, ap, ap₂, _∙_}
-use mathlib.Core.Bool.{Bool, true, false}
-use mathlib.Core.List.{List, [], _∷_, _++_}
+use mathlib.Core.Bool.{Bool}
+use mathlib.Core.List.{List, _++_}
 use Prim.Native.Nat.{ℕ, zero, suc, _+_, _-_, _*_, _/_, _%_, _^_, _≤_, _<_}
 use native.Mathlib.Nat.{mod-eq-of-lt, lt-of-lt-of-le, pow-suc}
-use native.Mathlib.Decide.{decLe, decLt}
+use native.Mathlib.Decide.{decLt}
 use native.Mathlib.Omega.{arith}
 use borrow.Author.Tests.{lt-ltb, le-ltb, eq-eqb, ne-eqb}
 use lib.Pow.{pow-mono, pow-pos, shl-exact}
-use lib.ListN.{length, replicate, length-append}
+use lib.ListN.{length, length-append}
 use Rattle.bits.specs.Bits.{low, num}
 use Rattle.bits.specs.Fields.{unaryField}
 use Rattle.bits.proofs.BitLaws.{length-low, num-append, num-lt, num-low, low-num}
 use Rattle.bits.proofs.LaidLaws.{low-none}
-use Rattle.bits.proofs.RoundTrip.{length-unary}
 use Rattle.fields.specs.Code.{bitLength}
 use Rattle.fields.proofs.LengthLaws.{Long, long, long-le}
 use Rattle.packing.specs.Written.{runField, prefixField, codeBits, codeField}

@@ -1,6 +1,6 @@
 -- Document 01, "Packing" (K8, K9) and "Why each operation says no" (X6): what the packing entry answers, and what the lent buffer then holds.
 -- Assumes nothing.
-use mathlib.Core.Bool.{Bool, true, cond}
+use mathlib.Core.Bool.{cond}
 use mathlib.Core.List.{List}
 use Prim.Native.Nat.{ℕ, zero, suc, _+_, _*_, _/_}
 use lib.Dec.{ltb, eqb}
@@ -10,7 +10,7 @@ use Rattle.answers.specs.Numbers.{outcomeNumber}
 use Rattle.bits.specs.Laid.{laid, over}
 use Rattle.entropy.specs.Medians.{MedianPair, pairOf, zeroPair}
 use Rattle.entropy.specs.Seed.{orElse, seedRefusal, seedMedians}
-use Rattle.samples.specs.State.{State, start}
+use Rattle.samples.specs.State.{start}
 use Rattle.packing.specs.Packing.{spanned, Out, packed}
 use Rattle.packing.specs.declared.PackAnswer.{PackAnswer}
 

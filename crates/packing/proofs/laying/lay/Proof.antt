@@ -1,18 +1,13 @@
 -- `packing::laying::lay` meets its contract: after i turns the first i bytes are stored, and `left` holds the bits that are not.
 -- Assumes nothing.
-use mathlib.Core.Path.{_≡_, refl}
 use Prim.Native.Nat.{_+_, _-_, _*_, _/_, _%_, _^_, _≤_}
 use native.Mathlib.Omega.{arith}
 use borrow.Author.Needs.{needs}
 use denote.Ref.{now}
-use lib.ListN.{length}
 use lib.Pow.{pow-pos}
 use Rattle.packing.proofs.LayLaws.{held, Laying, laying-start, laying-step, laying-end, Begun, begun}
 use Rattle.packing.proofs.laying.lay.Statement.{statement}
 use Rattle.packing.proofs.laying.lay.Tie as tie
-use Rattle.packing.proofs.laying.lay.Reads as reads
-use Rattle.packing.proofs.laying.lay.Lts as lts
-use Rattle.packing.proofs.laying.wide.Reads as wide-reads
 
 abbrev Inv-loop : tie.InvT-loop
 Inv-loop out₀ at value count end left₀ i₀ out left i = (i ≤ (end + 7) / 8) × Laying out₀ (held out₀ at count value) out left i

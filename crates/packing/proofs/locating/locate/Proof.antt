@@ -1,18 +1,12 @@
 -- `packing::locating::locate` meets its contract.
 -- Assumes nothing.
-use mathlib.Core.Path.{_≡_, refl, sym, ap, _∙_}
-use Prim.Native.Nat.{ℕ, _+_, _-_, _*_, _/_, _%_, _^_, _≤_, _<_}
+use mathlib.Core.Path.{refl}
 use native.Mathlib.Omega.{arith}
 use Rattle.entropy.specs.Medians.{mediansOf}
 use Rattle.packing.proofs.LocateLaws.{located-first, located-second}
 use borrow.Author.Needs.{needs}
 use Rattle.packing.proofs.locating.locate.Statement.{statement}
 use Rattle.packing.proofs.locating.locate.Tie as tie
-use Rattle.packing.proofs.locating.locate.Reads as reads
-use Rattle.packing.proofs.locating.locate.Lts as lts
-use Rattle.medians.proofs.adaptation.dec_median.Reads as dec-median-reads
-use Rattle.medians.proofs.adaptation.inc_median.Reads as inc-median-reads
-use Rattle.packing.proofs.locating.locate_above.Reads as locate-above-reads
 
 array-read-a : tie.Need-array-read-a
 array-read-a c = search needs

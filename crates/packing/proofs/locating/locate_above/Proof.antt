@@ -1,17 +1,13 @@
 -- `packing::locating::locate_above` meets its contract.
 -- Assumes nothing.
-use mathlib.Core.Path.{_≡_, refl, sym, ap, _∙_}
-use Prim.Native.Nat.{ℕ, _+_, _-_, _*_, _/_, _%_, _^_, _≤_, _<_}
+use mathlib.Core.Path.{refl}
+use Prim.Native.Nat.{_+_, _/_}
 use native.Mathlib.Omega.{arith}
 use native.Mathlib.Nat.{div-le-self}
 use Rattle.packing.proofs.LocateLaws.{located-third, located-many}
 use borrow.Author.Needs.{needs}
 use Rattle.packing.proofs.locating.locate_above.Statement.{statement}
 use Rattle.packing.proofs.locating.locate_above.Tie as tie
-use Rattle.packing.proofs.locating.locate_above.Reads as reads
-use Rattle.packing.proofs.locating.locate_above.Lts as lts
-use Rattle.medians.proofs.adaptation.dec_median.Reads as dec-median-reads
-use Rattle.medians.proofs.adaptation.inc_median.Reads as inc-median-reads
 
 add-third : tie.Need-add-third
 add-third c = search needs

@@ -1,20 +1,15 @@
 -- `packing::locating::magnitude` meets its contract.
 -- Assumes nothing.
-use mathlib.Core.Path.{_≡_, refl, sym, ap, _∙_}
-use Prim.Native.Nat.{ℕ, _+_, _-_, _*_, _/_, _%_, _^_, _≤_, _<_}
 use native.Mathlib.Omega.{arith}
 use borrow.Author.Needs.{needs}
-use mathlib.Core.Bool.{true, false}
 use mir.Facts.{toZ-ofZ}
 use mir.Syntax.{w32}
 use mir.Val.{SFits}
 use lib.IntN.{pos}
-use lib.Signed.{mag, ltZ}
+use lib.Signed.{mag}
 use Rattle.packing.proofs.SignLaws.{neg-is, pos-is}
 use Rattle.packing.proofs.locating.magnitude.Statement.{statement}
 use Rattle.packing.proofs.locating.magnitude.Tie as tie
-use Rattle.packing.proofs.locating.magnitude.Reads as reads
-use Rattle.packing.proofs.locating.magnitude.Lts as lts
 
 sub-result : tie.Need-sub-result
 sub-result c =

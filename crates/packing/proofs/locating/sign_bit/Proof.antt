@@ -1,20 +1,12 @@
 -- `packing::locating::sign_bit` meets its contract.
 -- Assumes nothing.
-use mathlib.Core.Path.{_≡_, refl, sym, ap, _∙_}
-use Prim.Native.Nat.{ℕ, _+_, _-_, _*_, _/_, _%_, _^_, _≤_, _<_}
-use native.Mathlib.Omega.{arith}
 use borrow.Author.Needs.{needs}
-use mathlib.Core.Bool.{true, false}
 use mir.Facts.{toZ-ofZ}
 use mir.Syntax.{w32}
 use mir.Val.{SFits}
-use lib.IntN.{pos}
-use lib.Signed.{mag, ltZ}
 use Rattle.packing.proofs.SignLaws.{sign-neg, sign-pos}
 use Rattle.packing.proofs.locating.sign_bit.Statement.{statement}
 use Rattle.packing.proofs.locating.sign_bit.Tie as tie
-use Rattle.packing.proofs.locating.sign_bit.Reads as reads
-use Rattle.packing.proofs.locating.sign_bit.Lts as lts
 
 returns : tie.Need-returns
 returns c =

@@ -1,7 +1,7 @@
 -- `packing::packing::encode_packed_samples_stereo_from_entropy` meets its contract.
 -- Assumes nothing.
 use mathlib.Core.Path.{_≡_, refl, sym, ap, subst, _∙_}
-use Prim.Native.Nat.{ℕ, _+_, _-_, _*_, _/_, _%_, _^_, _≤_, _<_}
+use Prim.Native.Nat.{_*_, _≤_}
 use native.Mathlib.Omega.{arith}
 use borrow.Author.Tests.{not-true, not-false}
 use denote.Ref.{now}
@@ -16,12 +16,6 @@ use Rattle.packing.proofs.packing.encode_packed_samples_stereo_from_ent
   statement,
 }
 use Rattle.packing.proofs.packing.encode_packed_samples_stereo_from_entropy.Tie as tie
-use Rattle.packing.proofs.packing.encode_packed_samples_stereo_from_entropy.Reads as reads
-use Rattle.packing.proofs.packing.encode_packed_samples_stereo_from_entropy.Lts as lts
-use Rattle.entropy.proofs.stereo_pair_from_entropy.Reads as stereo-pair-from-entropy-reads
-use Rattle.packing.proofs.zeros.in_span.Reads as in-span-reads
-use Rattle.packing.proofs.packing.pack_words.Reads as pack-words-reads
-use Rattle.packing.proofs.packing.refused.Reads as refused-reads
 
 refused-requires : tie.Need-refused-requires
 refused-requires c κs = search needs

@@ -1,7 +1,7 @@
 -- `packing::packing::pack_words` meets its contract: what is written and what is left, from the state that the locals hold, is the whole.
 -- Assumes nothing.
-use mathlib.Core.Path.{_≡_, refl, sym, ap, _∙_}
-use Prim.Native.Nat.{ℕ, suc, _+_, _-_, _*_, _/_, _%_, _^_, _≤_, _<_}
+use mathlib.Core.Path.{_≡_, refl}
+use Prim.Native.Nat.{ℕ, suc, _+_, _-_, _*_, _/_, _%_, _≤_, _<_}
 use native.Mathlib.Omega.{arith}
 use borrow.Author.Needs.{needs}
 use borrow.Rule.Slice.PartMut.{putMid, same-len-mid}
@@ -9,7 +9,7 @@ use mathlib.Core.List.{List}
 use denote.Ref.{now}
 use lib.IntN.{ℤ, pos}
 use lib.ListN.{length, take, drop, getD, length-drop, length-take, length-map}
-use Rattle.entropy.specs.Medians.{mediansOf, pairOf, zeroSet}
+use Rattle.entropy.specs.Medians.{pairOf}
 use Rattle.samples.specs.State.{State, start}
 use Rattle.bits.specs.Laid.{put}
 use Rattle.bits.proofs.WriteLaws.{put-lent}
@@ -19,9 +19,6 @@ use Rattle.packing.specs.declared.word.Turn.{Turn}
 use Rattle.packing.proofs.LoopLaws.{Loop, loop-start, loop-due-small, loop-other-small, spanned-at, loop-seen, word-room, run-room, loop-word, loop-run, loop-end}
 use Rattle.packing.proofs.packing.pack_words.Statement.{statement}
 use Rattle.packing.proofs.packing.pack_words.Tie as tie
-use Rattle.packing.proofs.packing.pack_words.Reads as reads
-use Rattle.packing.proofs.packing.pack_words.Lts as lts
-use Rattle.packing.proofs.word.put_turn.Reads as put-turn-reads
 
 abbrev Inv-loop : tie.InvT-loop
 Inv-loop residuals out₀ sets₀ place₀ last-zero₀ last-one₀ run-break₀ i₀ out sets place last-zero last-one run-break i =
@@ -99,7 +96,8 @@ lent c =
     let t = c .put-turn .ensures .turned (l .inv .state) (loop-seen _ _ _ _ _ _ _ _ _ (l .i) (l .inv)) in
     record {
       turned = t;
-      bytes = put-lent (l .out) (c .put-turn .last .0) (l .place) (l .place % 8) _ (l .inv .low-bytes) (omega arith) refl (t .laid .bytes) (c .put-turn .kept .0);
+      bytes = put-lent (l .out) (c .put-turn .last .0) (l .place) (l .place % 8)
+          (wordOut (l .inv .state) (getD (x .args .residuals .now) (l .i) (pos 0)) (drop (suc (l .i)) (x .args .residuals .now)) .bits) (l .inv .low-bytes) (omega arith) refl (t .laid .bytes) (c .put-turn .kept .0);
       place-is = omega (arith, t .laid .place);
       few = word-room _ _ _ _ _ _ _ _ _ (l .i) (l .inv) (x .pre .1 .0) (f .most) (f .here);
       size = same-len-mid (l .place / 8) (length (l .out) - l .place / 8) (l .out) (c .put-turn .last .0) (c .put-turn .kept .0);

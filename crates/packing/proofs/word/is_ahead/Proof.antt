@@ -1,7 +1,5 @@
 -- `packing::word::is_ahead` meets its contract.
 -- Assumes nothing.
-use mathlib.Core.Path.{_≡_, refl, sym, ap, _∙_}
-use Prim.Native.Nat.{ℕ, _+_, _-_, _*_, _/_, _%_, _^_, _≤_, _<_}
 use native.Mathlib.Omega.{arith}
 use denote.Ref.{now}
 use lib.IntN.{pos}
@@ -14,9 +12,6 @@ use Rattle.packing.proofs.TurnLaws.{ahead-some, ahead-end}
 use borrow.Author.Needs.{needs}
 use Rattle.packing.proofs.word.is_ahead.Statement.{statement}
 use Rattle.packing.proofs.word.is_ahead.Tie as tie
-use Rattle.packing.proofs.word.is_ahead.Reads as reads
-use Rattle.packing.proofs.word.is_ahead.Lts as lts
-use Rattle.packing.proofs.locating.magnitude.Reads as magnitude-reads
 
 array-read-result : tie.Need-array-read-result
 array-read-result c = search needs

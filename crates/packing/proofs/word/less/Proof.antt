@@ -1,13 +1,9 @@
 -- `packing::word::less` meets its contract.
 -- Assumes nothing.
-use mathlib.Core.Path.{_≡_, refl, sym, ap, _∙_}
-use Prim.Native.Nat.{ℕ, _+_, _-_, _*_, _/_, _%_, _^_, _≤_, _<_}
 use native.Mathlib.Omega.{arith}
 use borrow.Author.Needs.{needs}
 use Rattle.packing.proofs.word.less.Statement.{statement}
 use Rattle.packing.proofs.word.less.Tie as tie
-use Rattle.packing.proofs.word.less.Reads as reads
-use Rattle.packing.proofs.word.less.Lts as lts
 
 returns : tie.Need-returns
 returns c = search needs

@@ -1,14 +1,9 @@
 -- `packing::word::prefix_of` meets its contract.
 -- Assumes nothing.
-use mathlib.Core.Path.{_≡_, refl, sym, ap, _∙_}
-use Prim.Native.Nat.{ℕ, _+_, _-_, _*_, _/_, _%_, _^_, _≤_, _<_}
 use native.Mathlib.Omega.{arith}
 use borrow.Author.Needs.{needs}
 use Rattle.packing.proofs.word.prefix_of.Statement.{statement}
 use Rattle.packing.proofs.word.prefix_of.Tie as tie
-use Rattle.packing.proofs.word.prefix_of.Reads as reads
-use Rattle.packing.proofs.word.prefix_of.Lts as lts
-use Rattle.packing.proofs.word.less.Reads as less-reads
 
 less-requires : tie.Need-less-requires
 less-requires c κs = search needs

@@ -1,7 +1,7 @@
 -- `packing::word::put_before` meets its contract.
 -- Assumes nothing.
-use mathlib.Core.Path.{_≡_, refl, sym, ap, _∙_}
-use Prim.Native.Nat.{ℕ, _+_, _-_, _*_, _/_, _%_, _^_, _≤_, _<_}
+use mathlib.Core.Path.{refl, sym}
+use Prim.Native.Nat.{_≤_}
 use native.Mathlib.Omega.{arith}
 use denote.Ref.{now}
 use lib.ListN.{length-drop, drop}
@@ -12,10 +12,6 @@ use Rattle.packing.proofs.StepLaws.{zeros-le}
 use borrow.Author.Needs.{needs}
 use Rattle.packing.proofs.word.put_before.Statement.{statement}
 use Rattle.packing.proofs.word.put_before.Tie as tie
-use Rattle.packing.proofs.word.put_before.Reads as reads
-use Rattle.packing.proofs.word.put_before.Lts as lts
-use Rattle.packing.proofs.zeros.zeros_from.Reads as zeros-from-reads
-use Rattle.packing.proofs.written.put_run.Reads as put-run-reads
 
 zeros-from-requires : tie.Need-zeros-from-requires
 zeros-from-requires c κs = search needs

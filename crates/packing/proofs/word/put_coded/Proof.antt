@@ -1,10 +1,8 @@
 -- `packing::word::put_coded` meets its contract.
 -- Assumes nothing.
-use mathlib.Core.Path.{_≡_, refl, sym, ap, _∙_}
-use Prim.Native.Nat.{ℕ, _+_, _-_, _*_, _/_, _%_, _^_, _≤_, _<_}
+use Prim.Native.Nat.{_^_, _<_}
 use native.Mathlib.Omega.{arith}
 use denote.Ref.{now}
-use lib.ListN.{length}
 use lib.Pow.{pow-mono}
 use Rattle.packing.proofs.LongLaws.{prefix-long}
 use Rattle.packing.proofs.PutLaws.{put-low-is, ones-size, put-short, put-long}
@@ -12,12 +10,6 @@ use Rattle.packing.proofs.WrittenLaws.{known}
 use borrow.Author.Needs.{needs}
 use Rattle.packing.proofs.word.put_coded.Statement.{statement}
 use Rattle.packing.proofs.word.put_coded.Tie as tie
-use Rattle.packing.proofs.word.put_coded.Reads as reads
-use Rattle.packing.proofs.word.put_coded.Lts as lts
-use Rattle.bits.proofs.write.put_bits.Reads as put-bits-reads
-use Rattle.packing.proofs.laying.lay.Reads as lay-reads
-use Rattle.packing.proofs.written.gather_ones.Reads as gather-ones-reads
-use Rattle.packing.proofs.written.put_escaped.Reads as put-escaped-reads
 
 lay-requires : tie.Need-lay-requires
 lay-requires c κs = search needs

@@ -1,7 +1,7 @@
 -- `packing::word::put_turn` meets its contract.
 -- Assumes nothing.
-use mathlib.Core.Path.{_≡_, refl, sym, ap, _∙_}
-use Prim.Native.Nat.{ℕ, suc, _+_, _-_, _*_, _/_, _%_, _^_, _≤_, _<_}
+use mathlib.Core.Path.{_≡_, refl, ap, _∙_}
+use Prim.Native.Nat.{ℕ, suc}
 use native.Mathlib.Omega.{arith}
 use mathlib.Core.List.{_∷_}
 use native.Mathlib.Numerals.{add-one}
@@ -19,14 +19,6 @@ use Rattle.packing.proofs.TurnLaws.{before-few, turn-run, turn-word}
 use borrow.Author.Needs.{needs}
 use Rattle.packing.proofs.word.put_turn.Statement.{statement}
 use Rattle.packing.proofs.word.put_turn.Tie as tie
-use Rattle.packing.proofs.word.put_turn.Reads as reads
-use Rattle.packing.proofs.word.put_turn.Lts as lts
-use Rattle.packing.proofs.word.is_ahead.Reads as is-ahead-reads
-use Rattle.packing.proofs.word.one_after.Reads as one-after-reads
-use Rattle.packing.proofs.word.put_before.Reads as put-before-reads
-use Rattle.packing.proofs.word.put_word.Reads as put-word-reads
-use Rattle.packing.proofs.word.run_due.Reads as run-due-reads
-use Rattle.packing.proofs.word.zero_after.Reads as zero-after-reads
 
 abbrev start : tie.After-put-before → tie.Start
 start c = c .before .before .before .before .before .before

@@ -1,7 +1,6 @@
 -- `packing::word::put_word` meets its contract.
 -- Assumes nothing.
-use mathlib.Core.Path.{_≡_, refl, sym, ap, _∙_}
-use Prim.Native.Nat.{ℕ, _+_, _-_, _*_, _/_, _%_, _^_, _≤_, _<_}
+use mathlib.Core.Path.{_≡_, ap, _∙_}
 use native.Mathlib.Omega.{arith}
 use denote.Ref.{now}
 use lib.IntN.{ℤ}
@@ -15,14 +14,6 @@ use Rattle.packing.proofs.WordLaws.{Fits, located-fits, sign-lt, coded,
 use borrow.Author.Needs.{needs}
 use Rattle.packing.proofs.word.put_word.Statement.{statement}
 use Rattle.packing.proofs.word.put_word.Tie as tie
-use Rattle.packing.proofs.word.put_word.Reads as reads
-use Rattle.packing.proofs.word.put_word.Lts as lts
-use Rattle.packing.proofs.locating.locate.Reads as locate-reads
-use Rattle.packing.proofs.locating.magnitude.Reads as magnitude-reads
-use Rattle.packing.proofs.locating.sign_bit.Reads as sign-bit-reads
-use Rattle.packing.proofs.word.prefix_of.Reads as prefix-of-reads
-use Rattle.packing.proofs.word.put_coded.Reads as put-coded-reads
-use Rattle.packing.proofs.written.gather_code.Reads as gather-code-reads
 
 magnitude-requires : tie.Need-magnitude-requires
 magnitude-requires c κs = search needs

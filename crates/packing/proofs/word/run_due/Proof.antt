@@ -1,15 +1,11 @@
 -- `packing::word::run_due` meets its contract.
 -- Assumes nothing.
-use mathlib.Core.Path.{_≡_, refl, sym, ap, _∙_}
-use Prim.Native.Nat.{ℕ, _+_, _-_, _*_, _/_, _%_, _^_, _≤_, _<_}
 use native.Mathlib.Omega.{arith}
 use mathlib.Core.Bool.{and-false, _&&_, not}
 use borrow.Author.Tests.{le-leb, lt-leb}
 use lib.Dec.{leb}
 use Rattle.packing.proofs.word.run_due.Statement.{statement}
 use Rattle.packing.proofs.word.run_due.Tie as tie
-use Rattle.packing.proofs.word.run_due.Reads as reads
-use Rattle.packing.proofs.word.run_due.Lts as lts
 
 returns : tie.Need-returns
 returns c = rw (lt-leb (c .before .args .a) 1 (c .if1 .taken))

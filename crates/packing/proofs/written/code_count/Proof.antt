@@ -1,14 +1,9 @@
 -- `packing::written::code_count` meets its contract.
 -- Assumes nothing.
-use mathlib.Core.Path.{_≡_, refl, sym, ap, _∙_}
-use Prim.Native.Nat.{ℕ, _+_, _-_, _*_, _/_, _%_, _^_, _≤_, _<_}
-use native.Mathlib.Omega.{arith}
 use Rattle.packing.proofs.WrittenLaws.{short-size, long-size}
 use borrow.Author.Needs.{needs}
 use Rattle.packing.proofs.written.code_count.Statement.{statement}
 use Rattle.packing.proofs.written.code_count.Tie as tie
-use Rattle.packing.proofs.written.code_count.Reads as reads
-use Rattle.packing.proofs.written.code_count.Lts as lts
 
 add-result : tie.Need-add-result
 add-result c = search needs

@@ -1,7 +1,7 @@
 -- `packing::written::code_value` meets its contract.
 -- Assumes nothing.
-use mathlib.Core.Path.{_≡_, refl, sym, ap, _∙_}
-use Prim.Native.Nat.{ℕ, _+_, _-_, _*_, _/_, _%_, _^_, _≤_, _<_}
+use mathlib.Core.Path.{_≡_}
+use Prim.Native.Nat.{_+_, _*_, _%_, _^_, _≤_}
 use native.Mathlib.Nat.{mul-le-mul-right}
 use native.Mathlib.Omega.{arith}
 use lib.Pow.{pow-mono, shl-exact}
@@ -9,8 +9,6 @@ use Rattle.packing.proofs.WrittenLaws.{short-num, long-num}
 use borrow.Author.Needs.{needs}
 use Rattle.packing.proofs.written.code_value.Statement.{statement}
 use Rattle.packing.proofs.written.code_value.Tie as tie
-use Rattle.packing.proofs.written.code_value.Reads as reads
-use Rattle.packing.proofs.written.code_value.Lts as lts
 
 -- the digits are few
 power : (c : tie.Else1) → 2 ^ c .before .args .digits ≤ 2 ^ 27

@@ -1,9 +1,8 @@
 -- `packing::written::gather_code` meets its contract.
 -- Assumes nothing.
-use mathlib.Core.Path.{_≡_, refl, sym, ap, _∙_}
-use Prim.Native.Nat.{ℕ, _+_, _-_, _*_, _/_, _%_, _^_, _≤_, _<_}
+use mathlib.Core.Path.{_≡_, sym, ap, _∙_}
+use Prim.Native.Nat.{ℕ, _+_, _-_, _*_, _%_, _^_, _≤_, _<_}
 use native.Mathlib.Omega.{arith}
-use mathlib.Core.List.{_++_}
 use lib.ListN.{length}
 use lib.Pow.{pow-mono}
 use native.Mathlib.Nat.{mod-eq-of-lt}
@@ -15,12 +14,6 @@ use Rattle.packing.proofs.LongLaws.{code-long}
 use borrow.Author.Needs.{needs}
 use Rattle.packing.proofs.written.gather_code.Statement.{statement}
 use Rattle.packing.proofs.written.gather_code.Tie as tie
-use Rattle.packing.proofs.written.gather_code.Reads as reads
-use Rattle.packing.proofs.written.gather_code.Lts as lts
-use Rattle.fields.proofs.code.bit_length.Reads as bit-length-reads
-use Rattle.packing.proofs.written.code_count.Reads as code-count-reads
-use Rattle.packing.proofs.written.code_value.Reads as code-value-reads
-use Rattle.packing.proofs.written.wide.Reads as wide-reads
 
 mul-bit-length : tie.Need-mul-bit-length
 mul-bit-length c = search needs

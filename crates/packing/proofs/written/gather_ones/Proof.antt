@@ -1,7 +1,7 @@
 -- `packing::written::gather_ones` meets its contract.
 -- Assumes nothing.
-use mathlib.Core.Path.{_≡_, refl, sym, ap, _∙_}
-use Prim.Native.Nat.{ℕ, _+_, _-_, _*_, _/_, _%_, _^_, _≤_, _<_}
+use mathlib.Core.Path.{_≡_, sym, ap, _∙_}
+use Prim.Native.Nat.{ℕ, _+_, _-_, _*_, _%_, _^_, _<_}
 use native.Mathlib.Omega.{arith}
 use native.Mathlib.Nat.{mod-eq-of-lt}
 use lib.Pow.{pow-pos}
@@ -13,8 +13,6 @@ use Rattle.packing.proofs.WrittenLaws.{unary-num, Joined, joined}
 use borrow.Author.Needs.{needs}
 use Rattle.packing.proofs.written.gather_ones.Statement.{statement}
 use Rattle.packing.proofs.written.gather_ones.Tie as tie
-use Rattle.packing.proofs.written.gather_ones.Reads as reads
-use Rattle.packing.proofs.written.gather_ones.Lts as lts
 
 add-count : tie.Need-add-count
 add-count c = search needs

@@ -1,7 +1,7 @@
 -- `packing::written::put_escaped` meets its contract.
 -- Assumes nothing.
-use mathlib.Core.Path.{_≡_, refl, sym, ap, _∙_}
-use Prim.Native.Nat.{ℕ, _+_, _-_, _*_, _/_, _%_, _^_, _≤_, _<_}
+use mathlib.Core.Path.{sym, ap, _∙_}
+use Prim.Native.Nat.{_-_}
 use native.Mathlib.Omega.{arith}
 use denote.Ref.{now}
 use Rattle.bits.specs.Fields.{unaryField}
@@ -13,10 +13,6 @@ use Rattle.packing.proofs.WrittenLaws.{prefix-escaped}
 use borrow.Author.Needs.{needs}
 use Rattle.packing.proofs.written.put_escaped.Statement.{statement}
 use Rattle.packing.proofs.written.put_escaped.Tie as tie
-use Rattle.packing.proofs.written.put_escaped.Reads as reads
-use Rattle.packing.proofs.written.put_escaped.Lts as lts
-use Rattle.bits.proofs.write.put_unary.Reads as put-unary-reads
-use Rattle.packing.proofs.written.put_run.Reads as put-run-reads
 
 put-unary-requires : tie.Need-put-unary-requires
 put-unary-requires c κs =

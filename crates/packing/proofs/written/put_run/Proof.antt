@@ -14,11 +14,6 @@ use Rattle.packing.proofs.WrittenLaws.{run-short, RunParts, run-parts}
 use Rattle.bits.proofs.RoundTrip.{length-unary}
 use Rattle.packing.proofs.written.put_run.Statement.{statement}
 use Rattle.packing.proofs.written.put_run.Tie as tie
-use Rattle.packing.proofs.written.put_run.Reads as reads
-use Rattle.packing.proofs.written.put_run.Lts as lts
-use Rattle.fields.proofs.code.bit_length.Reads as bit-length-reads
-use Rattle.bits.proofs.write.put_bits.Reads as put-bits-reads
-use Rattle.bits.proofs.write.put_unary.Reads as put-unary-reads
 
 put-unary-requires : tie.Need-put-unary-requires
 put-unary-requires c κs = let n = c .before .before .before .args .run in omega (arith, ap length (run-short n (omega arith)))

@@ -1,7 +1,7 @@
 -- `packing::zeros::all_zero` meets its contract.
 -- Assumes nothing.
-use mathlib.Core.Path.{_≡_, refl, sym, ap, _∙_}
-use Prim.Native.Nat.{ℕ, _+_, _-_, _*_, _/_, _%_, _^_, _≤_, _<_}
+use mathlib.Core.Path.{_≡_}
+use Prim.Native.Nat.{_+_, _-_, _≤_}
 use native.Mathlib.Omega.{arith}
 use borrow.Author.Needs.{needs}
 use lib.IntN.{pos}
@@ -13,9 +13,6 @@ use Rattle.packing.specs.View.{otherOf}
 use Rattle.packing.proofs.ZeroLaws.{other-le, Block, block-start, block-step}
 use Rattle.packing.proofs.zeros.all_zero.Statement.{statement}
 use Rattle.packing.proofs.zeros.all_zero.Tie as tie
-use Rattle.packing.proofs.zeros.all_zero.Reads as reads
-use Rattle.packing.proofs.zeros.all_zero.Lts as lts
-use Rattle.packing.proofs.zeros.other.Reads as other-reads
 
 abbrev Inv-loop : tie.InvT-loop
 Inv-loop residuals from others₀ i₀ others i = (i ≤ 32) × Block residuals from others i

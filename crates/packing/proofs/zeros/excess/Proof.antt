@@ -1,8 +1,5 @@
 -- `packing::zeros::excess` meets its contract.
 -- Assumes nothing.
-use mathlib.Core.Path.{_≡_, refl, sym, ap, _∙_}
-use Prim.Native.Nat.{ℕ, _+_, _-_, _*_, _/_, _%_, _^_, _≤_, _<_}
-use native.Mathlib.Omega.{arith}
 use mir.Facts.{toZ-ofZ}
 use mir.Syntax.{w32}
 use mir.Val.{SFits}
@@ -10,9 +7,6 @@ use Rattle.packing.proofs.EntryLaws.{excess-in, excess-out}
 use borrow.Author.Needs.{needs}
 use Rattle.packing.proofs.zeros.excess.Statement.{statement}
 use Rattle.packing.proofs.zeros.excess.Tie as tie
-use Rattle.packing.proofs.zeros.excess.Reads as reads
-use Rattle.packing.proofs.zeros.excess.Lts as lts
-use Rattle.packing.proofs.locating.magnitude.Reads as magnitude-reads
 
 magnitude-requires : tie.Need-magnitude-requires
 magnitude-requires c κs = search needs

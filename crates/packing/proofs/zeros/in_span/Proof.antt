@@ -1,7 +1,7 @@
 -- `packing::zeros::in_span` meets its contract.
 -- Assumes nothing.
-use mathlib.Core.Path.{_≡_, refl, sym, ap, _∙_}
-use Prim.Native.Nat.{ℕ, _+_, _-_, _*_, _/_, _%_, _^_, _≤_, _<_}
+use mathlib.Core.Path.{_≡_, refl}
+use Prim.Native.Nat.{_-_}
 use native.Mathlib.Omega.{arith}
 use borrow.Author.Needs.{needs}
 use lib.IntN.{pos}
@@ -13,9 +13,6 @@ use Rattle.packing.specs.View.{excessOf}
 use Rattle.packing.proofs.EntryLaws.{excess-le, Spans, spans-step, spans-end}
 use Rattle.packing.proofs.zeros.in_span.Statement.{statement}
 use Rattle.packing.proofs.zeros.in_span.Tie as tie
-use Rattle.packing.proofs.zeros.in_span.Reads as reads
-use Rattle.packing.proofs.zeros.in_span.Lts as lts
-use Rattle.packing.proofs.zeros.excess.Reads as excess-reads
 
 abbrev Inv-loop : tie.InvT-loop
 Inv-loop residuals outside₀ i₀ outside i = Spans residuals outside i

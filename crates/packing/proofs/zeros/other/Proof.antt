@@ -1,8 +1,6 @@
 -- `packing::zeros::other` meets its contract.
 -- Assumes nothing.
-use mathlib.Core.Path.{_≡_, refl, sym, ap, _∙_}
-use Prim.Native.Nat.{ℕ, _+_, _-_, _*_, _/_, _%_, _^_, _≤_, _<_}
-use native.Mathlib.Omega.{arith}
+use mathlib.Core.Path.{sym, ap, _∙_}
 use borrow.Author.Needs.{needs}
 use mir.Facts.{toZ-ofZ}
 use mir.Syntax.{w32}
@@ -10,8 +8,6 @@ use mir.Val.{SFits, toZ, ofZ}
 use Rattle.packing.proofs.ZeroLaws.{other-zero, other-some}
 use Rattle.packing.proofs.zeros.other.Statement.{statement}
 use Rattle.packing.proofs.zeros.other.Tie as tie
-use Rattle.packing.proofs.zeros.other.Reads as reads
-use Rattle.packing.proofs.zeros.other.Lts as lts
 
 returns : tie.Need-returns
 returns c =

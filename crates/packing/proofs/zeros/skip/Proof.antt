@@ -1,7 +1,7 @@
 -- `packing::zeros::skip` meets its contract.
 -- Assumes nothing.
-use mathlib.Core.Path.{_≡_, refl, sym, ap, _∙_}
-use Prim.Native.Nat.{ℕ, _+_, _-_, _*_, _/_, _%_, _^_, _≤_, _<_}
+use mathlib.Core.Path.{sym, _∙_}
+use Prim.Native.Nat.{_-_}
 use native.Mathlib.Omega.{arith}
 use borrow.Author.Tests.{leb-true, not-false}
 use lib.ListN.{length}
@@ -9,9 +9,6 @@ use Rattle.packing.specs.View.{SkipIs}
 use Rattle.packing.proofs.ZeroLaws.{skip-start, skip-step}
 use Rattle.packing.proofs.zeros.skip.Statement.{statement}
 use Rattle.packing.proofs.zeros.skip.Tie as tie
-use Rattle.packing.proofs.zeros.skip.Reads as reads
-use Rattle.packing.proofs.zeros.skip.Lts as lts
-use Rattle.packing.proofs.zeros.all_zero.Reads as all-zero-reads
 
 abbrev Inv-loop : tie.InvT-loop
 Inv-loop residuals first i₀ i = SkipIs residuals first i

@@ -1,7 +1,7 @@
 -- `packing::zeros::zeros_from` meets its contract: so far all were zeros, and the stretch goes on as it does from i.
 -- Assumes nothing.
 use mathlib.Core.Path.{_≡_, sym, ap, _∙_}
-use Prim.Native.Nat.{ℕ, suc, _+_, _-_, _≤_, _<_}
+use Prim.Native.Nat.{ℕ, suc, _+_, _-_, _≤_}
 use native.Mathlib.Numerals.{add-one}
 use native.Mathlib.Omega.{arith}
 use borrow.Author.Needs.{needs}
@@ -14,8 +14,6 @@ use Rattle.packing.specs.Packing.{zeros}
 use Rattle.packing.proofs.ZeroLaws.{zeros-more, zeros-stop, zeros-past}
 use Rattle.packing.proofs.zeros.zeros_from.Statement.{statement}
 use Rattle.packing.proofs.zeros.zeros_from.Tie as tie
-use Rattle.packing.proofs.zeros.zeros_from.Reads as reads
-use Rattle.packing.proofs.zeros.zeros_from.Lts as lts
 
 abbrev Inv-loop : tie.InvT-loop
 Inv-loop residuals first i₀ i = (first ≤ i) × (i ≤ length residuals) × (zeros (drop first residuals) ≡ i - first + zeros (drop i residuals))
