@@ -1,0 +1,101 @@
+-- Demand 3, whole.
+-- Assumes nothing.
+use mathlib.Core.Path.{_≡_, sym, ap, subst, _∙_}
+use mathlib.Core.Bool.{true}
+use mathlib.Core.List.{List, _++_}
+use Prim.Native.Nat.{ℕ, _*_, _≤_}
+use native.Mathlib.Omega.{arith}
+use borrow.Author.Tests.{le-ltb}
+use lib.IntN.{ℤ}
+use lib.ListN.{length}
+use Rattle.entropy.specs.Seed.{acceptsEntropy}
+use Rattle.samples.specs.View.{ReadTold, readEntry}
+use Rattle.passes.specs.declared.DecorrPass.{DecorrPass}
+use Rattle.passes.specs.Run.{Chain, decorrelated, analysed}
+use Rattle.passes.proofs.RunInverse.{analysed-fit, analysed-length, decorrelated-analysed}
+use Rattle.passes.proofs.Unique.{residuals-unique}
+use Rattle.decorrelation.specs.Lists.{Answer, decorrelationNumber, analysisNumber, decorrelation, analysis}
+use Rattle.packing.specs.Packing.{spanned}
+use Rattle.packing.specs.Entry.{PackTold, packedFrom, toldPacked, packEntry, packedBytes}
+use Rattle.packing.proofs.EntryLaws.{accepts}
+use Rattle.packing.proofs.TripLaws.{read-what-was-packed}
+use Rattle.roundtrip.specs.Demand.{Recording, WellMade, Demand3}
+
+-- what decorrelation and analysis leave of well-made passes
+abbrev run : Chain → Answer
+run c = record { refusal = 0; passes = c .passes; buffer = c .buffer }
+
+module _ (ps : List DecorrPass) (l : List ℤ) (w : WellMade ps) (h : length l ≤ 262144) where
+  decorrelation-is : decorrelation ps l ≡ run (decorrelated ps l)
+  unfolding decorrelation decorrelationNumber
+  decorrelation-is = rw (le-ltb 262144 (length l) h, le-ltb 16 (length ps) (w .at-most-16), w .terms-valid)
+
+  analysis-is : analysis ps l ≡ run (analysed ps l)
+  unfolding analysis analysisNumber
+  analysis-is = rw (le-ltb 262144 (length l) h, le-ltb 16 (length ps) (w .at-most-16), w .terms-valid)
+
+module _ (frames : ℕ) (passes : List DecorrPass) (recording : List ℤ) (few : frames ≤ 131072) (w : WellMade passes) (x : Recording frames recording) where
+  -- the residuals that analysis leaves, and what decorrelation makes of them
+  abbrev found : List ℤ
+  found = analysed passes recording .buffer
+
+  size : (l : List ℤ) → length l ≡ 2 * frames → length l ≤ 262144
+  size l e = omega arith
+
+  found-is : Recording frames found
+  found-is = record { two-per-frame = analysed-length passes recording ∙ x .two-per-frame; samples-fit = analysed-fit passes recording (x .samples-fit) }
+
+  pub analysed-is : analysis passes recording ≡ run (analysed passes recording)
+  analysed-is = analysis-is passes recording w (size recording (x .two-per-frame))
+
+  back : decorrelated passes found ≡ record { passes = analysed passes recording .passes; buffer = recording }
+  back = decorrelated-analysed passes recording (x .samples-fit)
+
+  pub decorrelated-is : decorrelation passes found ≡ record { refusal = 0; passes = analysed passes recording .passes; buffer = recording }
+  decorrelated-is = decorrelation-is passes found w (size found (found-is .two-per-frame)) ∙ ap run back
+
+  only : (other : List ℤ) → Recording frames other → decorrelation passes other .buffer ≡ recording → other ≡ found
+  only other o e =
+      residuals-unique passes other found (o .samples-fit) (found-is .samples-fit)
+      (sym (ap (λ (a : Answer). a .buffer) (decorrelation-is passes other w (size other (o .two-per-frame)))) ∙ e ∙ sym (ap (λ (c : Chain). c .buffer) back))
+
+  packed-is : (entropy buffer : List ℕ) → spanned found ≡ true → acceptsEntropy entropy → 28 * frames ≤ length buffer
+      → packEntry found entropy frames buffer ≡ toldPacked buffer (packedFrom entropy found)
+  packed-is entropy buffer s a r = accepts found entropy frames buffer few (found-is .two-per-frame) (sym a) r s
+
+  -- what is read back is what was found
+  pub read-is : (entropy buffer behind : List ℕ) (list : List ℤ) → spanned found ≡ true → acceptsEntropy entropy → 28 * frames ≤ length buffer
+      → let p = packEntry found entropy frames buffer in length (packedBytes p ++ behind) ≤ 4194304 → length list ≡ 2 * frames
+      → readEntry entropy (packedBytes p ++ behind) frames list ≡ record { refusal = 0; bits = p .bits; medians = p .medians; written = 2 * frames; list = found }
+  read-is entropy buffer behind list s a r n l =
+      read-what-was-packed found entropy frames buffer behind list (ap (λ (t : PackTold). t .refusal) (packed-is entropy buffer s a r)) n l
+
+  demand : Demand3 frames passes recording found
+  demand = record {
+    a-residual-list = found-is;
+    decorrelates = record { accepted = ap (λ (a : Answer). a .refusal) decorrelated-is; leaves = ap (λ (a : Answer). a .buffer) decorrelated-is };
+    exactly-one = λ other o d. only other o (d .leaves);
+    others-differ = λ other o n e. n (only other o e);
+    analysis-accepts = ap (λ (a : Answer). a .refusal) analysed-is;
+    analysis-finds = ap (λ (a : Answer). a .buffer) analysed-is;
+    packs = packed-is;
+    returns = λ entropy buffer behind list s a r n l.
+        let t = read-is entropy buffer behind list s a r n l in
+        record {
+          read-accepted = ap (λ (q : ReadTold). q .refusal) t;
+          all-read = ap (λ (q : ReadTold). q .written) t;
+          bits-used = ap (λ (q : ReadTold). q .bits) t;
+          medians-after = ap (λ (q : ReadTold). q .medians) t;
+          decorrelation-accepted = ap (λ (q : ReadTold). decorrelation passes (q .list) .refusal) t ∙ ap (λ (q : Answer). q .refusal) decorrelated-is;
+          recording-back = ap (λ (q : ReadTold). decorrelation passes (q .list) .buffer) t ∙ ap (λ (q : Answer). q .buffer) decorrelated-is;
+          pass-states =
+              ap (λ (q : ReadTold). decorrelation passes (q .list) .passes) t ∙ ap (λ (q : Answer). q .passes) decorrelated-is
+              ∙ sym (ap (λ (q : Answer). q .passes) analysed-is);
+        };
+  }
+
+-- Demand 3: every recording of at most 131,072 frames, under any at most 16 well-made passes.
+pub demand-3 : (frames : ℕ) (passes : List DecorrPass) (recording : List ℤ) → frames ≤ 131072 → WellMade passes → Recording frames recording
+    → Demand3 frames passes recording (analysis passes recording .buffer)
+demand-3 frames passes recording few w x =
+    subst (Demand3 frames passes recording) (sym (ap (λ (a : Answer). a .buffer) (analysed-is frames passes recording few w x))) (demand frames passes recording few w x)

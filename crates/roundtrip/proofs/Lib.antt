@@ -1,0 +1,3 @@
+pub mod DemandLaws
+pub mod ListLaws
+pub mod TripLaws

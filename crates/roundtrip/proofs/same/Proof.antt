@@ -1,0 +1,78 @@
+-- `roundtrip::same` meets its contract.
+-- Assumes nothing.
+use mathlib.Core.Path.{_≡_, refl, sym, ap, _∙_}
+use Prim.Native.Nat.{_-_, _≤_}
+use native.Mathlib.Omega.{arith}
+use borrow.Author.Needs.{needs}
+use lib.ListN.{length, take, getD}
+use mathlib.Core.List.{List}
+use Rattle.packing.proofs.CountLaws.{clash}
+use lib.IntN.{ℤ, pos}
+use mir.Facts.{toZ-ofZ}
+use mir.Syntax.{w32}
+use mir.Val.{SFits, toZ, ofZ}
+use Rattle.roundtrip.proofs.ListLaws.{same-step, same-end}
+use Rattle.roundtrip.proofs.same.Statement.{statement}
+use Rattle.roundtrip.proofs.same.Tie as tie
+
+abbrev Inv-loop : tie.InvT-loop
+Inv-loop a b i₀ i = (i ≤ length a) × (take i a ≡ take i b)
+
+abbrev μ-loop : tie.MeasureT-loop
+μ-loop a b i₀ i = length a - i
+
+loop-holds : tie.Need-loop-holds Inv-loop μ-loop
+loop-holds c = (omega arith, refl)
+
+mul-if1 : tie.Need-mul-if1 Inv-loop μ-loop
+mul-if1 c = omega arith
+
+shared-slice-copy-out-if1 : tie.Need-shared-slice-copy-out-if1 Inv-loop μ-loop
+shared-slice-copy-out-if1 c = omega arith
+
+mul-if1-2 : tie.Need-mul-if1-2 Inv-loop μ-loop
+mul-if1-2 c = omega arith
+
+shared-slice-copy-out-if1-2 : tie.Need-shared-slice-copy-out-if1-2 Inv-loop μ-loop
+shared-slice-copy-out-if1-2 c = omega arith
+
+returns : tie.Need-returns Inv-loop μ-loop
+returns c =
+    let i = c .before .before .before .before .loop .i in
+    record { told = λ e. absurd (c .if1 .taken (ap (λ (l : List ℤ). ofZ w32 (getD l i (pos 0))) e)); true-is = λ e. clash e refl }
+
+add-i : tie.Need-add-i Inv-loop μ-loop
+add-i c = omega arith
+
+loop-less : tie.Need-loop-less Inv-loop μ-loop
+loop-less c = omega arith
+
+loop-again : tie.Need-loop-again Inv-loop μ-loop
+loop-again c =
+    let l = c .before .before .before .before .loop in
+    let x = c .before .before .before .before .before in
+    let f : SFits w32 (getD (x .args .a .now) (l .i) (pos 0)) = search needs in
+    let g : SFits w32 (getD (x .args .b .now) (l .i) (pos 0)) = search needs in
+    (omega arith, same-step _ _ (l .i) (omega arith) (x .pre) (l .inv .1) (sym (toZ-ofZ f) ∙ ap (toZ w32) (c .if1 .left) ∙ toZ-ofZ g))
+
+returns-2 : tie.Need-returns-2 Inv-loop μ-loop
+returns-2 c =
+    let x = c .before .before in
+    record { told = λ e. refl; true-is = λ e. same-end _ _ (c .before .loop .i) (omega arith) (x .pre) (c .before .loop .inv .1) }
+
+pub same-spec : {M : Type 1} → statement M
+same-spec =
+    tie.close
+    (tie.spec
+    Inv-loop
+    μ-loop
+    loop-holds
+    mul-if1
+    shared-slice-copy-out-if1
+    mul-if1-2
+    shared-slice-copy-out-if1-2
+    returns
+    add-i
+    loop-less
+    loop-again
+    returns-2)
