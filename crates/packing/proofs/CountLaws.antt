@@ -44,14 +44,17 @@ least-is p (suc n) (suc k) h t f =
 unfoldable pub closed : Medians → ℕ → ℕ
 closed m v = cond (ltb v (g (m .m0))) 0 (cond (ltb v (g (m .m0) + g (m .m1))) 1 (suc (suc ((v - g (m .m0) - g (m .m1)) / g (m .m2)))))
 
+-- below the first width it is 0
 pub closed-first : (m : Medians) (v : ℕ) → v < g (m .m0) → closed m v ≡ 0
 unfolding closed
 closed-first m v h = rw (lt-ltb v (g (m .m0)) h)
 
+-- below the first two it is 1
 pub closed-second : (m : Medians) (v : ℕ) → g (m .m0) ≤ v → v < g (m .m0) + g (m .m1) → closed m v ≡ 1
 unfolding closed
 closed-second m v h l = rw (le-ltb v (g (m .m0)) h, lt-ltb v (g (m .m0) + g (m .m1)) l)
 
+-- past them it goes by steps of the third width
 pub closed-many : (m : Medians) (v : ℕ) → g (m .m0) + g (m .m1) ≤ v → closed m v ≡ suc (suc ((v - g (m .m0) - g (m .m1)) / g (m .m2)))
 unfolding closed
 closed-many m v h = rw (le-ltb v (g (m .m0)) (omega arith), le-ltb v (g (m .m0) + g (m .m1)) h)
@@ -100,6 +103,7 @@ pub record Plain (m : Medians) (k v : ℕ) : Type 0 where
   pub from : lowOf m k ≤ v
   pub upto : v ≤ highOf m k
 
+-- a number in the span that lies within an interval meets neither, under medians of 32 bits
 no-wrap : (m : Medians) (k v : ℕ) → Small m → v < 1879048192 → Within m k v → Plain m k v
 unfolding lowOf highOf
 no-wrap m k v s h w =
@@ -115,6 +119,7 @@ in-order m (suc j) (suc zero) h = absurd (omega arith)
 in-order m (suc zero) (suc (suc k)) h = omega arith
 in-order m (suc (suc j)) (suc (suc k)) h = omega (arith, mul-le-mul-right {m = suc j} {n = k} (g (m .m2)) (omega arith))
 
+-- such an interval contains it
 contained : (m : Medians) (k v : ℕ) → Plain m k v → contains m k v ≡ true
 contained m k v p = rw (le-leb (lowOf m k) v (p .from), le-leb v (highOf m k) (p .upto))
 
@@ -153,14 +158,17 @@ smallest m v s h =
 
 -- ---- adaptation stays within 32 bits
 
+-- up is held within 32 bits
 up-small : (d m : ℕ) → up d m ≤ 4294967295
 unfolding up
 up-small d m = omega arith
 
+-- down makes no median larger
 down-small : (d m : ℕ) → m ≤ 4294967295 → down d m ≤ 4294967295
 unfolding down
 down-small d m h = omega arith
 
+-- medians of 32 bits adapt to medians of 32 bits
 pub adapt-small : (m : Medians) (k : ℕ) → Small m → Small (adapt m k)
 unfolding adapt
 adapt-small m zero s = record { small0 = down-small 128 (m .m0) (s .small0); small1 = s .small1; small2 = s .small2 }

@@ -32,12 +32,15 @@ use Rattle.packing.specs.declared.packing.Packed.{Packed}
 
 -- ---- the span
 
+-- a residual within the span counts 0
 pub excess-in : (v : ℤ) → mag v < 1879048192 → 0 ≡ excessOf v
 excess-in v h = rw (lt-ltb (mag v) 1879048192 h)
 
+-- one outside it counts 1
 pub excess-out : (v : ℤ) → 1879048192 ≤ mag v → 1 ≡ excessOf v
 excess-out v h = rw (le-ltb (mag v) 1879048192 h)
 
+-- none counts more
 pub excess-le : (v : ℤ) → excessOf v ≤ 1
 excess-le v = go (ltb (mag v) 1879048192)
   where
@@ -51,6 +54,7 @@ pub record Spans (vs : List ℤ) (outside i : ℕ) : Type 0 where
   pub few : outside ≤ i
   pub here : i ≤ length vs
 
+-- one residual more is looked at
 pub spans-step : (vs : List ℤ) (outside i : ℕ) → i < length vs → Spans vs outside i → Spans vs (outside + excessOf (getD vs i (pos 0))) (i + 1)
 unfolding spanned
 spans-step vs outside i h s =
@@ -67,10 +71,12 @@ spans-step vs outside i h s =
     go v l true = rw add-zero
     go v l false = rw (ne-eqb (outside + 1) 0 (λ e. omega arith), and-false (eqb outside 0))
 
+-- true adds nothing to a conjunction
 and-true : (b : Bool) → (b && true) ≡ b
 and-true true = refl
 and-true false = refl
 
+-- all were looked at
 pub spans-end : (vs : List ℤ) (outside i : ℕ) → length vs ≤ i → Spans vs outside i → eqb outside 0 ≡ spanned vs
 unfolding spanned
 spans-end vs outside i h s = sym (and-true (eqb outside 0)) ∙ ap (λ (x : List ℤ). eqb outside 0 && spanned x) (sym (drop-of-length-le vs {i = i} h)) ∙ s .is
@@ -98,20 +104,24 @@ refused-is residuals entropy frames buffer n r p e o b m = rw (e, o, b, m) (go n
     go (suc n) p = refl
 
 module _ (residuals : List ℤ) (entropy : List ℕ) (frames : ℕ) (buffer : List ℕ) (r : PackAnswer) where
+  -- the refusal that the code hands back tells the number n
   at : (n : ℕ) (o : Outcome) → 0 < n → outcomeNumber o ≡ n → packRefusal residuals entropy frames buffer ≡ n → (r .outcome ≡ o) × (r .bits ≡ 0) × (pairOf (r .medians) ≡ zeroPair)
       → packToldOf r buffer ≡ packEntry residuals entropy frames buffer
   at n o p k e t = refused-is residuals entropy frames buffer n r p e (ap outcomeNumber (t .0) ∙ k) (t .1) (t .2)
 
+  -- 5: over 131,072 frames
   pub too-large : 131072 < frames → (r .outcome ≡ Outcome.Refused Refusal.TooLarge) × (r .bits ≡ 0) × (pairOf (r .medians) ≡ zeroPair)
       → packToldOf r buffer ≡ packEntry residuals entropy frames buffer
   unfolding packRefusal
   too-large h = at 5 (Outcome.Refused Refusal.TooLarge) (omega arith) refl (rw (lt-ltb 131072 frames h))
 
+  -- 6: the residual list is not twice the frames
   pub list-length : frames ≤ 131072 → (length residuals ≡ 2 * frames → ⊥) → (r .outcome ≡ Outcome.Refused Refusal.ListLength) × (r .bits ≡ 0) × (pairOf (r .medians) ≡ zeroPair)
       → packToldOf r buffer ≡ packEntry residuals entropy frames buffer
   unfolding packRefusal
   list-length f h = at 6 (Outcome.Refused Refusal.ListLength) (omega arith) refl (rw (le-ltb 131072 frames f, ne-eqb (length residuals) (2 * frames) h))
 
+  -- 1 and 2: what is wrong with the entropy payload
   pub no-seeds : frames ≤ 131072 → length residuals ≡ 2 * frames → (o : Outcome) (x : Refusal) → o ≡ Outcome.Refused x → outcomeNumber o ≡ seedRefusal entropy
       → (r .outcome ≡ o) × (r .bits ≡ 0) × (pairOf (r .medians) ≡ zeroPair) → packToldOf r buffer ≡ packEntry residuals entropy frames buffer
   unfolding packRefusal
@@ -124,11 +134,13 @@ module _ (residuals : List ℤ) (entropy : List ℕ) (frames : ℕ) (buffer : Li
       first zero p = absurd (omega arith)
       first (suc n) p = refl
 
+  -- 11: under 28 bytes per frame lent
   pub too-short : frames ≤ 131072 → length residuals ≡ 2 * frames → 0 ≡ seedRefusal entropy → length buffer < 28 * frames
       → (r .outcome ≡ Outcome.Refused Refusal.OutputTooShort) × (r .bits ≡ 0) × (pairOf (r .medians) ≡ zeroPair) → packToldOf r buffer ≡ packEntry residuals entropy frames buffer
   unfolding packRefusal
   too-short f h s l = at 11 (Outcome.Refused Refusal.OutputTooShort) (omega arith) refl (rw (le-ltb 131072 frames f, eq-eqb (length residuals) (2 * frames) h, ← s, lt-ltb (length buffer) (28 * frames) l))
 
+  -- 10: a residual outside the span
   pub out-of-span : frames ≤ 131072 → length residuals ≡ 2 * frames → 0 ≡ seedRefusal entropy → 28 * frames ≤ length buffer → spanned residuals ≡ false
       → (r .outcome ≡ Outcome.Refused Refusal.ResidualOutOfSpan) × (r .bits ≡ 0) × (pairOf (r .medians) ≡ zeroPair)
       → packToldOf r buffer ≡ packEntry residuals entropy frames buffer
@@ -143,6 +155,7 @@ unfolding packEntry packRefusal
 accepts residuals entropy frames buffer f h s l v =
     rw (le-ltb 131072 frames f, eq-eqb (length residuals) (2 * frames) h, ← s, le-ltb (length buffer) (28 * frames) l, v)
 
+-- two answers with the same parts are the same
 told-is : (n n′ b b′ : ℕ) (m m′ : MedianPair) (y y′ : List ℕ) → n ≡ n′ → b ≡ b′ → m ≡ m′ → y ≡ y′
     → _≡_ {A = PackTold} (record { refusal = n; bits = b; medians = m; bytes = y }) (record { refusal = n′; bits = b′; medians = m′; bytes = y′ })
 told-is n n′ b b′ m m′ y y′ p q r s = rw (p, q, r, s)

@@ -37,6 +37,7 @@ pub record Counted (bits : List Bool) (p n : ℕ) : Type 0 where
   pub one : unary bits p ≡ Value c q
   pub two : counted bits q c ≡ Value n (p + length (runField n))
 
+-- so it is at a run length that stands there
 pub counted-at : {bits : List Bool} {p : ℕ} (n : ℕ) → n < 2 ^ 32 → At bits p (runField n) → Counted bits p n
 unfolding runField counted
 counted-at {bits} {p} n h a = go (ltb n 2) refl a
@@ -69,10 +70,12 @@ counted-at {bits} {p} n h a = go (ltb n 2) refl a
               (omega (arith, length-append (unaryField b) (low (b - 1) n), length-low (b - 1) n)));
         }
 
+-- a run length is read back
 pub run-at : {bits : List Bool} {p : ℕ} (n : ℕ) → n < 2 ^ 32 → At bits p (runField n) → runLength bits p ≡ Value n (p + length (runField n))
 unfolding runLength
 run-at {bits} {p} n h a = let r = counted-at n h a in rw (r .one, lt-ltb (r .c) 33 (r .few)) (r .two)
 
+-- a prefix is read back
 pub prefix-at : {bits : List Bool} {p : ℕ} (v : ℕ) → v < 2 ^ 32 → At bits p (prefixField v) → prefix bits p ≡ Prefix.Value v (p + length (prefixField v))
 unfolding prefixField prefix escaped
 prefix-at {bits} {p} v h a = go (ltb v 16) refl a
@@ -89,6 +92,7 @@ prefix-at {bits} {p} v h a = go (ltb v 16) refl a
 
 -- ---- the code inside an interval
 
+-- a code is read back, b and x being its interval's
 pub code-bits-at : {bits : List Bool} {p : ℕ} (b x c : ℕ) → x ≤ 2 ^ (b - 1) → c + x < 2 * 2 ^ (b - 1) → At bits p (codeBits b x c)
     → codeOf bits p b x ≡ Value c (p + length (codeBits b x c))
 unfolding codeBits codeOf
@@ -108,6 +112,7 @@ code-bits-at {bits} {p} b x c hx hc a = go (ltb c x) refl a
         rw (low-at (b - 1) s f, mod-eq-of-lt h, le-ltb s x (omega arith), low-at 1 (c + x) g, e)
         (ap₂ Value (omega arith) (omega (arith, length-append (low (b - 1) s) (low 1 (c + x)), length-low (b - 1) s, length-low 1 (c + x))))
 
+-- a code is read back, M being the last code of its interval
 pub code-at : {bits : List Bool} {p : ℕ} (M c : ℕ) → M < 2 ^ 32 → c ≤ M → At bits p (codeField M c)
     → truncatedBinary bits p M ≡ Value c (p + length (codeField M c))
 unfolding codeField truncatedBinary

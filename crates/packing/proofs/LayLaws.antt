@@ -23,6 +23,7 @@ record Halved (l : List Bool) : Type 0 where
   first : num (take 8 l) ≡ num l % 256
   others : num (drop 8 l) ≡ num l / 256
 
+-- they are the remainder and the quotient by 256
 halved : (l : List Bool) → Halved l
 unfolding num
 halved l = go (decLe 8 (length l))
@@ -56,6 +57,7 @@ bytes-more (suc i) w =
 abbrev pub held : List ℕ → ℕ → ℕ → ℕ → List Bool
 held buf at count value = take at (bitsOf buf) ++ low count value
 
+-- they are as many as lie before the field, and the field
 pub length-held : (buf : List ℕ) (at count value : ℕ) → at ≤ 8 * length buf → length (held buf at count value) ≡ at + count
 length-held buf at count value h = omega (arith, length-append (take at (bitsOf buf)) (low count value), length-low count value, length-take-le at (bitsOf buf) (omega (arith, length-bits buf)))
 
@@ -65,10 +67,12 @@ pub record Laying (buf : List ℕ) (w : List Bool) (out : List ℕ) (left i : �
   pub rest : left ≡ num (drop (8 * i) w)
   pub same : length out ≡ length buf
 
+-- none is stored yet
 pub laying-start : (buf : List ℕ) (w : List Bool) (left : ℕ) → left ≡ num w → Laying buf w buf left 0
 unfolding bytesOf
 laying-start buf w left e = record { bytes = refl; rest = e; same = refl }
 
+-- one byte more is stored
 pub laying-step : (buf : List ℕ) (w : List Bool) (out : List ℕ) (left i : ℕ) → i < length out → Laying buf w out left i → Laying buf w (set out i (left % 256)) (left / 256) (i + 1)
 laying-step buf w out left i h l =
     let n = length-bytes i w in
@@ -95,6 +99,7 @@ unfolding put
 put-is buf at [] h = absurd (omega arith)
 put-is buf at (b ∷ f) h = refl
 
+-- all are stored
 pub laying-end : (buf : List ℕ) (at count value : ℕ) (out : List ℕ) (left i : ℕ) → at ≤ 8 * length buf → 0 < count → at + count ≤ 8 * i → i ≤ (at + count + 7) / 8
     → Laying buf (held buf at count value) out left i → out ≡ put buf at (low count value)
 unfolding laid over
@@ -119,6 +124,7 @@ pub record Begun (buf : List ℕ) (at count value left : ℕ) : Type 0 where
   pub power : 1 * 2 ^ at % 2 ^ 64 ≡ 2 ^ at
   pub fits : left < 18446744073709551616
 
+-- so it is for a field of at most 56 bits that starts in the first byte
 pub begun : (buf : List ℕ) (at count value : ℕ) → at ≤ 8 → count ≤ 56 → value < 2 ^ count → at + count ≤ 8 * length buf → 0 < count
     → Begun buf at count value (getD buf 0 0 % (1 * 2 ^ at % 2 ^ 64) + value * 2 ^ at % 2 ^ 64)
 begun [] at count value h l v n p = absurd (omega arith)

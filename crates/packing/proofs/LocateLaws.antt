@@ -44,12 +44,14 @@ some-steps x w h p = go (decLe 1 (x / w))
 triple : (m : Medians) (a b c : ℕ) → a ≡ m .m0 → b ≡ m .m1 → c ≡ m .m2 → record { m0 = a; m1 = b; m2 = c } ≡ m
 triple m a b c x y z = rw (x, y, z)
 
+-- in the first interval
 pub located-first : (m : Medians) (v : ℕ) (r : Located) → Small m → v < 1879048192 → v < g (m .m0) → r .count ≡ 0 → r .code ≡ v → r .last ≡ g (m .m0) - 1
     → r .m0 ≡ down 128 (m .m0) → r .m1 ≡ m .m1 → r .m2 ≡ m .m2 → LocatedIs m v r
 unfolding adapt
 located-first m v r s h l n c e a b d =
     located m v 0 r s h (closed-first m v l) n (omega arith) e (triple (adapt m 0) (r .m0) (r .m1) (r .m2) a b d)
 
+-- in the second
 pub located-second : (m : Medians) (v : ℕ) (r : Located) → Small m → v < 1879048192 → g (m .m0) ≤ v → v - g (m .m0) < g (m .m1) → r .count ≡ 1
     → r .code ≡ v - g (m .m0) → r .last ≡ g (m .m1) - 1 → r .m0 ≡ up 128 (m .m0) → r .m1 ≡ down 64 (m .m1) → r .m2 ≡ m .m2 → LocatedIs m v r
 unfolding adapt
@@ -57,9 +59,11 @@ located-second m v r s h g l n c e a b d =
     located m v 1 r s h (closed-second m v g (omega arith)) n (omega arith) e (triple (adapt m 1) (r .m0) (r .m1) (r .m2) a b d)
 
 module _ (m : Medians) (v rest x y c : ℕ) (a : Above m v rest x y c) (r : Located) where
+  -- what lies past the first two intervals
   past-is : v - g (m .m0) - g (m .m1) ≡ rest
   past-is = omega (arith, a .past)
 
+  -- in the third
   pub located-third : rest < g c → r .count ≡ 2 → r .code ≡ rest → r .last ≡ g c - 1 → r .m0 ≡ x → r .m1 ≡ y → r .m2 ≡ down 32 c → LocatedIs m v r
   unfolding adapt
   located-third l n d e p q t =
@@ -67,6 +71,7 @@ module _ (m : Medians) (v rest x y c : ℕ) (a : Above m v rest x y c) (r : Loca
       located m v 2 r (a .small) (a .span) (closed-many m v (omega (arith, a .past)) ∙ ap (λ (n : ℕ). suc (suc n)) z) n (omega (arith, a .past))
       (e ∙ ap (λ (n : ℕ). g n - 1) (a .third)) (triple (adapt m 2) (r .m0) (r .m1) (r .m2) (p ∙ a .first) (q ∙ a .second) (t ∙ ap (down 32) (a .third)))
 
+  -- beyond it
   pub located-many : g c ≤ rest → r .count ≡ rest / g c + 2 → r .code ≡ rest % g c → r .last ≡ g c - 1 → r .m0 ≡ x → r .m1 ≡ y → r .m2 ≡ up 32 c → LocatedIs m v r
   unfolding adapt
   located-many l n d e p q t =

@@ -38,10 +38,12 @@ run-long n w p h f = go (ltb n 2) refl
         let l = long n (omega arith) f in
         omega (arith, length-append (unaryField b) (low (b - 1) n), length-unary b, length-low (b - 1) n, long-le n b w l h, l .some)
 
+-- a run length of 0 takes one bit
 pub run-zero-long : length (runField 0) ≡ 1
 unfolding runField unaryField
 run-zero-long = refl
 
+-- a prefix takes 81 bits at the most
 pub prefix-long : (v : ℕ) → v < 2 ^ 32 → length (prefixField v) ≤ 81
 unfolding prefixField
 prefix-long v h = go (ltb v 16) refl
@@ -50,6 +52,7 @@ prefix-long v h = go (ltb v 16) refl
     go true e = omega (arith, length-unary v, ltb-true v 16 e)
     go false e = omega (arith, length-append (unaryField 16) (runField (v - 16)), length-unary 16, run-long (v - 16) 32 (omega arith) (omega arith) (omega arith))
 
+-- a code takes no more bits than its interval's last code has
 pub code-long : (M c w : ℕ) → M < 2 ^ w → M < 2 ^ 32 → length (codeField M c) ≤ w
 unfolding codeField codeBits
 code-long M c w h f = go (eqb M 0) refl
@@ -68,6 +71,7 @@ code-long M c w h f = go (eqb M 0) refl
         let l = long M (omega arith) f in
         bits (2 ^ b - M - 1) (ltb c (2 ^ b - M - 1)) (l .some) (long-le M b w l h)
 
+-- code and sign take 29 bits at the most
 value-long : (s : State) (v : ℤ) → Small (due s) → mag v < 1879048192 → length (valueOut (count (due s) (mag v)) s v .bits) ≤ 29
 unfolding valueOut valueField
 value-long s v m h =
@@ -77,6 +81,7 @@ value-long s v m h =
     let l = smallest (due s) (mag v) m h .plain .wide in
     omega (arith, length-append (codeField M c) (low 1 (sign v)), length-low 1 (sign v), code-long M c 28 l (omega arith))
 
+-- with a prefix 110
 plain-long : (s : State) (v : ℤ) (vs : List ℤ) → Small (due s) → mag v < 1879048192 → length (plainOut s v vs .bits) ≤ 110
 unfolding plainOut cleared flagged
 plain-long s v vs m h = go (s .lastZero)
@@ -94,6 +99,7 @@ plain-long s v vs m h = go (s .lastZero)
         let f = flagged (ahead (other s) vs) s in
         omega (arith, length-append (prefixField r) (valueOut k f v .bits), value-long f v m h, prefix-long r (omega (arith, val-le (ahead (other s) vs))))
 
+-- document 01 (K10): with a run length 111
 pub word-long : (s : State) (v : ℤ) (vs : List ℤ) → Small (due s) → mag v < 1879048192 → length (v ∷ vs) < 2 ^ 32 → length (wordOut s v vs .bits) ≤ 111
 unfolding wordOut freshOut unbroken
 word-long s v vs m h few = go (s .debt)

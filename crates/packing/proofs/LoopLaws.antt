@@ -42,6 +42,7 @@ packing-end w s = ap (λ (l : List Bool). record { bits = l; next = s }) (append
 
 -- ---- a debt is paid
 
+-- the other channel is the next number's remainder by 2
 flip-mod : (c j : ℕ) → c ≡ j % 2 → flip c ≡ (j + 1) % 2
 flip-mod zero j e = omega arith
 flip-mod (suc zero) j e = omega arith
@@ -59,14 +60,17 @@ record Settled (s : State) (l : List ℤ) (d j : ℕ) : Type 0 where
   break-is : t .runBreak ≡ s .runBreak
   channel-is : t .channel ≡ (j + d) % 2
 
+-- a word out of a debt writes nothing
 word-paid : (s : State) (v : ℤ) (l : List ℤ) (d : ℕ) → s .debt ≡ suc d → wordOut s v l ≡ silent (paid d s)
 unfolding wordOut
 word-paid s v l d e = rw e
 
+-- and so the words behind it are all that is written
 packed-paid : (s : State) (v : ℤ) (l : List ℤ) (d : ℕ) → s .debt ≡ suc d → packed s (v ∷ l) ≡ packed (paid d s) l
 unfolding packed
 packed-paid s v l d e = ap (λ (o : Out). behind (o .bits) (packed (o .next) l)) (word-paid s v l d e)
 
+-- so all zeros of a debt are passed over
 settle : (d j : ℕ) (s : State) (l : List ℤ) → s .debt ≡ d → d ≤ zeros l → s .channel ≡ j % 2 → Settled s l d j
 unfolding zeros paid
 settle zero j s l e h c = record {
@@ -132,6 +136,7 @@ set-is (a ∷ b ∷ l) zero e h = refl
 set-is (a ∷ b ∷ l) (suc zero) e h = refl
 set-is (a ∷ b ∷ l) (suc (suc c)) e h = absurd (omega arith)
 
+-- the other of them
 other-is : (sets : List AdaptiveMedians) (c : ℕ) → length sets ≡ 2 → c < 2 → side c (mediansOf (getD sets 1 zeroSet)) (mediansOf (getD sets 0 zeroSet)) ≡ mediansOf (getD sets (1 - c) unset)
 other-is [] c e h = absurd (omega arith)
 other-is (a ∷ []) c e h = absurd (omega arith)
@@ -144,6 +149,7 @@ record Replaced (sets : List AdaptiveMedians) (x : AdaptiveMedians) (c : ℕ) : 
   at-left : side c (mediansOf x) (mediansOf (getD sets 0 zeroSet)) ≡ mediansOf (getD (set sets c x) 0 zeroSet)
   at-right : side c (mediansOf (getD sets 1 zeroSet)) (mediansOf x) ≡ mediansOf (getD (set sets c x) 1 zeroSet)
 
+-- the set of channel c is the new one, the other is as it was
 replaced : (sets : List AdaptiveMedians) (x : AdaptiveMedians) (c : ℕ) → length sets ≡ 2 → c < 2 → Replaced sets x c
 replaced [] x c l h = absurd (omega arith)
 replaced (a ∷ []) x c l h = absurd (omega arith)
@@ -157,6 +163,7 @@ spanned-at [] i h l = absurd (omega arith)
 spanned-at (v ∷ vs) zero h l = spanned-parts v vs h .0
 spanned-at (v ∷ vs) (suc i) h l = spanned-at vs i (spanned-parts v vs h .1) (omega arith)
 
+-- nothing is written yet
 pub loop-start : (before : List ℕ) (vs : List ℤ) (sets : List AdaptiveMedians) → Bytes before → length sets ≡ 2 → Small (pairOf sets .left) → Small (pairOf sets .right)
     → Loop before vs (start (pairOf sets .left) (pairOf sets .right)) before sets 0 false false false 0
 loop-start before vs sets b e l r = record {
@@ -193,9 +200,11 @@ module _ (before : List ℕ) (vs : List ℤ) (s₀ : State) (out : List ℕ) (se
     break-is = l .break-is;
   }
 
+  -- the medians due have 32 bits
   pub loop-due-small : Small (mediansOf (getD sets (i % 2) unset))
   loop-due-small = rw (loop-seen .due-is) at (due-small (l .inv))
 
+  -- and so have the others
   pub loop-other-small : Small (mediansOf (getD sets (1 - i % 2) unset))
   loop-other-small = rw (loop-seen .other-is) at (other-small (l .inv))
 
@@ -203,12 +212,15 @@ module _ (before : List ℕ) (vs : List ℤ) (s₀ : State) (out : List ℕ) (se
   abbrev pub head : ℤ
   head = getD vs i (pos 0)
 
+  -- those behind it
   abbrev pub tail : List ℤ
   tail = drop (suc i) vs
 
+  -- they are what is left
   split : i < length vs → drop i vs ≡ head ∷ tail
   split h = drop-cons vs i (pos 0) h
 
+  -- the state is in step with them
   in-step : i < length vs → Inv (l .state) (head ∷ tail)
   in-step h = rw (← split h) (l .inv)
 
@@ -218,12 +230,15 @@ module _ (before : List ℕ) (vs : List ℤ) (s₀ : State) (out : List ℕ) (se
       let p : place ≡ 0 + length (l .w) = omega (arith, l .place-is) in
       e ∙ ap₂ (λ (x : List ℕ) (y : ℕ). put x y f) (l .bytes) p ∙ put-put before 0 (l .w) f (omega arith)
 
+  -- with it, what is written and what is left is still the whole
   more-joined : i < length vs → behind (l .w ++ wordOut (l .state) head tail .bits) (packed (wordOut (l .state) head tail .next) tail) ≡ packed s₀ vs
   more-joined h = sym (packing-on (l .w) (l .state) head tail) ∙ ap (λ (x : List ℤ). behind (l .w) (packed (l .state) x)) (sym (split h)) ∙ l .joined
 
+  -- what is left is short of 2 ^ 32
   few : length vs ≤ 262144 → i < length vs → length (head ∷ tail) < 2 ^ 32
   few n h = omega (arith, length-drop (suc i) vs)
 
+  -- the word takes 111 bits at the most
   pub word-room : spanned vs ≡ true → length vs ≤ 262144 → i < length vs → length (wordOut (l .state) head tail .bits) ≤ 111
   word-room s n h = word-long (l .state) head tail (due-small (in-step h)) (spanned-at vs i s h) (few n h)
 

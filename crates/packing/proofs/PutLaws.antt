@@ -33,6 +33,7 @@ put-low-is before after at count value e = record { bytes = e; place = ap (λ (n
 pub ones-size : (p count value : ℕ) (w : Gathered) → Gathers (unaryField p ++ low count value) w → w .count ≡ p + 1 + count
 ones-size p count value w g = omega (arith, g .count-is, length-append (unaryField p) (low count value), length-unary p, length-low count value)
 
+-- it is laid as the prefix and the word
 pub put-short : (before after : List ℕ) (at p count value : ℕ) (w : Gathered) → p < 16 → Gathers (unaryField p ++ low count value) w
     → after ≡ put before at (low (w .count) (w .value)) → PutIs before after at (prefixField p ++ low count value) (at + w .count)
 put-short before after at p count value w h g e =

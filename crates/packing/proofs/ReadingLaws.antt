@@ -31,6 +31,7 @@ spanned-parts v vs h = let b = both (ltb (mag v) 1879048192) (spanned vs) h in (
 abbrev pub accepted : List ℤ → ℕ → State → Reading
 accepted vs p s = record { refusal = 0; samples = vs; place = p; state = s }
 
+-- words that stand at a place are read: the residuals, the place behind them and the state after them
 pub read-packed : {bits : List Bool} {p : ℕ} (s : State) (vs : List ℤ) → Inv s vs → spanned vs ≡ true → length vs < 2 ^ 32
     → At bits p (packed s vs .bits) → reading bits (length vs) p s ≡ accepted vs (p + length (packed s vs .bits)) (packed s vs .next)
 unfolding reading packed

@@ -15,6 +15,7 @@ pub sign-neg : (v : ℤ) → ltZ v (pos 0) ≡ true → 1 ≡ sign v
 sign-neg (pos n) e = absurd (omega (arith, ltb-true n 0 e))
 sign-neg (negsuc n) e = refl
 
+-- and -1 less it is its magnitude
 pub neg-is : (v : ℤ) → ltZ v (pos 0) ≡ true → negsuc 0 -ℤ v ≡ pos (mag v)
 neg-is (pos n) e = absurd (omega (arith, ltb-true n 0 e))
 neg-is (negsuc n) e = rw (le-ltb (suc n) 1 (omega arith)) (ap pos (omega arith))
@@ -24,6 +25,7 @@ pub sign-pos : (v : ℤ) → ltZ v (pos 0) ≡ false → 0 ≡ sign v
 sign-pos (pos n) e = refl
 sign-pos (negsuc n) e = clash refl e
 
+-- and it is its own magnitude
 pub pos-is : (v : ℤ) → ltZ v (pos 0) ≡ false → v ≡ pos (mag v)
 pos-is (pos n) e = refl
 pos-is (negsuc n) e = clash refl e

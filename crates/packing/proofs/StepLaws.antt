@@ -27,10 +27,12 @@ use Rattle.packing.specs.Packing.{zeros, ahead, sign, Out, behind, silen
 
 -- ---- code and sign
 
+-- the sign bit and the magnitude give the residual
 sign-is : (v : ℤ) (n : ℕ) → n ≡ mag v → signed (sign v % 2 ^ 1) n ≡ v
 sign-is (pos m) n e = ap pos e
 sign-is (negsuc m) n e = ap negsuc e
 
+-- code and sign are read back
 pub value-at : {bits : List Bool} {p : ℕ} (s : State) (v : ℤ) → Small (due s) → mag v < 1879048192 → At bits p (valueOut (count (due s) (mag v)) s v .bits)
     → value bits p (count (due s) (mag v)) s
     ≡ given v (p + length (valueOut (count (due s) (mag v)) s v .bits)) (after (count (due s) (mag v)) s) (zoneOf (count (due s) (mag v)))
@@ -47,6 +49,7 @@ value-at {bits} {p} s v m h a =
 
 -- ---- how the state and the residuals that are left hang together
 
+-- no more zeros are owed than stand next; a flag that is set tells of the next count; medians have 32 bits
 pub record Inv (s : State) (vs : List ℤ) : Type 0 where
   pub owed : s .debt ≤ zeros vs
   pub zeroed : s .lastZero ≡ true → (s .debt ≡ 0) × (ahead (due s) vs ≡ false)
@@ -60,6 +63,7 @@ pub record Step (w : Word) (p : ℕ) (v : ℤ) (vs : List ℤ) (o : Out) : Type 
   pub reads : w ≡ given v (p + length (o .bits)) (o .next) report
   pub keeps : Inv (o .next) vs
 
+-- a field is read, and then the rest
 behind-step : {w u : Word} {p : ℕ} {v : ℤ} {vs : List ℤ} (f : List Bool) (o : Out) → w ≡ u → Step u (p + length f) v vs o → Step w p v vs (behind f o)
 behind-step {p = p} {v = v} f o e t = record {
   report = t .report;
@@ -67,16 +71,20 @@ behind-step {p = p} {v = v} f o e t = record {
   keeps = t .keeps;
 }
 
+-- one of two sets of 32 bits has 32 bits
 side-small : (c : ℕ) {a b : Medians} → Small a → Small b → Small (side c a b)
 side-small zero x y = x
 side-small (suc c) x y = y
 
+-- the medians due have 32 bits
 pub due-small : {s : State} {vs : List ℤ} → Inv s vs → Small (due s)
 due-small {s} i = side-small (s .channel) (i .small-left) (i .small-right)
 
+-- and so have the others
 pub other-small : {s : State} {vs : List ℤ} → Inv s vs → Small (other s)
 other-small {s} i = side-small (s .channel) (i .small-right) (i .small-left)
 
+-- after a word the other channel's medians are due
 turns : (c k : ℕ) (l r : Medians) → side (flip c) (side c (adapt l k) l) (side c r (adapt r k)) ≡ side c r l
 turns zero k l r = refl
 turns (suc c) k l r = refl
@@ -97,14 +105,17 @@ after-inv k s vs d z o l r =
 
 -- ---- prefix or not
 
+-- a prefix gives back the count and its low bit
 halves : (k : ℕ) (a b : Bool) → val a ≤ k → ((2 * (k - val a) + val b) / 2 + val a ≡ k) × (bitOf ((2 * (k - val a) + val b) % 2) ≡ b)
 halves k a false h = let e : (2 * (k - val a) + 0) % 2 ≡ 0 = omega arith in (omega arith, ap bitOf e)
 halves k a true h = let e : (2 * (k - val a) + 1) % 2 ≡ 1 = omega arith in (omega arith, ap bitOf e)
 
+-- a bit is at most 1
 pub val-le : (b : Bool) → val b ≤ 1
 val-le false = omega arith
 val-le true = omega arith
 
+-- a word with or without its prefix is read back
 pub plain-at : {bits : List Bool} {p : ℕ} (s : State) (v : ℤ) (vs : List ℤ) → s .debt ≡ 0 → Inv s (v ∷ vs) → mag v < 1879048192
     → At bits p (plainOut s v vs .bits) → Step (plain bits p s) p v vs (plainOut s v vs)
 unfolding plain plainOut valueOut ahead cleared flagged
@@ -147,12 +158,14 @@ plain-at {bits} {p} s v vs d i h a = go (s .lastZero) refl a
 
 -- ---- run length or not
 
+-- the first residual of a stretch of zeros is 0, and the stretch goes on
 pub zeros-head : (v : ℤ) (vs : List ℤ) (d : ℕ) → suc d ≤ zeros (v ∷ vs) → (pos 0 ≡ v) × (d ≤ zeros vs)
 unfolding zeros
 zeros-head (pos zero) vs d h = (refl, omega arith)
 zeros-head (pos (suc n)) vs d h = absurd (omega arith)
 zeros-head (negsuc n) vs d h = absurd (omega arith)
 
+-- no stretch is longer than the list
 pub zeros-le : (vs : List ℤ) → zeros vs ≤ length vs
 unfolding zeros
 zeros-le [] = omega arith
@@ -160,6 +173,7 @@ zeros-le (pos zero ∷ vs) = omega (arith, zeros-le vs)
 zeros-le (pos (suc n) ∷ vs) = omega arith
 zeros-le (negsuc n ∷ vs) = omega arith
 
+-- medians of 0 have 32 bits
 pub none-small : Small (mediansOf zeroSet)
 none-small = omega arith
 
@@ -172,6 +186,7 @@ due-flags s e =
     let y = both low (not (s .lastZero)) (x .0) in
     (not-true (s .lastZero) (y .1), not-true (s .lastOne) (x .1))
 
+-- a run leaves the state in step
 run-inv : (d : ℕ) (s : State) (vs : List ℤ) → runDue s ≡ true → d ≤ zeros vs → Inv (inRun d s) vs
 unfolding inRun
 run-inv d s vs e h =
@@ -182,6 +197,7 @@ run-inv d s vs e h =
 zero-step : (q : ℕ) (v : ℤ) (vs : List ℤ) (t : State) → pos 0 ≡ v → Inv t vs → Step (given (pos 0) q t none) q v vs (silent t)
 zero-step q v vs t e i = record { report = none; reads = ap₂ (λ (x : ℤ) (n : ℕ). given x n t none) e (omega arith); keeps = i }
 
+-- a word with or without a run length is read back
 pub fresh-at : {bits : List Bool} {p : ℕ} (s : State) (v : ℤ) (vs : List ℤ) → s .debt ≡ 0 → Inv s (v ∷ vs) → mag v < 1879048192 → length (v ∷ vs) < 2 ^ 32
     → At bits p (freshOut s v vs .bits) → Step (fresh bits p s) p v vs (freshOut s v vs)
 unfolding fresh freshOut unbroken
@@ -216,6 +232,7 @@ fresh-at {bits} {p} s v vs d i h few a = go (s .runBreak) a
 
 -- ---- one word
 
+-- a zero out of a debt leaves the state in step
 paid-inv : (d : ℕ) (s : State) (v : ℤ) (vs : List ℤ) → s .debt ≡ suc d → d ≤ zeros vs → Inv s (v ∷ vs) → Inv (paid d s) vs
 unfolding paid
 paid-inv d s v vs e h i = record {
@@ -226,6 +243,7 @@ paid-inv d s v vs e h i = record {
   small-right = i .small-right;
 }
 
+-- a word is read back, and leaves the state in step
 pub step : {bits : List Bool} {p : ℕ} (s : State) (v : ℤ) (vs : List ℤ) → Inv s (v ∷ vs) → mag v < 1879048192 → length (v ∷ vs) < 2 ^ 32
     → At bits p (wordOut s v vs .bits) → Step (word bits p s) p v vs (wordOut s v vs)
 unfolding word wordOut

@@ -37,6 +37,7 @@ in-first : (m : Medians) (v : ℕ) → Small m → v < g (m .m0) → contains m 
 unfolding lowOf highOf
 in-first m v s h = rw (le-leb (lowOf m 0) v (omega arith), le-leb v (highOf m 0) (omega arith))
 
+-- and no others
 out-first : (m : Medians) (v : ℕ) → Small m → g (m .m0) ≤ v → contains m 0 v ≡ false
 unfolding lowOf highOf
 out-first m v s h = untrue (contains m 0 v) (λ t. let u = leb-true v (highOf m 0) (both (leb (lowOf m 0) v) (leb v (highOf m 0)) t .1) in omega arith)
@@ -50,10 +51,12 @@ count-above m v s = go (decLt (m .m0 / 16) v)
     go (yes h) = rw (lt-ltb (m .m0 / 16) v h, out-first m v s (omega arith)) (sym (lt-ltb 0 (suc (least (λ j. contains m (suc j) v) v)) (omega arith)))
     go (no h) = rw (le-ltb (m .m0 / 16) v (omega arith), in-first m v s (omega arith))
 
+-- so the code's test tells whether the next count is above 0
 pub ahead-some : (m : Medians) (vs : List ℤ) (i : ℕ) → Small m → i < length vs → ltb (m .m0 / 16) (mag (getD vs i (pos 0))) ≡ ahead m (drop i vs)
 unfolding ahead
 ahead-some m vs i s h = rw (drop-cons vs i (pos 0) h) (count-above m (mag (getD vs i (pos 0))) s)
 
+-- past the last residual it is not
 pub ahead-end : (m : Medians) (vs : List ℤ) (i : ℕ) → length vs ≤ i → false ≡ ahead m (drop i vs)
 unfolding ahead
 ahead-end m vs i h = rw (drop-of-length-le vs {i = i} h)
@@ -145,19 +148,23 @@ word-is : (s : State) (v : ℤ) (vs : List ℤ) → s .debt ≡ 0 → wordOut s 
 unfolding wordOut
 word-is s v vs e = rw e
 
+-- run_break is set
 fresh-broken : (s : State) (v : ℤ) (vs : List ℤ) → s .runBreak ≡ true → freshOut s v vs ≡ plainOut (unbroken s) v vs
 unfolding freshOut
 fresh-broken s v vs e = rw e
 
+-- no run length is due
 fresh-plain : (s : State) (v : ℤ) (vs : List ℤ) → s .runBreak ≡ false → runDue s ≡ false → freshOut s v vs ≡ plainOut s v vs
 unfolding freshOut
 fresh-plain s v vs e d = rw (d, e)
 
+-- one is due
 fresh-asked : (s : State) (v : ℤ) (vs : List ℤ) → s .runBreak ≡ false → runDue s ≡ true
     → freshOut s v vs ≡ behind (runField (zeros (v ∷ vs))) (onZeros (zeros (v ∷ vs)) (λ d. silent (inRun d s)) (plainOut s v vs))
 unfolding freshOut
 fresh-asked s v vs e d = rw (d, e)
 
+-- one of n zeros is due
 fresh-run : (s : State) (v : ℤ) (vs : List ℤ) (n : ℕ) → s .runBreak ≡ false → runDue s ≡ true → zeros (v ∷ vs) ≡ n
     → freshOut s v vs ≡ behind (runField (zeros (v ∷ vs))) (onZeros n (λ d. silent (inRun d s)) (plainOut s v vs))
 fresh-run s v vs n e d z =
@@ -210,6 +217,7 @@ module _ (s : State) (d o : Medians) (lz lo brk : Bool) (v : ℤ) (vs : List ℤ
   asked-is : runTest (d .m0) (o .m0) lz lo brk ≡ (runDue s && not (s .runBreak))
   asked-is = rw (← seen .due-is, ← seen .other-is, ← seen .zero-is, ← seen .one-is, ← seen .break-is) (due-is-test s)
 
+  -- a turn that tells of zeros
   pub turn-run : (before after : List ℕ) (at : ℕ) (b : Before) (r : Turn) → BeforeIs before after at (runTest (d .m0) (o .m0) lz lo brk) (v ∷ vs) b → 0 < b .run
       → r .place ≡ b .place → r .run ≡ b .run → r .«last_zero» ≡ lz → r .«last_one» ≡ lo → Turned before after at s v vs r
   turn-run before after at b r h n p q z w = go (runTest (d .m0) (o .m0) lz lo brk) refl h
@@ -238,6 +246,7 @@ module _ (s : State) (d o : Medians) (lz lo brk : Bool) (v : ℤ) (vs : List ℤ
           }
       go false e h = absurd (omega (arith, h .run-is))
 
+  -- a turn that writes a word
   pub turn-word : (before mid after : List ℕ) (at : ℕ) (b : Before) (u : Word) (r : Turn) → at ≤ 8 * length before → BeforeIs before mid at (runTest (d .m0) (o .m0) lz lo brk) (v ∷ vs) b
       → b .run ≡ 0 → WordIs mid after (b .place) d v lz lo (ahead o vs) u → r .place ≡ u .place → r .run ≡ 0 → r .m0 ≡ u .m0 → r .m1 ≡ u .m1 → r .m2 ≡ u .m2
       → r .«last_zero» ≡ cond lz false (not (ahead o vs)) → r .«last_one» ≡ cond lz lo (ahead o vs) → Turned before after at s v vs r

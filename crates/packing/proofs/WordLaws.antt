@@ -27,11 +27,13 @@ pub record Fits (r : Located) : Type 0 where
   pub wide : r .last < 268435456
   pub few : r .count < 1879048192
 
+-- so it is for every residual in the span
 pub located-fits : (m : Medians) (x : ℕ) (r : Located) → Small m → x < 1879048192 → LocatedIs m x r → Fits r
 located-fits m x r s h l =
     let k = smallest m x s h in
     record { within = omega (arith, l .code-is, l .last-is, k .plain); wide = rw (l .last-is) (k .plain .wide); few = omega (arith, l .count-is, k .within) }
 
+-- a sign bit is below 2
 pub sign-lt : (v : ℤ) → sign v < 2
 sign-lt (pos n) = omega arith
 sign-lt (negsuc n) = omega arith
@@ -42,6 +44,7 @@ pub record Coded (c : Gathered) : Type 0 where
   pub few : c .count ≤ 29
   pub below : c .value < 2 ^ c .count
 
+-- so it is for a code of 28 bits and a sign
 pub coded : (M x s : ℕ) (c : Gathered) → M < 268435456 → Gathers (codeField M x ++ low 1 s) c → Coded c
 coded M x s c h g =
     let l = length-append (codeField M x) (low 1 s) in

@@ -22,6 +22,7 @@ use Rattle.packing.specs.declared.written.Gathered.{Gathered}
 
 -- ---- run lengths and prefixes
 
+-- 0 and 1 stand for themselves
 pub run-short : (n : ℕ) → n < 2 → runField n ≡ unaryField n
 unfolding runField
 run-short n h = rw (lt-ltb n 2 h)
@@ -33,6 +34,7 @@ pub record RunParts (n b : ℕ) : Type 0 where
   pub parts : runField n ≡ unaryField b ++ low (b - 1) n
   pub size : length (runField n) ≡ length (unaryField b) + (b - 1)
 
+-- they are its parts
 pub run-parts : (n b : ℕ) → 2 ≤ n → n < 2 ^ 32 → b ≡ bitLength n → RunParts n b
 unfolding runField
 run-parts n b h l e =
@@ -45,10 +47,12 @@ run-parts n b h l e =
       size = ap length p ∙ length-append (unaryField b) (low (b - 1) n) ∙ ap (λ (k : ℕ). length (unaryField b) + k) (length-low (b - 1) n);
     }
 
+-- below 16 a prefix is that many ones
 pub prefix-short : (v : ℕ) → v < 16 → prefixField v ≡ unaryField v
 unfolding prefixField
 prefix-short v h = rw (lt-ltb v 16 h)
 
+-- from 16 on it is escaped
 pub prefix-escaped : (v : ℕ) → 16 ≤ v → prefixField v ≡ unaryField 16 ++ runField (v - 16)
 unfolding prefixField
 prefix-escaped v h = rw (le-ltb v 16 h)
@@ -61,6 +65,7 @@ pub record Joined (f g : List Bool) (x n y : ℕ) : Type 0 where
   pub fits : x + y * 2 ^ n % 2 ^ 64 < 18446744073709551616
   pub size : n + length g ≡ length (f ++ g)
 
+-- their sum gathers both
 pub joined : (f g : List Bool) (x n y : ℕ) → x ≡ num f → n ≡ length f → y ≡ num g → length f + length g ≤ 64 → Joined f g x n y
 joined f g x n y a b c h =
     let l = length-append f g in
@@ -74,6 +79,7 @@ pub record Known (f : List Bool) (value count : ℕ) : Type 0 where
   pub below : value < 2 ^ count
   pub bits : low count value ≡ f
 
+-- so it is for all that is gathered
 pub known : (f : List Bool) (r : Gathered) → Gathers f r → Known f (r .value) (r .count)
 known f r g = record { below = rw (g .value-is, g .count-is) (num-lt f); bits = rw (g .value-is, g .count-is) (low-num f) }
 
@@ -86,20 +92,25 @@ unary-num (suc c) = omega (arith, unary-num c, pow-suc 2 c, pow-pos c)
 -- ---- codes
 
 module _ (d x c : ℕ) where
+  -- a code below x has d bits
   pub code-short : c < x → codeBits (d + 1) x c ≡ low d c
   unfolding codeBits
   code-short h = let e : d + 1 - 1 ≡ d = omega arith in rw (lt-ltb c x h, e)
 
+  -- any other has one more
   pub code-long : x ≤ c → codeBits (d + 1) x c ≡ low d ((c + x) / 2) ++ low 1 (c + x)
   unfolding codeBits
   code-long h = let e : d + 1 - 1 ≡ d = omega arith in rw (le-ltb c x h, e)
 
+  -- the number of a short code's bits
   pub short-num : c < x → x ≤ 2 ^ d → c ≡ num (codeBits (d + 1) x c)
   short-num h l = rw (code-short h, num-low d c) (let l : c < 2 ^ d = omega arith in sym (mod-eq-of-lt l))
 
+  -- and how many they are
   pub short-size : c < x → d ≡ length (codeBits (d + 1) x c)
   short-size h = rw (code-short h) (sym (length-low d c))
 
+  -- the number of a long code's bits
   pub long-num : x ≤ c → c + x < 2 * 2 ^ d → (c + x) / 2 + (c + x) % 2 * 2 ^ d ≡ num (codeBits (d + 1) x c)
   long-num h l =
       rw (code-long h)
@@ -107,6 +118,7 @@ module _ (d x c : ℕ) where
       ∙ ap₂ (λ (a b : ℕ). a + b) (num-low d ((c + x) / 2) ∙ mod-eq-of-lt (omega arith))
       (ap₂ (λ (a b : ℕ). a * 2 ^ b) (num-low 1 (c + x)) (length-low d ((c + x) / 2)))))
 
+  -- and how many they are
   pub long-size : x ≤ c → d + 1 ≡ length (codeBits (d + 1) x c)
   long-size h = rw (code-long h) (sym (length-append (low d ((c + x) / 2)) (low 1 (c + x)) ∙ ap₂ (λ (a b : ℕ). a + b) (length-low d ((c + x) / 2)) (length-low 1 (c + x))))
 
@@ -124,6 +136,7 @@ pub record Uniform (M c b : ℕ) : Type 0 where
 long-same : (n a b : ℕ) → Long n a → Long n b → a ≡ b
 long-same n a b l m = let x = long-le n a b l (m .above) in let y = long-le n b a m (l .above) in omega arith
 
+-- so it is for every code of an interval of at most 2 ^ 28
 pub uniform : (M c b : ℕ) → c ≤ M → M < 268435456 → b ≡ bitLength (M / 2 * 2 + 1) → Uniform M c b
 unfolding codeField
 uniform M c b h l e =

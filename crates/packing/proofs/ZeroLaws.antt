@@ -18,6 +18,7 @@ pub zeros-more : (vs : List ℤ) (j : ℕ) → j < length vs → getD vs j (pos 
 unfolding zeros
 zeros-more vs j h e = rw (drop-cons vs j (pos 0) h, e)
 
+-- no stretch starts at another residual
 zeros-none : (v : ℤ) (vs : List ℤ) → (v ≡ pos 0 → ⊥) → zeros (v ∷ vs) ≡ 0
 unfolding zeros
 zeros-none (pos zero) vs h = absurd (h refl)
@@ -57,14 +58,17 @@ other-none (pos zero) e = refl
 other-none (pos (suc n)) e = absurd (omega arith)
 other-none (negsuc n) e = absurd (omega arith)
 
+-- none counts more than 1
 pub other-le : (v : ℤ) → otherOf v ≤ 1
 other-le (pos zero) = omega arith
 other-le (pos (suc n)) = omega arith
 other-le (negsuc n) = omega arith
 
+-- 0 counts 0
 pub other-zero : (v : ℤ) → v ≡ pos 0 → 0 ≡ otherOf v
 other-zero v e = rw e
 
+-- any other counts 1
 pub other-some : (v : ℤ) → (v ≡ pos 0 → ⊥) → 1 ≡ otherOf v
 other-some (pos zero) h = absurd (h refl)
 other-some (pos (suc n)) h = refl
@@ -87,9 +91,11 @@ pub record Block (vs : List ℤ) (from others j : ℕ) : Type 0 where
   pub is : eqb others 0 ≡ leb j (zeros (drop from vs))
   pub few : others ≤ j
 
+-- none was looked at yet
 pub block-start : (vs : List ℤ) (from : ℕ) → Block vs from 0 0
 block-start vs from = record { is = sym (le-leb 0 (zeros (drop from vs)) (omega arith)); few = omega arith }
 
+-- one more is looked at
 pub block-step : (vs : List ℤ) (from others j : ℕ) → from + j < length vs → Block vs from others j → Block vs from (others + otherOf (getD vs (from + j) (pos 0))) (j + 1)
 block-step vs from others j h b = record { is = go (decLe j (zeros (drop from vs))); few = omega (arith, b .few, other-le v) }
   where
@@ -113,6 +119,7 @@ block-step vs from others j h b = record { is = go (decLe j (zeros (drop from vs
         let o = eqb-false others 0 (b .is ∙ lt-leb j z (omega arith)) in
         rw (ne-eqb (others + otherOf v) 0 (λ e. o (omega arith)), lt-leb (j + 1) z (omega arith))
 
+-- nothing is passed over yet
 pub skip-start : (vs : List ℤ) (first : ℕ) → first ≤ length vs → SkipIs vs first first
 skip-start vs first h = record { ahead-of = omega arith; here = h; zeros-are = omega arith }
 

@@ -26,10 +26,12 @@ abbrev run : Chain → Answer
 run c = record { refusal = 0; passes = c .passes; buffer = c .buffer }
 
 module _ (ps : List DecorrPass) (l : List ℤ) (w : WellMade ps) (h : length l ≤ 262144) where
+  -- decorrelation accepts them, and runs them
   decorrelation-is : decorrelation ps l ≡ run (decorrelated ps l)
   unfolding decorrelation decorrelationNumber
   decorrelation-is = rw (le-ltb 262144 (length l) h, le-ltb 16 (length ps) (w .at-most-16), w .terms-valid)
 
+  -- and so does analysis
   analysis-is : analysis ps l ≡ run (analysed ps l)
   unfolding analysis analysisNumber
   analysis-is = rw (le-ltb 262144 (length l) h, le-ltb 16 (length ps) (w .at-most-16), w .terms-valid)
@@ -39,26 +41,33 @@ module _ (frames : ℕ) (passes : List DecorrPass) (recording : List ℤ) (few :
   abbrev found : List ℤ
   found = analysed passes recording .buffer
 
+  -- a recording has at most 262,144 samples
   size : (l : List ℤ) → length l ≡ 2 * frames → length l ≤ 262144
   size l e = omega arith
 
+  -- they are a residual list
   found-is : Recording frames found
   found-is = record { two-per-frame = analysed-length passes recording ∙ x .two-per-frame; samples-fit = analysed-fit passes recording (x .samples-fit) }
 
+  -- analysis leaves them
   pub analysed-is : analysis passes recording ≡ run (analysed passes recording)
   analysed-is = analysis-is passes recording w (size recording (x .two-per-frame))
 
+  -- and decorrelating them returns the recording
   back : decorrelated passes found ≡ record { passes = analysed passes recording .passes; buffer = recording }
   back = decorrelated-analysed passes recording (x .samples-fit)
 
+  -- as the entry answers
   pub decorrelated-is : decorrelation passes found ≡ record { refusal = 0; passes = analysed passes recording .passes; buffer = recording }
   decorrelated-is = decorrelation-is passes found w (size found (found-is .two-per-frame)) ∙ ap run back
 
+  -- no other list does
   only : (other : List ℤ) → Recording frames other → decorrelation passes other .buffer ≡ recording → other ≡ found
   only other o e =
       residuals-unique passes other found (o .samples-fit) (found-is .samples-fit)
       (sym (ap (λ (a : Answer). a .buffer) (decorrelation-is passes other w (size other (o .two-per-frame)))) ∙ e ∙ sym (ap (λ (c : Chain). c .buffer) back))
 
+  -- in the span they are packed
   packed-is : (entropy buffer : List ℕ) → spanned found ≡ true → acceptsEntropy entropy → 28 * frames ≤ length buffer
       → packEntry found entropy frames buffer ≡ toldPacked buffer (packedFrom entropy found)
   packed-is entropy buffer s a r = accepts found entropy frames buffer few (found-is .two-per-frame) (sym a) r s
@@ -70,6 +79,7 @@ module _ (frames : ℕ) (passes : List DecorrPass) (recording : List ℤ) (few :
   read-is entropy buffer behind list s a r n l =
       read-what-was-packed found entropy frames buffer behind list (ap (λ (t : PackTold). t .refusal) (packed-is entropy buffer s a r)) n l
 
+  -- all of it, of these residuals
   demand : Demand3 frames passes recording found
   demand = record {
     a-residual-list = found-is;

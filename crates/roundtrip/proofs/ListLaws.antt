@@ -21,9 +21,11 @@ pub record Copied (from before to : List ℤ) (i : ℕ) : Type 0 where
   pub front : take i to ≡ take i from
   pub fits : (j : ℕ) → j < i → SFits w32 (getD from j (pos 0))
 
+-- none is copied yet
 pub copied-start : (from before : List ℤ) → Copied from before before 0
 copied-start from before = record { here = omega arith; same = refl; front = refl; fits = λ j h. absurd (omega arith) }
 
+-- one more is copied
 pub copied-step : (from before to : List ℤ) (i : ℕ) → i < length from → length from ≡ length before → SFits w32 (getD from i (pos 0)) → Copied from before to i → Copied from before (set to i (getD from i (pos 0))) (i + 1)
 copied-step from before to i h e f c = record {
   here = omega arith;
@@ -43,6 +45,7 @@ all-fit : (l : List ℤ) → ((j : ℕ) → j < length l → SFits w32 (getD l j
 all-fit [] h = tt
 all-fit (x ∷ l) h = (h 0 (omega arith), all-fit l (λ j k. h (suc j) (omega arith)))
 
+-- all are copied
 pub copied-end : (from before to : List ℤ) (i : ℕ) → length from ≤ i → length from ≡ length before → Copied from before to i → CopyIs from to
 copied-end from before to i h e c = record {
   copied = sym (take-all i to (omega (arith, c .same))) ∙ c .front ∙ take-all i from h;
@@ -54,5 +57,6 @@ pub same-step : (a b : List ℤ) (i : ℕ) → i < length a → length a ≡ len
 same-step a b i h e t g =
     rw (add-one i) (take-suc a i (pos 0) h ∙ ap₂ (λ (l : List ℤ) (x : ℤ). l ++ x ∷ []) t g ∙ sym (take-suc b i (pos 0) (omega arith)))
 
+-- two lists are the same in all elements
 pub same-end : (a b : List ℤ) (i : ℕ) → length a ≤ i → length a ≡ length b → take i a ≡ take i b → a ≡ b
 same-end a b i h e t = sym (take-all i a h) ∙ t ∙ take-all i b (omega arith)

@@ -37,10 +37,12 @@ record Made (ps : List DecorrPass) (n : ℕ) (l : List ℤ) : Type 0 where
   size : length l ≤ 262144
   valid : allValid (take n ps) ≡ true
 
+-- an answer tells its number
 number-is : (m : ℕ) (c : Chain) (ps : List DecorrPass) (l : List ℤ) → answerBy m c ps l .refusal ≡ m
 number-is zero c ps l = refl
 number-is (suc m) c ps l = refl
 
+-- an answer without a refusal tells it
 array-made : (ps : List DecorrPass) (n : ℕ) (l : List ℤ) → arrayAnswer true ps n l .refusal ≡ 0 → Made ps n l
 unfolding arrayAnswer analysisNumber
 array-made ps n l e = first (ltb 16 n) refl e
@@ -80,6 +82,7 @@ pub record Ends (bits size : ℕ) : Type 0 where
   pub within : (bits + 7) / 8 ≤ size
   pub few : bits ≤ 29360128
 
+-- so they do where packing accepts
 pub trip-ends : (v : List ℤ) (entropy : List ℕ) (frames : ℕ) (buffer after : List ℕ) (w : PackAnswer) → packToldOf w after ≡ packEntry v entropy frames buffer
     → w .outcome ≡ Outcome.Accepted → Ends (w .bits) (length buffer)
 trip-ends v entropy frames buffer after w k u =
@@ -96,6 +99,7 @@ trip-ends v entropy frames buffer after w k u =
 
 -- ---- the ways out
 
+-- two answers with the same parts are the same
 told-is : (n n′ b b′ : ℕ) (s s′ : Bool) (l l′ : List ℤ) (y y′ : List ℕ) → n ≡ n′ → b ≡ b′ → s ≡ s′ → l ≡ l′ → y ≡ y′
     → _≡_ {A = TripTold} (record { refusal = n; bits = b; same = s; scratch = l; bytes = y }) (record { refusal = n′; bits = b′; same = s′; scratch = l′; bytes = y′ })
 told-is n n′ b b′ s s′ l l′ y y′ p q r t u = rw (p, q, r, t, u)
@@ -111,6 +115,7 @@ unless-refused zero l y t p = absurd (omega arith)
 unless-refused (suc n) l y t p = refl
 
 module _ (ps : List DecorrPass) (n : ℕ) (x : List ℤ) (entropy : List ℕ) (scratch : List ℤ) (buffer : List ℕ) (r : TripAnswer) where
+  -- 6: a scratch list of another length
   pub trip-length : (length scratch ≡ length x → ⊥) → (r .outcome ≡ Outcome.Refused Refusal.ListLength) × (r .bits ≡ 0) × (r .same ≡ false)
       → tripToldOf r scratch buffer ≡ tripEntry ps n x entropy scratch buffer
   unfolding tripEntry
@@ -128,6 +133,7 @@ module _ (ps : List DecorrPass) (n : ℕ) (x : List ℤ) (entropy : List ℕ) (s
   unfolding tripEntry
   by-analysis aps v m h e = rw (eq-eqb (length scratch) (length x) h, e)
 
+  -- what analysis refuses
   pub trip-analysis : (copied : List ℤ) (aps : List DecorrPass) (v : List ℤ) (o : Outcome) (q : Refusal) → length scratch ≡ length x → copied ≡ x
       → record { refusal = outcomeNumber o; passes = aps; buffer = v } ≡ arrayAnswer true ps n copied → o ≡ Outcome.Refused q
       → (r .outcome ≡ o) × (r .bits ≡ 0) × (r .same ≡ false) → tripToldOf r v buffer ≡ tripEntry ps n x entropy scratch buffer
