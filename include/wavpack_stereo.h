@@ -27,10 +27,12 @@ extern "C" {
 #define WV_TRUNCATED 3u        /* a word needs a bit past the end, or a count or prefix value is over its cap */
 #define WV_END_OF_STREAM 4u    /* the second count of a prefix is 33 */
 #define WV_TOO_LARGE 5u        /* over 131,072 frames, over 4,194,304 payload bytes, or over 262,144 elements of a buffer */
-#define WV_LIST_LENGTH 6u      /* a list has fewer elements than slots, `samples` not 2 a frame, or `passes` not 20 a pass */
+#define WV_LIST_LENGTH 6u      /* a list has fewer elements than slots, `samples` or `residuals` not 2 a frame, or `passes` not 20 a pass */
 #define WV_INVALID_TERM 7u     /* a term is none of 1 to 8, 17, 18, -1, -2, -3 */
 #define WV_SEED_TOO_SHORT 8u   /* a seed has fewer samples than the term takes */
 #define WV_TOO_MANY_PASSES 9u  /* over 16 passes */
+#define WV_RESIDUAL_OUT_OF_SPAN 10u /* a residual is below -1,879,048,192 or above 1,879,048,191 */
+#define WV_OUTPUT_TOO_SHORT 11u     /* fewer than 28 bytes a frame are lent */
 #define WV_INVALID_CHANNEL 12u /* next_channel is neither 0 nor 1 */
 
 /* Slots of the lists. */
@@ -43,6 +45,7 @@ extern "C" {
 #define WV_WORD_SAMPLE_SLOTS 1u
 #define WV_WORD_REPORT_SLOTS 2u
 #define WV_PASS_SLOTS 20u
+#define WV_PACK_SLOTS 7u
 
 /* The signed 32-bit value of a log word.
  * value: its value. Refuses WV_LIST_LENGTH. */
@@ -96,6 +99,14 @@ uint32_t wv_decorrelate(int32_t *passes, size_t passes_len, int32_t *buffer, siz
 /* Analysis, the inverse: turns the samples of buffer into the residuals that decorrelate to them, and leaves the passes as
  * decorrelation would. Refuses as `wv_decorrelate` does. */
 uint32_t wv_analyse(int32_t *passes, size_t passes_len, int32_t *buffer, size_t buffer_len);
+/* Packs the residuals of a stereo block: `frames` frames, left then right, 2 times frames residuals, into out, which has at least
+ * 28 bytes a frame. Reading the bytes that hold the bits written, with the same entropy payload and frames, gives the residuals.
+ * out: the packed bytes from the first on; the spare bits of the last one are 0, and bytes behind keep their values.
+ * answer: bits written, left medians 0, 1, 2, right medians 0, 1, 2 after the last word.
+ * Refuses WV_LIST_LENGTH for answer; then WV_TOO_LARGE, WV_LIST_LENGTH for residuals, WV_ENTROPY_LENGTH, WV_NOT_STEREO,
+ * WV_OUTPUT_TOO_SHORT and WV_RESIDUAL_OUT_OF_SPAN, with answer all 0 and out as it was. */
+uint32_t wv_pack(const int32_t *residuals, size_t residuals_len, const uint8_t *entropy, size_t entropy_len, size_t frames,
+                 uint8_t *out, size_t out_len, uint32_t *answer, size_t answer_len);
 
 #ifdef __cplusplus
 }

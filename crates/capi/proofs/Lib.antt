@@ -6,3 +6,4 @@ pub mod WordSlots
 pub mod PassSlotLaws
 pub mod PassCallLaws
 pub mod ListCallLaws
+pub mod PackLaws

@@ -1,11 +1,13 @@
 // The C interface of the decoder: thin functions over the layers below, declared for C in include/wavpack_stereo.h.
 // Each answers a refusal number of document 01, 0 for accepted. Values are laid into the first slots of a lent list; one that
 // has fewer slots is refused with 6, and then nothing is written. Only the passes of a list are copied, into an array of 16.
+pub mod pack;
 pub mod pass_lists;
 pub mod slots;
 pub mod values;
 pub mod words;
 
+pub use crate::pack::wv_pack;
 pub use crate::pass_lists::wv_analyse;
 pub use crate::pass_lists::wv_decorrelate;
 pub use crate::pass_lists::wv_pass;
