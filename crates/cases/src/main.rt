@@ -2,6 +2,7 @@
 // number (0 means accepted) and the values that were answered. What is printed is held to the file `stdout`.
 use answers::outcome_number;
 use libc::STDOUT_FILENO;
+use samples::reading::decode_packed_samples_stereo_from_entropy;
 
 // A number, with a space before it.
 fn print_value(value: i32) {
@@ -21,11 +22,21 @@ fn size(value: i32) -> u64 {
     }
 }
 
-// One case: its name, what it answered and the values.
-fn print_case(name: &[u8], refusal: u32, values: &[i32]) {
+// The name of a case, and the refusal that it answered.
+fn print_case(name: &[u8], refusal: u32) {
     io::write_all(STDOUT_FILENO, name);
     io::write_all(STDOUT_FILENO, b": refusal ");
     io::print_decimal(STDOUT_FILENO, refusal as u64);
+}
+
+// A count, behind what it counts.
+fn print_count(name: &[u8], count: usize) {
+    io::write_all(STDOUT_FILENO, name);
+    io::print_decimal(STDOUT_FILENO, count as u64);
+}
+
+// The values of a case, to the end of its line.
+fn print_values(values: &[i32]) {
     let mut i = 0;
     while i < values.len() {
         print_value(values[i]);
@@ -42,11 +53,36 @@ fn run_entropy(name: &[u8], payload: &[u8]) {
     let left = info.medians_left;
     let right = info.medians_right;
     let values = [left[0], left[1], left[2], right[0], right[1], right[2]];
-    print_case(name, outcome_number(outcome), &values);
+    print_case(name, outcome_number(outcome));
+    print_values(&values);
+}
+
+// One frame of a packed payload whose seed medians are all 1: the bits used, the samples written, and the list, which held 77
+// before.
+fn run_reading(name: &[u8], payload: &[u8]) {
+    let entropy = [0, 1, 0, 1, 0, 1, 0, 1, 0, 1, 0, 1];
+    let mut list = [77, 77];
+    let answer = decode_packed_samples_stereo_from_entropy(&entropy, payload, 1, &mut list);
+    let outcome = answer.outcome;
+    print_case(name, outcome_number(outcome));
+    print_count(b" bits ", answer.bits);
+    print_count(b" written ", answer.written);
+    print_values(&list);
 }
 
 fn main() {
     let payload = [0, 1, 0, 2, 0, 3, 0, 4, 0, 5, 0, 255];
     run_entropy(b"11 entropy bytes", &payload[..11]);
     run_entropy(b"12 entropy bytes", &payload);
+    // A run length of 0, which is one zero; 16 ones and a zero; the second ones, 32 or 33, and a zero; then zeros: 31 bits of the
+    // prefix and the signs of two words.
+    let escape_32 = [254, 255, 253, 255, 255, 255, 3, 0, 0, 0, 0];
+    run_reading(b"escape with 32 second ones", &escape_32);
+    let escape_33 = [254, 255, 253, 255, 255, 255, 7, 0, 0, 0, 0];
+    run_reading(b"escape with 33 second ones", &escape_33);
+    // 32 or 33 ones and a zero, then zeros: 31 bits of the run length.
+    let run_32 = [255, 255, 255, 255, 0, 0, 0, 0];
+    run_reading(b"run of 32 ones", &run_32);
+    let run_33 = [255, 255, 255, 255, 1, 0, 0, 0, 0];
+    run_reading(b"run of 33 ones", &run_33);
 }
