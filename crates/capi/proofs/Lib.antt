@@ -1,4 +1,3 @@
--- What the proofs of several functions use.
 pub mod SlotLaws
 pub mod EntropySlots
 pub mod PlaceLaws
@@ -7,3 +6,4 @@ pub mod PassSlotLaws
 pub mod PassCallLaws
 pub mod ListCallLaws
 pub mod PackLaws
+pub mod Cases
