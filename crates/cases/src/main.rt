@@ -1,6 +1,8 @@
 // Document 01, "Proved cases (*) and others" (C10): the cases that are run only. Each prints a line, what it is, the refusal
 // number (0 means accepted) and the values that were answered. What is printed is held to the file `stdout`.
 use answers::outcome_number;
+use decorrelation::DecorrPass;
+use decorrelation::decorrelate_array;
 use libc::STDOUT_FILENO;
 use samples::reading::decode_packed_samples_stereo_from_entropy;
 
@@ -70,6 +72,24 @@ fn run_reading(name: &[u8], payload: &[u8]) {
     print_values(&list);
 }
 
+// Decorrelation of two frames by `count` passes that are all alike, and the buffer after it.
+fn run_passes(name: &[u8], count: usize) {
+    let pass = DecorrPass {
+        term: 17,
+        delta: 2,
+        weight_a: 256,
+        weight_b: -256,
+        history_a: [0i32; 8],
+        history_b: [0i32; 8],
+    };
+    let passes = [pass; 16];
+    let mut buffer = [1000, -1000, 100, 50];
+    let answer = decorrelate_array(passes, count, &mut buffer);
+    let outcome = answer.outcome;
+    print_case(name, outcome_number(outcome));
+    print_values(&buffer);
+}
+
 fn main() {
     let payload = [0, 1, 0, 2, 0, 3, 0, 4, 0, 5, 0, 255];
     run_entropy(b"11 entropy bytes", &payload[..11]);
@@ -85,4 +105,6 @@ fn main() {
     run_reading(b"run of 32 ones", &run_32);
     let run_33 = [255, 255, 255, 255, 1, 0, 0, 0, 0];
     run_reading(b"run of 33 ones", &run_33);
+    run_passes(b"16 passes", 16);
+    run_passes(b"17 passes", 17);
 }
