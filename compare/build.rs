@@ -5,7 +5,7 @@ use std::path::PathBuf;
 use std::{env, fs};
 
 /// The groups, each with one of its functions.
-const GROUPS: [(&str, &str); 2] = [("passes", "wv_decorrelate"), ("packing", "wv_pack")];
+const GROUPS: [(&str, &str); 1] = [("packing", "wv_pack")];
 
 fn main() {
     println!("cargo::rerun-if-env-changed=CAPI_FOLDER");

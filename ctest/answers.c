@@ -104,6 +104,23 @@ static void reading(void)
     expect("wv_read of a mono payload", wv_read(ones, 6, payload, 2, 1, samples, 2, answer, 8), 2);
 }
 
+static void passes(void)
+{
+    static const int32_t seed_a[2] = {10, 4}, seed_b[2] = {1, -2};
+    int32_t pass[20], again[20], buffer[2] = {1, -1};
+    expect("wv_pass", wv_pass(18, 2, 1024, 1024, seed_a, 2, seed_b, 2, pass, 20), 0);
+    expect("wv_pass of term 9", wv_pass(9, 2, 1024, 1024, seed_a, 2, seed_b, 2, again, 20), 7);
+    expect("wv_pass with one seed", wv_pass(18, 2, 1024, 1024, seed_a, 1, seed_b, 2, again, 20), 8);
+    for (size_t i = 0; i < 20; i++)
+        again[i] = pass[i];
+    expect("wv_decorrelate", wv_decorrelate(pass, 20, buffer, 2), 0);
+    expect_list("samples of term 18", buffer, (const int32_t[]){14, 1}, 2);
+    expect_list("the pass after", pass, (const int32_t[]){18, 2, 1026, 1022, 14, 10, 0, 0, 0, 0, 0, 0, 1, 1}, 14);
+    expect("wv_analyse", wv_analyse(again, 20, buffer, 2), 0);
+    expect_list("residuals of term 18", buffer, (const int32_t[]){1, -1}, 2);
+    expect_list("the pass after analysis", again, pass, 20);
+}
+
 int main(void)
 {
     log_words();
@@ -111,6 +128,7 @@ int main(void)
     entropy();
     one_word();
     reading();
+    passes();
     if (failures == 0)
         puts("ctest: every answer is the expected one");
     return failures != 0;

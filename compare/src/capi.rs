@@ -16,14 +16,11 @@ unsafe extern "C" {
         entropy: *const u8, entropy_len: usize, payload: *const u8, payload_len: usize, frames: usize,
         samples: *mut i32, samples_len: usize, answer: *mut u32, answer_len: usize,
     ) -> u32;
-    #[cfg(passes)]
     fn wv_pass(
         term: i8, delta: i32, weight_a: i32, weight_b: i32, seed_a: *const i32, seed_a_len: usize,
         seed_b: *const i32, seed_b_len: usize, pass: *mut i32, pass_len: usize,
     ) -> u32;
-    #[cfg(passes)]
     fn wv_decorrelate(passes: *mut i32, passes_len: usize, buffer: *mut i32, buffer_len: usize) -> u32;
-    #[cfg(passes)]
     fn wv_analyse(passes: *mut i32, passes_len: usize, buffer: *mut i32, buffer_len: usize) -> u32;
     #[cfg(packing)]
     fn wv_pack(
@@ -69,7 +66,6 @@ pub fn read(entropy: &[u8], payload: &[u8], frames: usize, samples: &mut [i32], 
 }
 
 /// `numbers` are delta, weight A and weight B.
-#[cfg(passes)]
 #[rustfmt::skip]
 pub fn pass(term: i8, numbers: [i32; 3], seed_a: &[i32], seed_b: &[i32], pass: &mut [i32]) -> u32 {
     unsafe {
@@ -80,12 +76,10 @@ pub fn pass(term: i8, numbers: [i32; 3], seed_a: &[i32], seed_b: &[i32], pass: &
     }
 }
 
-#[cfg(passes)]
 pub fn decorrelate(passes: &mut [i32], buffer: &mut [i32]) -> u32 {
     unsafe { wv_decorrelate(passes.as_mut_ptr(), passes.len(), buffer.as_mut_ptr(), buffer.len()) }
 }
 
-#[cfg(passes)]
 pub fn analyse(passes: &mut [i32], buffer: &mut [i32]) -> u32 {
     unsafe { wv_analyse(passes.as_mut_ptr(), passes.len(), buffer.as_mut_ptr(), buffer.len()) }
 }

@@ -9,14 +9,12 @@ mod case;
 mod fields;
 mod kinds;
 mod lent;
-#[cfg(passes)]
 mod numbers;
 mod payloads;
 mod random;
 mod store;
 #[cfg(packing)]
 mod their_packing;
-#[cfg(passes)]
 mod their_passes;
 mod theirs;
 

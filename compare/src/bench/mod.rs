@@ -8,7 +8,6 @@ use std::time::{Duration, Instant};
 
 #[cfg(packing)]
 mod packing;
-#[cfg(passes)]
 mod passes;
 mod reading;
 
@@ -36,7 +35,6 @@ pub fn run(seed: u64) {
     let random = &mut Random::new(seed);
     let sounds = reading::sounds(random);
     reading::run(&sounds);
-    #[cfg(passes)]
     passes::run(random);
     #[cfg(packing)]
     packing::run(&sounds);

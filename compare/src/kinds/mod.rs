@@ -3,13 +3,11 @@ use crate::case::{Failed, Run};
 
 pub mod entropy;
 mod log_words;
-#[cfg(passes)]
 mod making;
 #[cfg(packing)]
 mod packs;
 mod pass_bytes;
-#[cfg(passes)]
-mod passes;
+pub mod passes;
 mod reads;
 pub mod words;
 
@@ -24,9 +22,7 @@ pub const KINDS: &[Kind] = &[
     ("entropy payloads", entropy::run),
     ("words", words::run),
     ("readings", reads::run),
-    #[cfg(passes)]
     ("pass making", making::run),
-    #[cfg(passes)]
     ("decorrelation and analysis", passes::run),
     #[cfg(packing)]
     ("packing", packs::run),
@@ -34,8 +30,6 @@ pub const KINDS: &[Kind] = &[
 
 /// What the library does not have yet.
 pub const MISSING: &[&str] = &[
-    #[cfg(not(passes))]
-    "passes",
     #[cfg(not(packing))]
     "packing",
 ];

@@ -76,7 +76,7 @@ fn pass(random: &mut Random, term: i8) -> Pass {
 }
 
 /// A buffer of sound, or of any numbers.
-fn buffer(random: &mut Random, length: usize) -> Vec<i32> {
+pub fn buffer(random: &mut Random, length: usize) -> Vec<i32> {
     match random.below(3) {
         0 => (0..length).map(|_| random.below(65_536) as i32 - 32_768).collect(),
         1 => (0..length).map(|_| random.pick(&[0, 0, 1, -1, 5, i32::MIN, i32::MAX])).collect(),
@@ -85,7 +85,7 @@ fn buffer(random: &mut Random, length: usize) -> Vec<i32> {
 }
 
 /// A list of passes, at times with a term that is not valid.
-fn list(random: &mut Random, count: usize) -> Vec<Pass> {
+pub fn list(random: &mut Random, count: usize) -> Vec<Pass> {
     let mut out = Vec::new();
     for _ in 0..count {
         let term = random.pick(&TERMS);

@@ -6,19 +6,22 @@ use std::path::PathBuf;
 use std::{fs, io};
 
 mod bytes;
+mod passes;
 mod words;
 
 /// The seed of the inputs that are not exhaustive.
 const SEED: u64 = 1;
 
 /// Every file: its name, and what it holds.
-const FILES: [(&str, fn() -> Records); 6] = [
+const FILES: [(&str, fn() -> Records); 8] = [
     ("log_words.bin", bytes::log_words),
     ("term_bytes.bin", bytes::term_bytes),
     ("weight_bytes.bin", bytes::weight_bytes),
     ("entropy.bin", bytes::entropy),
     ("words.bin", words::words),
     ("readings.bin", words::readings),
+    ("pass_making.bin", passes::making),
+    ("passes.bin", passes::runs),
 ];
 
 /// Records as they are laid into a file.

@@ -2,6 +2,7 @@
 use crate::numbers::holds_signed;
 use crate::numbers::number_at;
 use crate::numbers::part;
+use crate::passes;
 use crate::words;
 
 // What a file holds.
@@ -12,6 +13,8 @@ pub enum Kind {
     Entropy,
     Words,
     Readings,
+    PassMaking,
+    Passes,
 }
 
 // What became of the next record.
@@ -34,6 +37,8 @@ pub fn next(kind: Kind, fd: i32, record: u32) -> Step {
         Kind::Entropy => next_entropy(fd),
         Kind::Words => next_word(fd),
         Kind::Readings => next_reading(fd),
+        Kind::PassMaking => next_making(fd),
+        Kind::Passes => next_passes(fd),
     }
 }
 
@@ -113,4 +118,20 @@ fn next_reading(fd: i32) -> Step {
         return Step::End;
     }
     told(words::reading_agrees(&record))
+}
+
+fn next_making(fd: i32) -> Step {
+    let mut record = [0u8; 180];
+    if io::read_full(fd, &mut record) < 180 {
+        return Step::End;
+    }
+    told(passes::making_agrees(&record))
+}
+
+fn next_passes(fd: i32) -> Step {
+    let mut record = [0u8; 848];
+    if io::read_full(fd, &mut record) < 848 {
+        return Step::End;
+    }
+    told(passes::passes_agree(&record))
 }

@@ -2,6 +2,7 @@
 // functions, and prints for each kind how many there are and how many agree.
 mod kinds;
 mod numbers;
+mod passes;
 mod words;
 
 use kinds::Kind;
@@ -57,4 +58,6 @@ fn main() {
     replay_file(Kind::Entropy, b"entropy.bin");
     replay_file(Kind::Words, b"words.bin");
     replay_file(Kind::Readings, b"readings.bin");
+    replay_file(Kind::PassMaking, b"pass_making.bin");
+    replay_file(Kind::Passes, b"passes.bin");
 }

@@ -55,6 +55,15 @@ pub fn load(record: &[u8], list: &mut [u32]) {
     }
 }
 
+// Fills a list with the signed numbers of a record.
+pub fn load_signed(record: &[u8], list: &mut [i32]) {
+    let mut i = 0;
+    while i < list.len() {
+        list[i] = signed_at(record, i);
+        i += 1;
+    }
+}
+
 // The first bytes of a list, all of them where it has fewer.
 pub fn part(bytes: &[u8], length: u32) -> &[u8] {
     let count = length as usize;
@@ -62,4 +71,13 @@ pub fn part(bytes: &[u8], length: u32) -> &[u8] {
         return &bytes[..count];
     }
     bytes
+}
+
+// The first numbers of a list, all of them where it has fewer.
+pub fn part_signed(list: &[i32], length: u32) -> &[i32] {
+    let count = length as usize;
+    if count < list.len() {
+        return &list[..count];
+    }
+    list
 }
