@@ -121,6 +121,20 @@ static void passes(void)
     expect_list("the pass after analysis", again, pass, 20);
 }
 
+static void packing(void)
+{
+    static const int32_t residuals[2] = {3, -1};
+    uint8_t out[29] = {0};
+    uint32_t answer[7];
+    out[2] = 77;
+    expect("wv_pack", wv_pack(residuals, 2, ones, 12, 1, out, 28, answer, 7), 0);
+    expect("the bits of packing", answer[0], 10);
+    expect("a packed byte", out[0], 0x7e);
+    expect("a packed byte", out[1], 0x02);
+    expect("the byte behind", out[2], 77);
+    expect("wv_pack into 27 bytes", wv_pack(residuals, 2, ones, 12, 1, out, 27, answer, 7), 11);
+}
+
 int main(void)
 {
     log_words();
@@ -129,6 +143,7 @@ int main(void)
     one_word();
     reading();
     passes();
+    packing();
     if (failures == 0)
         puts("ctest: every answer is the expected one");
     return failures != 0;

@@ -22,7 +22,6 @@ unsafe extern "C" {
     ) -> u32;
     fn wv_decorrelate(passes: *mut i32, passes_len: usize, buffer: *mut i32, buffer_len: usize) -> u32;
     fn wv_analyse(passes: *mut i32, passes_len: usize, buffer: *mut i32, buffer_len: usize) -> u32;
-    #[cfg(packing)]
     fn wv_pack(
         residuals: *const i32, residuals_len: usize, entropy: *const u8, entropy_len: usize, frames: usize,
         out: *mut u8, out_len: usize, answer: *mut u32, answer_len: usize,
@@ -84,7 +83,6 @@ pub fn analyse(passes: &mut [i32], buffer: &mut [i32]) -> u32 {
     unsafe { wv_analyse(passes.as_mut_ptr(), passes.len(), buffer.as_mut_ptr(), buffer.len()) }
 }
 
-#[cfg(packing)]
 #[rustfmt::skip]
 pub fn pack(residuals: &[i32], entropy: &[u8], frames: usize, out: &mut [u8], answer: &mut [u32]) -> u32 {
     unsafe {

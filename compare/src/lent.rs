@@ -22,7 +22,6 @@ impl Cell for u32 {
     }
 }
 
-#[cfg(packing)]
 impl Cell for u8 {
     fn mark(place: usize) -> u8 {
         u32::mark(place).to_le_bytes()[3]

@@ -13,7 +13,6 @@ mod numbers;
 mod payloads;
 mod random;
 mod store;
-#[cfg(packing)]
 mod their_packing;
 mod their_passes;
 mod theirs;
@@ -37,9 +36,6 @@ fn compare(seed: u64, scale: usize) -> Result<(), Failed> {
         let seconds = began.elapsed().as_secs_f64();
         println!("compare: {name}: {agreed} agree, by refusal number {} ({seconds:.1} s)", refusals.join(", "));
         total += agreed;
-    }
-    for group in kinds::MISSING {
-        println!("compare: the library has no {group} yet: not compared");
     }
     if let Some(name) = store::stale() {
         println!("DIFFERENCE crates/replay/data/{name} is not what the Rust answers");

@@ -6,7 +6,6 @@ use crate::random::Random;
 use crate::theirs::MAX_FRAMES;
 use std::time::{Duration, Instant};
 
-#[cfg(packing)]
 mod packing;
 mod passes;
 mod reading;
@@ -36,6 +35,5 @@ pub fn run(seed: u64) {
     let sounds = reading::sounds(random);
     reading::run(&sounds);
     passes::run(random);
-    #[cfg(packing)]
     packing::run(&sounds);
 }

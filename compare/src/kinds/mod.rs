@@ -4,8 +4,7 @@ use crate::case::{Failed, Run};
 pub mod entropy;
 mod log_words;
 mod making;
-#[cfg(packing)]
-mod packs;
+pub mod packs;
 mod pass_bytes;
 pub mod passes;
 mod reads;
@@ -24,12 +23,5 @@ pub const KINDS: &[Kind] = &[
     ("readings", reads::run),
     ("pass making", making::run),
     ("decorrelation and analysis", passes::run),
-    #[cfg(packing)]
     ("packing", packs::run),
-];
-
-/// What the library does not have yet.
-pub const MISSING: &[&str] = &[
-    #[cfg(not(packing))]
-    "packing",
 ];

@@ -68,7 +68,7 @@ fn whole_pack(residuals: Vec<i32>, entropy: Vec<u8>) -> Pack {
 }
 
 /// Residuals of one or of changing loudness, at times at the ends of the span.
-fn list(random: &mut Random, count: usize) -> Vec<i32> {
+pub fn list(random: &mut Random, count: usize) -> Vec<i32> {
     let (bits, silence) = (random.below(31) as u32, random.pick(&[0, 5, 50]));
     let mut out = residuals(random, count, bits, silence);
     for value in &mut out {

@@ -6,6 +6,7 @@ use std::path::PathBuf;
 use std::{fs, io};
 
 mod bytes;
+mod packs;
 mod passes;
 mod words;
 
@@ -13,7 +14,7 @@ mod words;
 const SEED: u64 = 1;
 
 /// Every file: its name, and what it holds.
-const FILES: [(&str, fn() -> Records); 8] = [
+const FILES: [(&str, fn() -> Records); 9] = [
     ("log_words.bin", bytes::log_words),
     ("term_bytes.bin", bytes::term_bytes),
     ("weight_bytes.bin", bytes::weight_bytes),
@@ -22,6 +23,7 @@ const FILES: [(&str, fn() -> Records); 8] = [
     ("readings.bin", words::readings),
     ("pass_making.bin", passes::making),
     ("passes.bin", passes::runs),
+    ("packings.bin", packs::packs),
 ];
 
 /// Records as they are laid into a file.

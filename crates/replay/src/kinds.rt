@@ -2,6 +2,7 @@
 use crate::numbers::holds_signed;
 use crate::numbers::number_at;
 use crate::numbers::part;
+use crate::packs;
 use crate::passes;
 use crate::words;
 
@@ -15,6 +16,7 @@ pub enum Kind {
     Readings,
     PassMaking,
     Passes,
+    Packings,
 }
 
 // What became of the next record.
@@ -39,6 +41,7 @@ pub fn next(kind: Kind, fd: i32, record: u32) -> Step {
         Kind::Readings => next_reading(fd),
         Kind::PassMaking => next_making(fd),
         Kind::Passes => next_passes(fd),
+        Kind::Packings => next_packing(fd),
     }
 }
 
@@ -134,4 +137,12 @@ fn next_passes(fd: i32) -> Step {
         return Step::End;
     }
     told(passes::passes_agree(&record))
+}
+
+fn next_packing(fd: i32) -> Step {
+    let mut record = [0u8; 336];
+    if io::read_full(fd, &mut record) < 336 {
+        return Step::End;
+    }
+    told(packs::packing_agrees(&record))
 }

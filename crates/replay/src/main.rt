@@ -2,6 +2,7 @@
 // functions, and prints for each kind how many there are and how many agree.
 mod kinds;
 mod numbers;
+mod packs;
 mod passes;
 mod words;
 
@@ -60,4 +61,5 @@ fn main() {
     replay_file(Kind::Readings, b"readings.bin");
     replay_file(Kind::PassMaking, b"pass_making.bin");
     replay_file(Kind::Passes, b"passes.bin");
+    replay_file(Kind::Packings, b"packings.bin");
 }

@@ -46,6 +46,21 @@ pub fn holds(record: &[u8], list: &[u32]) -> bool {
     true
 }
 
+// Whether the bytes of a record are those of a list.
+pub fn holds_bytes(record: &[u8], list: &[u8]) -> bool {
+    if record.len() < list.len() {
+        return false;
+    }
+    let mut i = 0;
+    while i < list.len() {
+        if record[i] != list[i] {
+            return false;
+        }
+        i += 1;
+    }
+    true
+}
+
 // Fills a list with the numbers of a record.
 pub fn load(record: &[u8], list: &mut [u32]) {
     let mut i = 0;
