@@ -1,6 +1,6 @@
 #!/bin/sh
-# Runs every test: the proofs and programs from nothing, the C program over the proved library, and the comparison
-# with the published Rust. The last line is that of `rt ci` when all of them pass.
+# Runs every test: the proofs and programs from nothing, the C program and the Rust bindings over the proved library, and
+# the comparison with the published Rust. The last line is that of `rt ci` when all of them pass.
 #
 # The published Rust is looked for in ../shared/docs/src/src, or in the folder that WAVPACK_REFERENCE names. Where it
 # is missing the comparison is skipped with a message; with CI=true a missing reference is a failure.
@@ -27,6 +27,8 @@ library=target/staticlib
 
 "${CC:-cc}" -std=c11 -Wall -Wextra -Werror -Iinclude ctest/answers.c "$library/libcapi.a" -o target/ctest || fail 'the C program does not build'
 target/ctest || fail 'the C program'
+
+cargo test --quiet --offline --locked --manifest-path bindings/rust/Cargo.toml || fail 'the Rust bindings'
 
 reference=${WAVPACK_REFERENCE:-../shared/docs/src/src}
 if [ -d "$reference" ]; then

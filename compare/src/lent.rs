@@ -1,12 +1,13 @@
 //! Lists that are lent to the library, with marks inside and around them, so that every write shows.
 use crate::case::same_list;
 use std::fmt::Debug;
+use wavpack_stereo::Pass;
 
 /// How many marked cells stand before a list and behind it.
 const MARGIN: usize = 8;
 
-/// What a list may hold: a kind of number with a mark for each place.
-pub trait Cell: Copy + PartialEq + Debug {
+/// What a list may hold: numbers or passes, with a mark for each place.
+pub trait Cell: Clone + PartialEq + Debug {
     fn mark(place: usize) -> Self;
 }
 
@@ -28,6 +29,12 @@ impl Cell for u8 {
     }
 }
 
+impl Cell for Pass {
+    fn mark(place: usize) -> Pass {
+        Pass::from_slots(std::array::from_fn(|slot| i32::mark(Pass::SLOTS * place + slot)))
+    }
+}
+
 /// A list to lend, and what it held when it was made.
 pub struct Lent<T> {
     cells: Vec<T>,
@@ -44,8 +51,8 @@ impl<T: Cell> Lent<T> {
     /// A list that holds `values`.
     pub fn holding(values: &[T]) -> Lent<T> {
         let mut lent = Lent::marked(values.len());
-        lent.cells[MARGIN..MARGIN + values.len()].copy_from_slice(values);
-        lent.made.copy_from_slice(&lent.cells);
+        lent.cells[MARGIN..MARGIN + values.len()].clone_from_slice(values);
+        lent.made.clone_from_slice(&lent.cells);
         lent
     }
 

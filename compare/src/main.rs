@@ -4,12 +4,12 @@
 //! as many. The seed is printed; the same seed gives the same inputs. `compare store` writes the answers of the
 //! published Rust that the program `replay` carries. `compare bench` prints a table of both sides' speed.
 mod bench;
-mod capi;
 mod case;
 mod fields;
 mod kinds;
 mod lent;
 mod numbers;
+mod ours;
 mod payloads;
 mod random;
 mod store;

@@ -1,10 +1,11 @@
 //! Decorrelation and analysis of the largest number of frames: each term alone, five passes and sixteen.
 use super::{row, timed};
-use crate::capi;
+use crate::ours;
 use crate::random::Random;
 use crate::their_passes::{Pass, TERMS, made};
 use crate::theirs::MAX_FRAMES;
 use reference::decorrelation::{DecorrPass, decorrelate_stereo, recorrelate_stereo};
+use wavpack_stereo::{analyse, decorrelate};
 
 fn pass(random: &mut Random, term: i8) -> Pass {
     let mut pass: Pass = std::array::from_fn(|_| random.below(65_536) as i32 - 32_768);
@@ -13,19 +14,19 @@ fn pass(random: &mut Random, term: i8) -> Pass {
     pass
 }
 
-fn turn(name: &str, analyse: bool, passes: &[Pass], buffer: &[i32]) {
+fn turn(name: &str, back: bool, passes: &[Pass], buffer: &[i32]) {
     let theirs_made: Vec<DecorrPass> = passes.iter().map(made).collect();
-    let ours_way = if analyse { capi::analyse } else { capi::decorrelate };
-    let their_way = if analyse { recorrelate_stereo } else { decorrelate_stereo };
+    let ours_way = if back { analyse } else { decorrelate };
+    let their_way = if back { recorrelate_stereo } else { decorrelate_stereo };
     let mut expected = buffer.to_vec();
     their_way(&mut theirs_made.clone(), &mut expected).unwrap();
     let mut ours_out = buffer.to_vec();
     let mut their_out = buffer.to_vec();
     let ours = || {
-        let mut flat = passes.concat();
+        let mut list = ours::passes(passes);
         ours_out.copy_from_slice(buffer);
-        let (time, refusal) = timed(|| ours_way(&mut flat, &mut ours_out));
-        assert!(refusal == 0 && ours_out == expected, "{name}: the outputs differ");
+        let (time, ()) = timed(|| ours_way(&mut list, &mut ours_out).unwrap());
+        assert!(ours_out == expected, "{name}: the outputs differ");
         time
     };
     let theirs = || {
@@ -40,13 +41,13 @@ pub fn run(random: &mut Random) {
     let buffer: Vec<i32> = (0..2 * MAX_FRAMES).map(|_| (random.next() as i32) >> 16).collect();
     let usual: [i8; 5] = [18, 18, 2, 17, 3];
     let sixteen: Vec<i8> = TERMS.iter().copied().chain([18, 17, 2]).collect();
-    for (what, analyse) in [("decorrelation", false), ("analysis", true)] {
+    for (what, back) in [("decorrelation", false), ("analysis", true)] {
         for term in TERMS {
-            turn(&format!("{what}, term {term}"), analyse, &[pass(random, term)], &buffer);
+            turn(&format!("{what}, term {term}"), back, &[pass(random, term)], &buffer);
         }
         for terms in [&usual[..], &sixteen] {
             let list: Vec<Pass> = terms.iter().map(|&term| pass(random, term)).collect();
-            turn(&format!("{what}, {} passes", list.len()), analyse, &list, &buffer);
+            turn(&format!("{what}, {} passes", list.len()), back, &list, &buffer);
         }
     }
 }

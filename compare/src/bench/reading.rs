@@ -1,6 +1,5 @@
 //! Reading of the largest number of frames. The Rust allocates the list that it answers, ours fills a lent one.
 use super::{row, timed};
-use crate::capi;
 use crate::payloads::{entropy_of, residuals};
 use crate::random::Random;
 use crate::theirs::MAX_FRAMES;
@@ -41,8 +40,8 @@ fn read(name: &str, entropy: &[u8], payload: &[u8], expected: &[i32]) {
     let mut samples = vec![0; 2 * MAX_FRAMES];
     let ours = || {
         samples.fill(0x5a);
-        let (time, refusal) = timed(|| capi::read(entropy, payload, MAX_FRAMES, &mut samples, &mut [0; 8]));
-        assert!(refusal == 0 && samples == expected, "{name}: ours reads something else");
+        let (time, _) = timed(|| wavpack_stereo::read(entropy, payload, MAX_FRAMES, &mut samples).unwrap());
+        assert!(samples == expected, "{name}: ours reads something else");
         time
     };
     let theirs = || {

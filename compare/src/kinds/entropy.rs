@@ -1,7 +1,7 @@
 //! Entropy payloads of every length from 0 to 16, with random words and words at the ends of each rule.
-use crate::capi;
 use crate::case::{Case, Failed, Run, Smaller, plainer, same, shorter};
 use crate::lent::Lent;
+use crate::ours;
 use crate::random::Random;
 use reference::entropy::expand_entropy;
 
@@ -20,7 +20,7 @@ struct Entropy {
 impl Case for Entropy {
     fn compare(&self) -> Result<u32, String> {
         let mut medians = Lent::marked(self.slots);
-        let refusal = capi::entropy(&self.payload, medians.list());
+        let refusal = ours::entropy(&self.payload, medians.list());
         let theirs = if self.slots < 6 { Err(6) } else { expand_entropy(&self.payload).map_err(|_| 1) };
         match theirs {
             Ok(info) => {

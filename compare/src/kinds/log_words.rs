@@ -1,7 +1,7 @@
 //! All 65,536 log words, each into lists of 0 to 2 values.
-use crate::capi;
 use crate::case::{Case, Failed, Run, Smaller, same};
 use crate::lent::Lent;
+use crate::ours;
 use reference::logpack::expand_log_word;
 
 #[derive(Clone, Debug)]
@@ -13,7 +13,7 @@ struct LogWord {
 impl Case for LogWord {
     fn compare(&self) -> Result<u32, String> {
         let mut value = Lent::marked(self.slots);
-        let refusal = capi::log_word(self.word, value.list());
+        let refusal = ours::log_word(self.word, value.list());
         if self.slots < 1 {
             same("refusal", &refusal, &6)?;
             value.kept("value")?;

@@ -1,8 +1,8 @@
 //! Pass making: every term of 8 bits with seeds of every length from 0 to 9 for both channels.
-use crate::capi;
 use crate::case::{Case, Failed, Run, Smaller, plainer, same, shorter};
 use crate::lent::Lent;
 use crate::numbers;
+use crate::ours;
 use crate::their_passes::{self, TERMS};
 
 #[derive(Clone, Debug)]
@@ -18,7 +18,7 @@ struct Making {
 impl Case for Making {
     fn compare(&self) -> Result<u32, String> {
         let mut pass = Lent::marked(self.slots);
-        let refusal = capi::pass(self.term, self.numbers, &self.seed_a, &self.seed_b, pass.list());
+        let refusal = ours::pass(self.term, self.numbers, &self.seed_a, &self.seed_b, pass.list());
         let theirs = their_passes::pass(self.term, self.numbers, &self.seed_a, &self.seed_b);
         match if self.slots < 20 { Err(6) } else { theirs } {
             Ok(numbers) => {

@@ -1,7 +1,7 @@
 //! Packing: residuals of every loudness under every kind of entropy payload, at the ends of the span, short and largest.
-use crate::capi;
 use crate::case::{Case, Failed, Run, Smaller, plainer, same, shorter};
 use crate::lent::Lent;
+use crate::ours;
 use crate::payloads::{entropy, entropy_of, residuals};
 use crate::random::Random;
 use crate::their_packing::{self, SPAN};
@@ -29,7 +29,7 @@ impl fmt::Debug for Pack {
 impl Case for Pack {
     fn compare(&self) -> Result<u32, String> {
         let (mut out, mut answer) = (Lent::marked(self.room), Lent::marked(self.slots));
-        let refusal = capi::pack(&self.residuals, &self.entropy, self.frames, out.list(), answer.list());
+        let refusal = ours::pack(&self.residuals, &self.entropy, self.frames, out.list(), answer.list());
         if self.slots < 7 {
             same("refusal", &refusal, &6)?;
             out.kept("out")?;

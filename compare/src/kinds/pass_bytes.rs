@@ -1,7 +1,7 @@
 //! All 256 term bytes and all 256 weight bytes, each into lists of 0 to one more than is written.
-use crate::capi;
 use crate::case::{Case, Failed, Run, Smaller, same};
 use crate::lent::Lent;
+use crate::ours;
 use reference::decorrelation::{decode_term_byte, expand_weights};
 
 /// A byte of either kind: what our function and the Rust's answer for it.
@@ -15,8 +15,8 @@ struct PassByte {
 impl PassByte {
     fn ours(&self, out: &mut [i32]) -> u32 {
         match self.what {
-            "term" => capi::term_byte(self.byte, out),
-            _ => capi::weight_byte(self.byte, out),
+            "term" => ours::term_byte(self.byte, out),
+            _ => ours::weight_byte(self.byte, out),
         }
     }
 

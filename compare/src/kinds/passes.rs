@@ -1,10 +1,11 @@
 //! Decorrelation and analysis: all terms, lists of 0 to 17 passes, numbers at the ends of 32 bits, the largest buffers.
-use crate::capi;
 use crate::case::{Case, Failed, Run, Smaller, plainer, same, shorter};
 use crate::lent::Lent;
 use crate::numbers;
+use crate::ours;
 use crate::random::Random;
 use crate::their_passes::{self, MAX_ELEMENTS, Pass, TERMS};
+use wavpack_stereo::{analyse, decorrelate, ffi};
 
 #[derive(Clone, Debug)]
 struct Passes {
@@ -15,18 +16,34 @@ struct Passes {
     buffer: Vec<i32>,
 }
 
-impl Case for Passes {
-    fn compare(&self) -> Result<u32, String> {
+impl Passes {
+    /// A list that holds a part of a pass, which only the C interface can be given.
+    fn refuses_the_rest(&self) -> Result<u32, String> {
         let mut passes = Lent::holding(&[self.passes.concat(), vec![1; self.rest]].concat());
         let mut buffer = Lent::holding(&self.buffer);
-        let ours = if self.analyse { capi::analyse } else { capi::decorrelate };
+        let ours = if self.analyse { ffi::analyse } else { ffi::decorrelate };
         let refusal = ours(passes.list(), buffer.list());
-        let theirs = their_passes::run(self.analyse, &self.passes, &self.buffer);
-        match if self.rest > 0 { Err(6) } else { theirs } {
+        same("refusal", &refusal, &6)?;
+        buffer.kept("buffer")?;
+        passes.kept("passes")?;
+        Ok(refusal)
+    }
+}
+
+impl Case for Passes {
+    fn compare(&self) -> Result<u32, String> {
+        if self.rest > 0 {
+            return self.refuses_the_rest();
+        }
+        let mut passes = Lent::holding(&ours::passes(&self.passes));
+        let mut buffer = Lent::holding(&self.buffer);
+        let ours = if self.analyse { analyse } else { decorrelate };
+        let refusal = ours::number(ours(passes.list(), buffer.list()));
+        match their_passes::run(self.analyse, &self.passes, &self.buffer) {
             Ok((after, turned)) => {
                 same("refusal", &refusal, &0)?;
                 buffer.written("buffer", &turned)?;
-                passes.written("passes", &after.concat())?;
+                passes.written("passes", &ours::passes(&after))?;
             }
             Err(number) => {
                 same("refusal", &refusal, &number)?;

@@ -1,8 +1,8 @@
 //! Whole readings: every payload of up to 2 bytes, random, damaged and cut payloads, and the largest sizes.
-use crate::capi;
 use crate::case::{Case, Failed, Run, Smaller, plainer, same, shorter};
 use crate::fields;
 use crate::lent::Lent;
+use crate::ours;
 use crate::payloads::{encoded, entropy, entropy_of, residuals};
 use crate::theirs::{self, MAX_BYTES, MAX_FRAMES};
 use reference::entropy::expand_entropy;
@@ -30,7 +30,7 @@ impl fmt::Debug for Read {
 impl Case for Read {
     fn compare(&self) -> Result<u32, String> {
         let (mut samples, mut answer) = (Lent::marked(self.length), Lent::marked(self.slots));
-        let refusal = capi::read(&self.entropy, &self.payload, self.frames, samples.list(), answer.list());
+        let refusal = ours::read(&self.entropy, &self.payload, self.frames, samples.list(), answer.list());
         if self.slots < 8 {
             same("refusal", &refusal, &6)?;
             samples.kept("samples")?;

@@ -1,8 +1,8 @@
 //! One word at a time, from any state: every payload of up to 2 bytes, words cut at every bit, counts around each cap.
-use crate::capi;
 use crate::case::{Case, Failed, Run, Smaller, plainer, same, shorter};
 use crate::fields::{self, Bits};
 use crate::lent::Lent;
+use crate::ours;
 use crate::random::Random;
 use crate::theirs::{self, MAX_BYTES, State};
 
@@ -22,7 +22,7 @@ impl Case for Word {
         let held = [&self.state[..], &[77; 2]].concat();
         let mut state = Lent::holding(&held[..self.slots[0]]);
         let (mut sample, mut report) = (Lent::marked(self.slots[1]), Lent::marked(self.slots[2]));
-        let refusal = capi::word(&self.payload, state.list(), sample.list(), report.list());
+        let refusal = ours::word(&self.payload, state.list(), sample.list(), report.list());
         if (0..3).any(|i| self.slots[i] < SLOTS[i]) {
             same("refusal", &refusal, &6)?;
             state.kept("state")?;

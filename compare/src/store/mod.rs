@@ -13,8 +13,10 @@ mod words;
 /// The seed of the inputs that are not exhaustive.
 const SEED: u64 = 1;
 
-/// Every file: its name, and what it holds.
-const FILES: [(&str, fn() -> Records); 9] = [
+/// A file: its name, and what it holds.
+type File = (&'static str, fn() -> Records);
+
+const FILES: [File; 9] = [
     ("log_words.bin", bytes::log_words),
     ("term_bytes.bin", bytes::term_bytes),
     ("weight_bytes.bin", bytes::weight_bytes),

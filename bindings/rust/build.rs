@@ -7,9 +7,13 @@ fn main() {
     let here = PathBuf::from(env::var("CARGO_MANIFEST_DIR").unwrap());
     let folder = match env::var("CAPI_FOLDER") {
         Ok(named) => PathBuf::from(named),
-        Err(_) => here.join("../target/staticlib"),
+        Err(_) => here.join("../../target/staticlib"),
     };
-    println!("cargo::rerun-if-changed={}", folder.join("libcapi.a").display());
+    let archive = folder.join("libcapi.a");
+    if !archive.exists() {
+        println!("cargo::warning={} is missing: `rt staticlib capi` writes it", archive.display());
+    }
+    println!("cargo::rerun-if-changed={}", archive.display());
     println!("cargo::rustc-link-search=native={}", folder.display());
     println!("cargo::rustc-link-lib=static=capi");
 }

@@ -1,0 +1,35 @@
+//! The proved decoder and writer of stereo WavPack recordings, for greenhouse controllers in Rust.
+//!
+//! Thin and safe functions over the archive `libcapi.a`: each hands its slices to the C interface and gives the answer
+//! named types. Nothing is copied but a word's state, nothing is allocated, and no state is kept between calls.
+//!
+//! Decoding: [`read`] turns a packed payload into residuals, and [`decorrelate`] these into samples by the passes that
+//! [`Pass::new`] makes from the [`term_byte`], the [`weight_byte`]s and seeds, which are [`log_word`]s. Writing is the
+//! way back: [`analyse`], then [`pack`]. [`word`] reads one word at a time, for a controller that follows a recording
+//! as it comes in.
+//!
+//! Every function tests its input itself and ends on every input. What it does not take it refuses with a [`Refusal`],
+//! and then the lists that it was lent are as they were; only a reading that a word ends has written the samples before
+//! it ([`ReadError`]).
+#![no_std]
+#![warn(missing_docs)]
+#![deny(unsafe_code)]
+
+#[allow(unsafe_code)]
+pub mod ffi;
+mod packing;
+mod passes;
+mod reading;
+mod refusal;
+mod values;
+mod words;
+
+pub use packing::{BYTES_PER_FRAME, Packed, pack};
+pub use passes::{MAX_ELEMENTS, MAX_PASSES, Pass, analyse, decorrelate};
+pub use reading::{MAX_FRAMES, MAX_PAYLOAD_BYTES, ReadError, Reading, read};
+pub use refusal::Refusal;
+pub use values::{TermByte, entropy, log_word, term_byte, weight_byte};
+pub use words::{Word, WordState, Zone, word};
+
+/// Three numbers for the left channel, then three for the right one.
+pub type Medians<T = u32> = [[T; 3]; 2];

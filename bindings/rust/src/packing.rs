@@ -1,0 +1,45 @@
+//! Packing residuals.
+use crate::{Medians, Refusal, ffi};
+
+/// How many bytes packing wants to be lent for each frame; it may use fewer.
+pub const BYTES_PER_FRAME: usize = 28;
+
+/// What a packing tells.
+#[derive(Clone, Copy, Debug, Default, PartialEq, Eq, Hash)]
+pub struct Packed {
+    /// How many bits were written.
+    pub bits_written: u32,
+    /// The medians after the last word.
+    pub medians: Medians,
+}
+
+impl Packed {
+    /// How many bytes hold the bits: the payload is as many from the first on.
+    pub const fn bytes(&self) -> usize {
+        self.bits_written.div_ceil(8) as usize
+    }
+}
+
+/// Packs the residuals of a stereo block: `frames` frames, left then right, 2 times `frames` residuals, into `out`,
+/// which has at least [`BYTES_PER_FRAME`] bytes a frame. Reading the bytes that hold the bits, with the same entropy
+/// payload and frames, gives the residuals. The spare bits of the last byte are 0, and the bytes behind it keep their
+/// values.
+///
+/// Refuses [`Refusal::TooLarge`], [`Refusal::ListLength`], [`Refusal::EntropyLength`], [`Refusal::NotStereo`],
+/// [`Refusal::OutputTooShort`] and [`Refusal::ResidualOutOfSpan`]; `out` is then as it was.
+///
+/// ```
+/// use wavpack_stereo::{BYTES_PER_FRAME, Refusal, pack};
+/// let entropy = [0, 1, 0, 1, 0, 1, 0, 1, 0, 1, 0, 1];
+/// let mut out = [0; BYTES_PER_FRAME];
+/// let packed = pack(&[3, -1], &entropy, 1, &mut out)?;
+/// assert_eq!((packed.bits_written, &out[..packed.bytes()]), (10, &[0x7e, 0x02][..]));
+/// assert_eq!(pack(&[3, -1], &entropy, 1, &mut out[..27]), Err(Refusal::OutputTooShort));
+/// # Ok::<(), Refusal>(())
+/// ```
+pub fn pack(residuals: &[i32], entropy: &[u8], frames: usize, out: &mut [u8]) -> Result<Packed, Refusal> {
+    let mut answer = [0; 7];
+    Refusal::outcome(ffi::pack(residuals, entropy, frames, out, &mut answer))?;
+    let [bits_written, a, b, c, d, e, f] = answer;
+    Ok(Packed { bits_written, medians: [[a, b, c], [d, e, f]] })
+}

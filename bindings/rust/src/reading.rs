@@ -1,0 +1,74 @@
+//! Reading a packed payload.
+use crate::{Medians, Refusal, ffi};
+use core::error::Error;
+use core::fmt;
+
+/// The most frames that a reading or a packing takes.
+pub const MAX_FRAMES: usize = 131_072;
+/// The most payload bytes that a reading or a word takes.
+pub const MAX_PAYLOAD_BYTES: usize = 4_194_304;
+
+/// What a reading tells, of its accepted words.
+#[derive(Clone, Copy, Debug, Default, PartialEq, Eq, Hash)]
+pub struct Reading {
+    /// How many bits were used.
+    pub bits_used: u32,
+    /// The medians after the last word.
+    pub medians: Medians,
+    /// How many samples were written.
+    pub written: usize,
+}
+
+/// A refused reading, with what it tells of the words before the one that ended it.
+#[derive(Clone, Copy, Debug, PartialEq, Eq, Hash)]
+pub struct ReadError {
+    /// Why it was refused.
+    pub refusal: Refusal,
+    /// What was read until then; all 0 where no word was tried.
+    pub reading: Reading,
+}
+
+impl fmt::Display for ReadError {
+    fn fmt(&self, f: &mut fmt::Formatter<'_>) -> fmt::Result {
+        write!(f, "{}; {} samples were written", self.refusal, self.reading.written)
+    }
+}
+
+impl Error for ReadError {}
+
+impl From<ReadError> for Refusal {
+    fn from(error: ReadError) -> Refusal {
+        error.refusal
+    }
+}
+
+/// Reads the packed payload of a stereo block: `frames` frames, left then right, into `samples`, which has 2 times
+/// `frames` elements.
+///
+/// Refuses [`Refusal::TooLarge`], [`Refusal::ListLength`], [`Refusal::EntropyLength`] and [`Refusal::NotStereo`], with
+/// `samples` as it was; then, in a word, [`Refusal::Truncated`] or [`Refusal::EndOfStream`], with the samples of the
+/// words before it in `samples` and, behind them, what it held.
+///
+/// ```
+/// use wavpack_stereo::{Refusal, read};
+/// let entropy = [0, 1, 0, 1, 0, 1, 0, 1, 0, 1, 0, 1];
+/// let mut samples = [0; 2];
+/// let reading = read(&entropy, &[0x7e, 0x02], 1, &mut samples)?;
+/// assert_eq!((samples, reading.bits_used), ([3, -1], 10));
+///
+/// let mut samples = [77; 8];
+/// let error = read(&entropy, &[0x7e, 0x02], 4, &mut samples).unwrap_err();
+/// assert_eq!((error.refusal, error.reading.written), (Refusal::Truncated, 6));
+/// assert_eq!(samples, [3, -1, 0, 0, 0, 0, 77, 77]);
+/// # Ok::<(), wavpack_stereo::ReadError>(())
+/// ```
+pub fn read(entropy: &[u8], payload: &[u8], frames: usize, samples: &mut [i32]) -> Result<Reading, ReadError> {
+    let mut answer = [0; 8];
+    let outcome = Refusal::outcome(ffi::read(entropy, payload, frames, samples, &mut answer));
+    let [bits_used, a, b, c, d, e, f, written] = answer;
+    let reading = Reading { bits_used, medians: [[a, b, c], [d, e, f]], written: written as usize };
+    match outcome {
+        Ok(()) => Ok(reading),
+        Err(refusal) => Err(ReadError { refusal, reading }),
+    }
+}

@@ -1,0 +1,127 @@
+//! Reading one word at a time.
+use crate::{Medians, Refusal, ffi, read};
+
+/// What reading carries from word to word. The caller holds it.
+#[derive(Clone, Copy, Debug, Default, PartialEq, Eq, Hash)]
+pub struct WordState {
+    /// How many bits lie before the next word.
+    pub place: u32,
+    /// The channel due: 0 left, 1 right.
+    pub next_channel: u32,
+    /// The next word has count 0 and no prefix.
+    pub last_zero: bool,
+    /// The next word's count is one higher than its prefix says.
+    pub last_one: bool,
+    /// How many zeros of a run are still to come.
+    pub zero_run_pending: u32,
+    /// The next word outside the run is a word without another run before it.
+    pub run_break: bool,
+    /// A run was read at some time.
+    pub ever_took_zero_run: bool,
+    /// The medians of both channels.
+    pub medians: Medians,
+}
+
+/// An accepted word.
+#[derive(Clone, Copy, Debug, PartialEq, Eq, Hash)]
+pub struct Word {
+    /// Its sample.
+    pub sample: i32,
+    /// Where its value lies between the medians; none for a zero out of a run.
+    pub zone: Option<Zone>,
+}
+
+/// Where the value of a word lies between the medians of its channel.
+#[derive(Clone, Copy, Debug, PartialEq, Eq, Hash)]
+pub enum Zone {
+    /// Count 0.
+    Zone0,
+    /// Count 1.
+    Zone1,
+    /// Count 2.
+    Zone2,
+    /// A count of 3 or more.
+    Zone2Overflow {
+        /// The count.
+        ones_count: u32,
+    },
+}
+
+impl WordState {
+    /// The state before the first word, with the seed medians of both channels.
+    pub fn new(medians: Medians) -> WordState {
+        WordState { medians, ..WordState::default() }
+    }
+
+    /// The state before the first word of a block with this entropy payload.
+    ///
+    /// Refuses as [`read`] refuses a payload: [`Refusal::EntropyLength`], [`Refusal::NotStereo`].
+    pub fn from_entropy(entropy: &[u8]) -> Result<WordState, Refusal> {
+        // A reading of no frames reads no bit and tells the medians that it starts from.
+        let reading = read(entropy, &[], 0, &mut [])?;
+        Ok(WordState::new(reading.medians))
+    }
+
+    fn slots(&self) -> [u32; 13] {
+        let [[a, b, c], [d, e, f]] = self.medians;
+        let flags = [self.last_zero, self.last_one, self.run_break, self.ever_took_zero_run].map(u32::from);
+        let [last_zero, last_one, run_break, ever_took_zero_run] = flags;
+        let pending = self.zero_run_pending;
+        [self.place, self.next_channel, last_zero, last_one, pending, run_break, ever_took_zero_run, a, b, c, d, e, f]
+    }
+
+    fn from_slots(slots: [u32; 13]) -> WordState {
+        let [place, next_channel, last_zero, last_one, pending, run_break, ever_took_zero_run, a, b, c, d, e, f] =
+            slots;
+        WordState {
+            place,
+            next_channel,
+            last_zero: last_zero != 0,
+            last_one: last_one != 0,
+            zero_run_pending: pending,
+            run_break: run_break != 0,
+            ever_took_zero_run: ever_took_zero_run != 0,
+            medians: [[a, b, c], [d, e, f]],
+        }
+    }
+}
+
+impl Zone {
+    /// The zone that a report tells, none for 0.
+    fn from_report([zone, ones_count]: [u32; 2]) -> Option<Zone> {
+        match zone {
+            0 => None,
+            1 => Some(Zone::Zone0),
+            2 => Some(Zone::Zone1),
+            3 => Some(Zone::Zone2),
+            _ => Some(Zone::Zone2Overflow { ones_count }),
+        }
+    }
+}
+
+/// Reads the word at the state's place and moves the state behind it.
+///
+/// Refuses [`Refusal::TooLarge`] for the payload, [`Refusal::InvalidChannel`], [`Refusal::Truncated`] or
+/// [`Refusal::EndOfStream`], with the state as it was: a controller that follows a recording tries again when more
+/// bytes are there.
+///
+/// ```
+/// use wavpack_stereo::{Refusal, WordState, Zone, word};
+/// let entropy = [0, 1, 0, 1, 0, 1, 0, 1, 0, 1, 0, 1];
+/// let mut state = WordState::from_entropy(&entropy)?;
+/// let before = state;
+/// assert_eq!(word(&[0x7e], &mut state), Err(Refusal::Truncated));
+/// assert_eq!(state, before);
+///
+/// let first = word(&[0x7e, 0x02], &mut state)?;
+/// assert_eq!((first.sample, first.zone), (3, Some(Zone::Zone2Overflow { ones_count: 3 })));
+/// assert_eq!((state.place, state.next_channel, state.medians), (9, 1, [[6, 6, 6], [1, 1, 1]]));
+/// assert_eq!(word(&[0x7e, 0x02], &mut state)?.sample, -1);
+/// # Ok::<(), Refusal>(())
+/// ```
+pub fn word(payload: &[u8], state: &mut WordState) -> Result<Word, Refusal> {
+    let (mut slots, mut sample, mut report) = (state.slots(), [0], [0; 2]);
+    Refusal::outcome(ffi::word(payload, &mut slots, &mut sample, &mut report))?;
+    *state = WordState::from_slots(slots);
+    Ok(Word { sample: sample[0], zone: Zone::from_report(report) })
+}
