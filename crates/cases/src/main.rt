@@ -1,6 +1,8 @@
-// Document 01, "Proved cases (*) and others" (C10): the cases that are run only. Each prints a line, what it is, the refusal
+// Document 01, "Proved cases (*) and others" (C10): the cases that are run only, and fields through a reader. Each prints a line, what it is, the refusal
 // number (0 means accepted) and the values that were answered. What is printed is held to the file `stdout`.
 use answers::outcome_number;
+use bit_reader::field_at;
+use bits::BitAnswer;
 use decorrelation::DecorrPass;
 use decorrelation::decorrelate_array;
 use libc::STDOUT_FILENO;
@@ -72,6 +74,20 @@ fn run_reading(name: &[u8], payload: &[u8]) {
     print_values(&list);
 }
 
+// A field of a payload, through a reader: its value and the place after it.
+fn run_field(name: &[u8], payload: &[u8], place: usize, count: u32) {
+    match field_at(payload, place, count) {
+        BitAnswer::Value(value, next) => {
+            print_case(name, 0);
+            print_count(b" value ", value as usize);
+            print_count(b" next ", next);
+        }
+        BitAnswer::Truncated => print_case(name, 3),
+        BitAnswer::TooLarge => print_case(name, 5),
+    }
+    io::write_all(STDOUT_FILENO, b"\n");
+}
+
 // Decorrelation of two frames by `count` passes that are all alike, and the buffer after it.
 fn run_passes(name: &[u8], count: usize) {
     let pass = DecorrPass {
@@ -107,4 +123,8 @@ fn main() {
     run_reading(b"run of 33 ones", &run_33);
     run_passes(b"16 passes", 16);
     run_passes(b"17 passes", 17);
+    let word = [126, 2];
+    run_field(b"9 bits at place 1", &word, 1, 9);
+    run_field(b"9 bits at place 8", &word, 8, 9);
+    run_field(b"33 bits at place 0", &word, 0, 33);
 }
