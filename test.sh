@@ -30,6 +30,12 @@ target/ctest || fail 'the C program'
 
 cargo test --quiet --offline --locked --manifest-path bindings/rust/Cargo.toml || fail 'the Rust bindings'
 
+clicks() {
+    cargo run --quiet --offline --locked --manifest-path bindings/rust/Cargo.toml --example clicks -- "$@"
+}
+printf '\0\1\0\1\0\1\0\1\0\1\0\1\1\0\176\2' >target/pair.bin || fail 'no file for the example'
+{ clicks && clicks target/pair.bin 2 0; } | diff bindings/rust/examples/clicks.txt - || fail 'the example of the Rust bindings'
+
 reference=${WAVPACK_REFERENCE:-../shared/docs/src/src}
 if [ -d "$reference" ]; then
     WAVPACK_REFERENCE=$(cd "$reference" && pwd)

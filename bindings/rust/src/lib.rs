@@ -1,12 +1,30 @@
 //! The proved decoder and writer of stereo WavPack recordings, for greenhouse controllers in Rust.
 //!
-//! Thin and safe functions over the archive `libcapi.a`: each hands its slices to the C interface and gives the answer
-//! named types. Nothing is copied but a word's state, nothing is allocated, and no state is kept between calls.
+//! Thin and safe functions over the archive `libcapi.a`: each hands its slices to the C interface and names what it
+//! answers. Nothing is allocated, no list is copied, and no state is kept between calls.
 //!
 //! Decoding: [`read`] turns a packed payload into residuals, and [`decorrelate`] these into samples by the passes that
-//! [`Pass::new`] makes from the [`term_byte`], the [`weight_byte`]s and seeds, which are [`log_word`]s. Writing is the
-//! way back: [`analyse`], then [`pack`]. [`word`] reads one word at a time, for a controller that follows a recording
-//! as it comes in.
+//! [`Pass::new`] makes from the [`term_byte`], the [`weight_byte`]s and the seeds, which are [`log_word`]s. Writing is
+//! the way back: [`analyse`], then [`pack`]. [`word`] reads one word at a time, for a controller that follows a
+//! recording as it comes in.
+//!
+//! ```
+//! use wavpack_stereo::{BYTES_PER_FRAME, Pass, Refusal, analyse, decorrelate, pack, read};
+//! let entropy = [0, 5, 0, 5, 0, 5, 0, 5, 0, 5, 0, 5];
+//! let passes = [Pass::new(18, 2, 512, 512, &[], &[])?];
+//! let recording = [100, -3, 90, -2];
+//!
+//! let mut residuals = recording;
+//! analyse(&mut passes.clone(), &mut residuals)?;
+//! let mut payload = [0; 2 * BYTES_PER_FRAME];
+//! let packed = pack(&residuals, &entropy, 2, &mut payload)?;
+//!
+//! let mut samples = [0; 4];
+//! read(&entropy, &payload[..packed.bytes()], 2, &mut samples)?;
+//! decorrelate(&mut passes.clone(), &mut samples)?;
+//! assert_eq!(samples, recording);
+//! # Ok::<(), Refusal>(())
+//! ```
 //!
 //! Every function tests its input itself and ends on every input. What it does not take it refuses with a [`Refusal`],
 //! and then the lists that it was lent are as they were; only a reading that a word ends has written the samples before

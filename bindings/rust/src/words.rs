@@ -8,15 +8,15 @@ pub struct WordState {
     pub place: u32,
     /// The channel due: 0 left, 1 right.
     pub next_channel: u32,
-    /// The next word has count 0 and no prefix.
+    /// The next word has count 0 and reads no prefix.
     pub last_zero: bool,
     /// The next word's count is one higher than its prefix says.
     pub last_one: bool,
     /// How many zeros of a run are still to come.
     pub zero_run_pending: u32,
-    /// The next word outside the run is a word without another run before it.
+    /// A run was read: the next word outside it reads no run length.
     pub run_break: bool,
-    /// A run was read at some time.
+    /// A run was read in this block.
     pub ever_took_zero_run: bool,
     /// The medians of both channels.
     pub medians: Medians,

@@ -1,0 +1,161 @@
+//! Prints the clicks of a stereo stem recording: the frame, the stem and the height of each.
+//!
+//! `clicks` makes a recording with clicks, writes it (analysis, packing), decodes the written bytes and prints the
+//! clicks that it finds; it stops where they are not the ones that were put in.
+//!
+//! `clicks FILE THRESHOLD HOLD_OFF` prints the clicks of a recording as the program `wvpair` takes it: 12 entropy
+//! bytes, the frame count in 2 bytes, the low one first, and the payload. A click is a sample whose magnitude is above
+//! the threshold; after it the same stem is not listened to until HOLD_OFF frames later.
+use std::error::Error;
+use std::fmt;
+use wavpack_stereo::{
+    BYTES_PER_FRAME, Pass, Refusal, analyse, decorrelate, log_word, pack, read, term_byte, weight_byte,
+};
+
+/// What a file holds of a pass: the term byte, and for each channel a weight byte and seeds as log words.
+struct StoredPass {
+    term: u8,
+    weights: [u8; 2],
+    seeds: [&'static [i16]; 2],
+}
+
+/// What a file holds of a recording.
+struct Recording {
+    entropy: [u8; 12],
+    frames: usize,
+    passes: Vec<StoredPass>,
+    payload: Vec<u8>,
+}
+
+#[derive(Clone, Copy, Debug, PartialEq, Eq)]
+struct Click {
+    frame: usize,
+    /// 0 left, 1 right.
+    stem: usize,
+    height: i32,
+}
+
+impl fmt::Display for Click {
+    fn fmt(&self, f: &mut fmt::Formatter<'_>) -> fmt::Result {
+        let stem = ["left", "right"][self.stem];
+        write!(f, "frame {}, {stem} stem, height {}", self.frame, self.height)
+    }
+}
+
+/// The samples above the threshold, left and right in turn, without those that follow one within the hold-off.
+fn clicks(samples: &[i32], threshold: u32, hold_off: usize) -> Vec<Click> {
+    let mut listens_from = [0; 2];
+    let mut found = Vec::new();
+    for (i, &height) in samples.iter().enumerate() {
+        let (frame, stem) = (i / 2, i % 2);
+        if height.unsigned_abs() > threshold && frame >= listens_from[stem] {
+            found.push(Click { frame, stem, height });
+            listens_from[stem] = frame + hold_off;
+        }
+    }
+    found
+}
+
+fn make_passes(stored: &[StoredPass]) -> Result<Vec<Pass>, Refusal> {
+    let make = |pass: &StoredPass| {
+        let told = term_byte(pass.term);
+        let [weight_a, weight_b] = pass.weights.map(weight_byte);
+        let [seed_a, seed_b] = pass.seeds.map(|words| words.iter().copied().map(log_word).collect::<Vec<i32>>());
+        Pass::new(told.term, told.delta, weight_a, weight_b, &seed_a, &seed_b)
+    };
+    stored.iter().map(make).collect()
+}
+
+/// The samples of a recording and, where a word ended it early, why; they are then those of the whole frames before it.
+fn decode(recording: &Recording) -> Result<(Vec<i32>, Option<Refusal>), Refusal> {
+    let mut passes = make_passes(&recording.passes)?;
+    let mut samples = vec![0; 2 * recording.frames];
+    let (written, ended) = match read(&recording.entropy, &recording.payload, recording.frames, &mut samples) {
+        Ok(reading) => (reading.written, None),
+        Err(error) => (error.reading.written, Some(error.refusal)),
+    };
+    samples.truncate(written / 2 * 2);
+    decorrelate(&mut passes, &mut samples)?;
+    Ok((samples, ended))
+}
+
+/// The recording that decodes to these samples.
+fn write(mut samples: Vec<i32>, entropy: [u8; 12], passes: Vec<StoredPass>) -> Result<Recording, Refusal> {
+    let frames = samples.len() / 2;
+    analyse(&mut make_passes(&passes)?, &mut samples)?;
+    let mut payload = vec![0; BYTES_PER_FRAME * frames];
+    let packed = pack(&samples, &entropy, frames, &mut payload)?;
+    payload.truncate(packed.bytes());
+    Ok(Recording { entropy, frames, passes, payload })
+}
+
+/// A noise floor with these clicks, each of which rings on.
+fn sound(frames: usize, clicks: &[Click]) -> Vec<i32> {
+    let mut noise = 1u32;
+    let mut floor = || {
+        noise = noise.wrapping_mul(1_664_525).wrapping_add(1_013_904_223);
+        (noise >> 28) as i32 - 8
+    };
+    let mut samples: Vec<i32> = (0..2 * frames).map(|_| floor()).collect();
+    for click in clicks {
+        let mut height = click.height;
+        for sample in samples[2 * click.frame + click.stem..].iter_mut().step_by(2).take(12) {
+            *sample = height;
+            height = -height * 3 / 4;
+        }
+    }
+    samples
+}
+
+fn write_and_decode() -> Result<(), Refusal> {
+    let put_in = [(120, 0, 9000), (455, 1, -7000), (457, 0, 5000), (1300, 1, 30_000), (1999, 0, -2001)];
+    let put_in = put_in.map(|(frame, stem, height)| Click { frame, stem, height });
+    let samples = sound(2000, &put_in);
+    // Medians of 16 for noise within 8, and the terms 18, 17 and 2 with deltas of 2.
+    let entropy = [0, 5].repeat(6).try_into().expect("12 bytes");
+    let pass = |term, weights, seeds| StoredPass { term, weights, seeds };
+    let passes = vec![
+        pass(0x57, [24, 24], [&[300, -300], &[512, 0]]),
+        pass(0x56, [0xf8, 8], [&[], &[]]),
+        pass(0x47, [3, 0xfd], [&[], &[]]),
+    ];
+    let recording = write(samples.clone(), entropy, passes)?;
+    let (decoded, ended) = decode(&recording)?;
+    assert!(ended.is_none() && decoded == samples, "the recording does not come back");
+    let found = clicks(&decoded, 2000, 20);
+    for click in &found {
+        println!("{click}");
+    }
+    assert_eq!(found, put_in, "other clicks than were put in");
+    println!("{} clicks in {} frames, {} bytes", found.len(), recording.frames, recording.payload.len());
+    Ok(())
+}
+
+/// The recording in a file for `wvpair`, which has no passes.
+fn recording_in(file: &[u8]) -> Option<Recording> {
+    let (entropy, rest) = file.split_first_chunk()?;
+    let (frames, payload) = rest.split_first_chunk()?;
+    let frames = usize::from(u16::from_le_bytes(*frames));
+    Some(Recording { entropy: *entropy, frames, passes: Vec::new(), payload: payload.to_vec() })
+}
+
+fn decode_file(name: &str, threshold: u32, hold_off: usize) -> Result<(), Box<dyn Error>> {
+    let recording = recording_in(&std::fs::read(name)?).ok_or("a recording has at least 14 bytes")?;
+    let (samples, ended) = decode(&recording)?;
+    for click in clicks(&samples, threshold, hold_off) {
+        println!("{click}");
+    }
+    match ended {
+        Some(refusal) => Err(format!("ended after {} frames: {refusal}", samples.len() / 2).into()),
+        None => Ok(()),
+    }
+}
+
+fn main() -> Result<(), Box<dyn Error>> {
+    let words: Vec<String> = std::env::args().skip(1).collect();
+    match words.as_slice() {
+        [] => Ok(write_and_decode()?),
+        [file, threshold, hold_off] => decode_file(file, threshold.parse()?, hold_off.parse()?),
+        _ => Err("usage: clicks | clicks FILE THRESHOLD HOLD_OFF".into()),
+    }
+}

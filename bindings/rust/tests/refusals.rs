@@ -1,0 +1,108 @@
+//! Each refusal, reached through the safe functions, and that the lent lists are then as they were.
+use wavpack_stereo::{
+    MAX_ELEMENTS, MAX_FRAMES, MAX_PASSES, MAX_PAYLOAD_BYTES, Pass, Reading, Refusal, WordState, analyse, decorrelate,
+    entropy, pack, read, word,
+};
+
+const ONES: [u8; 12] = [0, 1, 0, 1, 0, 1, 0, 1, 0, 1, 0, 1];
+const PAYLOAD: [u8; 2] = [0x7e, 0x02];
+
+/// A reading into `length` marks that is refused before any word.
+fn unread(entropy: &[u8], payload: &[u8], frames: usize, length: usize) -> Refusal {
+    let mut samples = vec![77; length];
+    let error = read(entropy, payload, frames, &mut samples).unwrap_err();
+    assert_eq!(error.reading, Reading::default());
+    assert!(samples.iter().all(|&sample| sample == 77));
+    error.refusal
+}
+
+#[test]
+fn readings() {
+    assert_eq!(unread(&ONES, &PAYLOAD, MAX_FRAMES + 1, 0), Refusal::TooLarge);
+    assert_eq!(unread(&ONES, &PAYLOAD, usize::MAX, 0), Refusal::TooLarge);
+    assert_eq!(unread(&ONES, &vec![0; MAX_PAYLOAD_BYTES + 1], 1, 2), Refusal::TooLarge);
+    assert_eq!(unread(&ONES, &PAYLOAD, 1, 1), Refusal::ListLength);
+    assert_eq!(unread(&ONES, &PAYLOAD, 1, 3), Refusal::ListLength);
+    assert_eq!(unread(&[], &PAYLOAD, 1, 2), Refusal::EntropyLength);
+    assert_eq!(unread(&ONES[..6], &PAYLOAD, 1, 2), Refusal::NotStereo);
+    let reading = read(&ONES, &[], 0, &mut []).unwrap();
+    assert_eq!(reading, Reading { bits_used: 0, medians: [[1; 3]; 2], written: 0 });
+}
+
+#[test]
+fn a_word_ends_a_reading() {
+    let mut samples = [77; 2];
+    let error = read(&ONES, &[0x7e], 1, &mut samples).unwrap_err();
+    assert_eq!(error.refusal, Refusal::Truncated);
+    assert_eq!(error.reading, Reading { medians: [[1; 3]; 2], ..Reading::default() });
+    assert_eq!(samples, [77; 2]);
+    assert_eq!(Refusal::from(error), Refusal::Truncated);
+    let said = "a bit past the end is needed, or a count or a prefix value is over its cap; 0 samples were written";
+    assert_eq!(error.to_string(), said);
+}
+
+#[test]
+fn words() {
+    let refused = |payload: &[u8], mut state: WordState| {
+        let before = state;
+        let refusal = word(payload, &mut state).unwrap_err();
+        assert_eq!(state, before);
+        refusal
+    };
+    let state = WordState::from_entropy(&ONES).unwrap();
+    assert_eq!(state, WordState::new([[1; 3]; 2]));
+    assert_eq!(refused(&[], state), Refusal::Truncated);
+    assert_eq!(refused(&PAYLOAD, WordState { place: u32::MAX, ..state }), Refusal::Truncated);
+    assert_eq!(refused(&PAYLOAD, WordState { next_channel: 2, ..state }), Refusal::InvalidChannel);
+    assert_eq!(refused(&vec![0; MAX_PAYLOAD_BYTES + 1], state), Refusal::TooLarge);
+    // A run length of 0, 16 ones, and 33 ones for the second count.
+    let end = [0xfe, 0xff, 0xfd, 0xff, 0xff, 0xff, 0x07];
+    assert_eq!(refused(&end, state), Refusal::EndOfStream);
+}
+
+#[test]
+fn entropy_payloads() {
+    for length in (0..12).filter(|&length| length != 6) {
+        assert_eq!(entropy(&ONES[..length]), Err(Refusal::EntropyLength));
+        assert_eq!(WordState::from_entropy(&ONES[..length]), Err(Refusal::EntropyLength));
+    }
+    assert_eq!(entropy(&ONES[..6]), Ok([[1; 3], [0; 3]]));
+    assert_eq!(WordState::from_entropy(&ONES[..6]), Err(Refusal::NotStereo));
+}
+
+#[test]
+fn lists_of_passes() {
+    let refused = |mut passes: Vec<Pass>, length: usize| {
+        let (before, mut buffer) = (passes.clone(), vec![77; length]);
+        let refusal = decorrelate(&mut passes, &mut buffer).unwrap_err();
+        assert_eq!(analyse(&mut passes, &mut buffer), Err(refusal));
+        assert!(passes == before && buffer.iter().all(|&element| element == 77));
+        refusal
+    };
+    let pass = Pass::new(-1, 2, 1024, -1024, &[5], &[6]).unwrap();
+    let mut invalid = *pass.slots();
+    invalid[0] = 256 - 1;
+    assert_eq!(refused(vec![pass.clone(); MAX_PASSES + 1], 4), Refusal::TooManyPasses);
+    assert_eq!(refused(vec![pass.clone()], MAX_ELEMENTS + 1), Refusal::TooLarge);
+    assert_eq!(refused(vec![pass.clone(), Pass::from_slots(invalid)], 4), Refusal::InvalidTerm);
+    assert_eq!(decorrelate(&mut [], &mut []), Ok(()));
+    assert_eq!(analyse(&mut vec![pass; MAX_PASSES], &mut []), Ok(()));
+    assert_eq!(Pass::new(-1, 2, 0, 0, &[5], &[]), Err(Refusal::SeedTooShort));
+}
+
+#[test]
+fn packings() {
+    let refused = |residuals: &[i32], entropy: &[u8], frames: usize, room: usize| {
+        let mut out = vec![77; room];
+        let refusal = pack(residuals, entropy, frames, &mut out).unwrap_err();
+        assert!(out.iter().all(|&byte| byte == 77));
+        refusal
+    };
+    assert_eq!(refused(&[], &ONES, MAX_FRAMES + 1, 0), Refusal::TooLarge);
+    assert_eq!(refused(&[3], &ONES, 1, 28), Refusal::ListLength);
+    assert_eq!(refused(&[3, -1], &ONES[..11], 1, 28), Refusal::EntropyLength);
+    assert_eq!(refused(&[3, -1], &ONES[..6], 1, 28), Refusal::NotStereo);
+    assert_eq!(refused(&[3, -1], &ONES, 1, 27), Refusal::OutputTooShort);
+    assert_eq!(refused(&[3, 1_879_048_192], &ONES, 1, 28), Refusal::ResidualOutOfSpan);
+    assert_eq!(pack(&[], &ONES, 0, &mut []).unwrap().bytes(), 0);
+}
