@@ -22,6 +22,8 @@ case $verdict in
 *) fail 'rt ci' ;;
 esac
 
+docs/carriers.sh || fail 'docs/PROVED.md'
+
 rt staticlib capi || fail 'rt staticlib capi'
 library=target/staticlib
 
