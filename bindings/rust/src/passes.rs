@@ -25,7 +25,7 @@ impl Pass {
     /// use wavpack_stereo::{Pass, Refusal};
     /// let pass = Pass::new(18, 2, 1024, 1024, &[10, 4], &[1, -2])?;
     /// assert_eq!((pass.term(), pass.delta(), pass.weights()), (18, 2, [1024, 1024]));
-    /// assert_eq!(pass.histories()[0][..2], [10, 4]);
+    /// assert_eq!(pass.histories(), [[10, 4, 0, 0, 0, 0, 0, 0], [1, -2, 0, 0, 0, 0, 0, 0]]);
     /// assert_eq!(Pass::new(9, 2, 0, 0, &[], &[]), Err(Refusal::InvalidTerm));
     /// assert_eq!(Pass::new(18, 2, 0, 0, &[10], &[]), Err(Refusal::SeedTooShort));
     /// # Ok::<(), Refusal>(())

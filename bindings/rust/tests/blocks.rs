@@ -1,7 +1,8 @@
 //! Decodes the blocks that `wavpack` wrote (`crates/blocks/data`, whose README describes the records) to the samples
 //! they were made from, whole and word by word, and packs these again to the same bits.
 use wavpack_stereo::{
-    BYTES_PER_FRAME, Pass, Refusal, WordState, analyse, decorrelate, log_word, pack, read, term_byte, weight_byte, word,
+    BYTES_PER_FRAME, Pass, Refusal, WordState, Zone, analyse, decorrelate, log_word, pack, read, term_byte,
+    weight_byte, word,
 };
 
 struct Block {
@@ -76,6 +77,32 @@ fn words_give_what_a_reading_gives() -> Result<(), Refusal> {
     Ok(())
 }
 
+/// Whether the interval of a zone contains the value of a word, with the medians before it.
+fn holds(zone: Zone, medians: [u32; 3], sample: i32) -> bool {
+    let value = if sample < 0 { -(sample + 1) } else { sample } as u32;
+    let [g0, g1, g2] = medians.map(|median| median / 16 + 1);
+    let (low, width) = match zone {
+        Zone::Zone0 => (0, g0),
+        Zone::Zone1 => (g0, g1),
+        Zone::Zone2 => (g0 + g1, g2),
+        Zone::Zone2Overflow { ones_count } => (g0 + g1 + (ones_count - 2) * g2, g2),
+    };
+    (low..low + width).contains(&value)
+}
+
+#[test]
+fn zones_hold_their_words() -> Result<(), Refusal> {
+    for block in blocks() {
+        let mut state = WordState::from_entropy(&block.entropy)?;
+        for _ in 0..2 * block.frames {
+            let medians = state.medians[state.next_channel as usize];
+            let told = word(&block.payload, &mut state)?;
+            assert!(told.zone.map_or(told.sample == 0, |zone| holds(zone, medians, told.sample)));
+        }
+    }
+    Ok(())
+}
+
 #[test]
 fn samples_pack_to_the_same_bits() -> Result<(), Refusal> {
     for mut block in blocks() {
@@ -87,6 +114,8 @@ fn samples_pack_to_the_same_bits() -> Result<(), Refusal> {
         // The file fills its last word with ones.
         let kept = |bytes: &[u8]| bytes.get(whole).map_or(0, |byte| byte & ((1 << spare) - 1));
         assert_eq!(kept(&out), kept(&block.payload));
+        let reading = read(&block.entropy, &block.payload, block.frames, &mut block.samples)?;
+        assert_eq!((packed.bits_written, packed.medians), (reading.bits_used, reading.medians));
     }
     Ok(())
 }
