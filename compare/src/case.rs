@@ -1,7 +1,9 @@
 //! Inputs on which both sides are run; a failing one is made small before it is shown.
+use crate::guarded::watched;
 use crate::random::Random;
 use std::fmt::Debug;
 use std::iter::successors;
+use std::time::Instant;
 
 /// How many smaller inputs are tried at most before a failing one is shown.
 const TRIES: usize = 20_000;
@@ -29,6 +31,9 @@ pub fn same<T: PartialEq + Debug>(what: &str, ours: &T, theirs: &T) -> Result<()
 
 /// Ok where the two lists are equal, else the first place where they differ.
 pub fn same_list<T: PartialEq + Debug>(what: &str, ours: &[T], theirs: &[T]) -> Result<(), String> {
+    if ours == theirs {
+        return Ok(());
+    }
     same(&format!("length of {what}"), &ours.len(), &theirs.len())?;
     match (0..ours.len()).find(|&i| ours[i] != theirs[i]) {
         Some(i) => same(&format!("{what}[{i}]"), &ours[i], &theirs[i]),
@@ -48,9 +53,19 @@ impl Run {
         Run { random: Random::new(seed), scale, agreed: [0; 13] }
     }
 
+    /// Says on how many inputs of a kind both sides agreed, and tells how many.
+    pub fn report(&self, name: &str, began: Instant) -> u64 {
+        let agreed: u64 = self.agreed.iter().sum();
+        let numbers = (0..self.agreed.len()).filter(|&i| self.agreed[i] > 0);
+        let refusals: Vec<String> = numbers.map(|i| format!("{i}: {}", self.agreed[i])).collect();
+        let seconds = began.elapsed().as_secs_f64();
+        println!("compare: {name}: {agreed} agree, by refusal number {} ({seconds:.1} s)", refusals.join(", "));
+        agreed
+    }
+
     /// Compares both sides on one input; shows the smallest failing input that it finds from there.
     pub fn agree<C: Case>(&mut self, case: C) -> Result<(), Failed> {
-        match case.compare() {
+        match watched(&case, C::compare) {
             Ok(refusal) => {
                 self.agreed[refusal as usize] += 1;
                 Ok(())

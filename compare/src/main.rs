@@ -3,11 +3,14 @@
 //! `compare` compares them on every kind of input. `compare SEED SCALE` does so with other random inputs, SCALE times
 //! as many. The seed is printed; the same seed gives the same inputs. `compare store` writes the answers of the
 //! published Rust that the program `replay` carries. `compare bench` prints a table of both sides' speed.
+//! `compare long` runs millions of damaged inputs.
 mod bench;
 mod case;
 mod fields;
+mod guarded;
 mod kinds;
 mod lent;
+mod long;
 mod numbers;
 mod ours;
 mod payloads;
@@ -18,11 +21,16 @@ mod their_passes;
 mod theirs;
 
 use case::{Failed, Run};
+use long::Bounds;
 use std::process::ExitCode;
-use std::time::Instant;
+use std::str::FromStr;
+use std::time::{Duration, Instant};
 
 /// The seed of a run that names none.
 const SEED: u64 = 20_261_115;
+
+const USAGE: &str =
+    "usage: compare [SEED [SCALE]] | compare long [SEED [MILLIONS [MINUTES]]] | compare store | compare bench";
 
 fn compare(seed: u64, scale: usize) -> Result<(), Failed> {
     println!("compare: seed {seed}, scale {scale}");
@@ -30,12 +38,7 @@ fn compare(seed: u64, scale: usize) -> Result<(), Failed> {
     for (name, run_kind) in kinds::KINDS {
         let (began, mut run) = (Instant::now(), Run::new(seed, scale));
         run_kind(&mut run)?;
-        let agreed: u64 = run.agreed.iter().sum();
-        let numbers = (0..run.agreed.len()).filter(|&i| run.agreed[i] > 0);
-        let refusals: Vec<String> = numbers.map(|i| format!("{i}: {}", run.agreed[i])).collect();
-        let seconds = began.elapsed().as_secs_f64();
-        println!("compare: {name}: {agreed} agree, by refusal number {} ({seconds:.1} s)", refusals.join(", "));
-        total += agreed;
+        total += run.report(name, began);
     }
     if let Some(name) = store::stale() {
         println!("DIFFERENCE crates/replay/data/{name} is not what the Rust answers");
@@ -45,28 +48,40 @@ fn compare(seed: u64, scale: usize) -> Result<(), Failed> {
     Ok(())
 }
 
+/// The number at a place of the words, or what holds where there is none.
+fn number<T: FromStr>(words: &[&str], place: usize, otherwise: T) -> Option<T> {
+    words.get(place).map_or(Some(otherwise), |word| word.parse().ok())
+}
+
+/// Does what the words say; none where they say nothing that it knows.
+fn run(words: &[&str]) -> Option<Result<(), Failed>> {
+    match words {
+        ["store"] => Some(store::write().map_err(|why| {
+            eprintln!("compare: {why}");
+            Failed
+        })),
+        ["bench"] => {
+            bench::run(SEED);
+            Some(Ok(()))
+        }
+        ["long", bounds @ ..] => {
+            let (millions, minutes) = (number(bounds, 1, 10.0)?, number(bounds, 2, 60.0)?);
+            let time = Duration::try_from_secs_f64(60.0 * minutes).ok()?;
+            Some(long::run(&Bounds { seed: number(bounds, 0, SEED)?, cases: (1e6 * millions) as usize, time }))
+        }
+        _ => Some(compare(number(words, 0, SEED)?, number(words, 1, 1)?)),
+    }
+}
+
 fn main() -> ExitCode {
     let words: Vec<String> = std::env::args().skip(1).collect();
-    if words == ["store"] {
-        return match store::write() {
-            Ok(()) => ExitCode::SUCCESS,
-            Err(why) => {
-                eprintln!("compare: {why}");
-                ExitCode::FAILURE
-            }
-        };
-    }
-    if words == ["bench"] {
-        bench::run(SEED);
-        return ExitCode::SUCCESS;
-    }
-    let number = |i: usize, default: u64| words.get(i).map_or(Ok(default), |word| word.parse());
-    let (Ok(seed), Ok(scale)) = (number(0, SEED), number(1, 1)) else {
-        eprintln!("usage: compare [SEED [SCALE]] | compare store | compare bench");
-        return ExitCode::from(2);
-    };
-    match compare(seed, scale as usize) {
-        Ok(()) => ExitCode::SUCCESS,
-        Err(Failed) => ExitCode::FAILURE,
+    let words: Vec<&str> = words.iter().map(String::as_str).collect();
+    match run(&words) {
+        Some(Ok(())) => ExitCode::SUCCESS,
+        Some(Err(Failed)) => ExitCode::FAILURE,
+        None => {
+            eprintln!("{USAGE}");
+            ExitCode::from(2)
+        }
     }
 }

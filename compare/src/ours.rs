@@ -3,7 +3,9 @@
 //! A list with just the slots asked for is answered by the bindings, which are what controllers call. What only the C
 //! interface can be given goes to the bindings' `ffi`, its functions as they are: lists with fewer or more slots, flags
 //! that are neither 0 nor 1. So does a call that the bindings refuse, once more, since only there its slots show: a
-//! refused call left everything as it was.
+//! refused call left everything as it was. Where every element outside a list is watched all calls go to `ffi`, since the
+//! bindings answer in lists of their own.
+use crate::lent::watched;
 use wavpack_stereo::{Medians, Pass, Refusal, WordState, Zone, ffi};
 
 /// No refusal number: the bindings and the C interface refuse for different reasons.
@@ -23,7 +25,7 @@ fn six<T>([[a, b, c], [d, e, f]]: Medians<T>) -> [T; 6] {
 }
 
 pub fn log_word(word: i16, value: &mut [i32]) -> u32 {
-    if value.len() != 1 {
+    if watched() || value.len() != 1 {
         return ffi::log_word(word, value);
     }
     value[0] = wavpack_stereo::log_word(word);
@@ -31,7 +33,7 @@ pub fn log_word(word: i16, value: &mut [i32]) -> u32 {
 }
 
 pub fn term_byte(byte: u8, out: &mut [i32]) -> u32 {
-    if out.len() != 2 {
+    if watched() || out.len() != 2 {
         return ffi::term_byte(byte, out);
     }
     let told = wavpack_stereo::term_byte(byte);
@@ -40,7 +42,7 @@ pub fn term_byte(byte: u8, out: &mut [i32]) -> u32 {
 }
 
 pub fn weight_byte(byte: u8, out: &mut [i32]) -> u32 {
-    if out.len() != 1 {
+    if watched() || out.len() != 1 {
         return ffi::weight_byte(byte, out);
     }
     out[0] = wavpack_stereo::weight_byte(byte);
@@ -48,7 +50,7 @@ pub fn weight_byte(byte: u8, out: &mut [i32]) -> u32 {
 }
 
 pub fn entropy(entropy: &[u8], medians: &mut [i32]) -> u32 {
-    if medians.len() != 6 {
+    if watched() || medians.len() != 6 {
         return ffi::entropy(entropy, medians);
     }
     match wavpack_stereo::entropy(entropy) {
@@ -92,7 +94,7 @@ fn report_of(zone: Option<Zone>) -> [u32; 2] {
 
 pub fn word(payload: &[u8], state: &mut [u32], sample: &mut [i32], report: &mut [u32]) -> u32 {
     let exact = [state.len(), sample.len(), report.len()] == [13, 1, 2];
-    if !exact || [2, 3, 5, 6].iter().any(|&flag| state[flag] > 1) {
+    if watched() || !exact || [2, 3, 5, 6].iter().any(|&flag| state[flag] > 1) {
         return ffi::word(payload, state, sample, report);
     }
     let mut held = state_of(state);
@@ -109,7 +111,7 @@ pub fn word(payload: &[u8], state: &mut [u32], sample: &mut [i32], report: &mut 
 }
 
 pub fn read(entropy: &[u8], payload: &[u8], frames: usize, samples: &mut [i32], answer: &mut [u32]) -> u32 {
-    if answer.len() != 8 {
+    if watched() || answer.len() != 8 {
         return ffi::read(entropy, payload, frames, samples, answer);
     }
     let (refusal, reading) = match wavpack_stereo::read(entropy, payload, frames, samples) {
@@ -124,7 +126,7 @@ pub fn read(entropy: &[u8], payload: &[u8], frames: usize, samples: &mut [i32], 
 
 /// `numbers` are delta, weight A and weight B.
 pub fn pass(term: i8, numbers: [i32; 3], seed_a: &[i32], seed_b: &[i32], pass: &mut [i32]) -> u32 {
-    if pass.len() != Pass::SLOTS {
+    if watched() || pass.len() != Pass::SLOTS {
         return ffi::pass(term, numbers, seed_a, seed_b, pass);
     }
     let [delta, weight_a, weight_b] = numbers;
@@ -144,7 +146,7 @@ pub fn passes(lists: &[[i32; Pass::SLOTS]]) -> Vec<Pass> {
 }
 
 pub fn pack(residuals: &[i32], entropy: &[u8], frames: usize, out: &mut [u8], answer: &mut [u32]) -> u32 {
-    if answer.len() != 7 {
+    if watched() || answer.len() != 7 {
         return ffi::pack(residuals, entropy, frames, out, answer);
     }
     match wavpack_stereo::pack(residuals, entropy, frames, out) {

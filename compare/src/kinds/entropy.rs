@@ -12,15 +12,16 @@ const ENDS: [i16; 22] = [
 ];
 
 #[derive(Clone, Debug)]
-struct Entropy {
-    payload: Vec<u8>,
-    slots: usize,
+pub struct Entropy {
+    pub payload: Vec<u8>,
+    pub slots: usize,
 }
 
 impl Case for Entropy {
     fn compare(&self) -> Result<u32, String> {
-        let mut medians = Lent::marked(self.slots);
-        let refusal = ours::entropy(&self.payload, medians.list());
+        let (mut payload, mut medians) = (Lent::holding(&self.payload), Lent::marked(self.slots));
+        let refusal = ours::entropy(payload.list(), medians.list());
+        payload.kept("payload")?;
         let theirs = if self.slots < 6 { Err(6) } else { expand_entropy(&self.payload).map_err(|_| 1) };
         match theirs {
             Ok(info) => {

@@ -6,19 +6,22 @@ use crate::ours;
 use crate::their_passes::{self, TERMS};
 
 #[derive(Clone, Debug)]
-struct Making {
-    term: i8,
+pub struct Making {
+    pub term: i8,
     /// Delta, weight A, weight B.
-    numbers: [i32; 3],
-    seed_a: Vec<i32>,
-    seed_b: Vec<i32>,
-    slots: usize,
+    pub numbers: [i32; 3],
+    pub seed_a: Vec<i32>,
+    pub seed_b: Vec<i32>,
+    pub slots: usize,
 }
 
 impl Case for Making {
     fn compare(&self) -> Result<u32, String> {
+        let (mut seed_a, mut seed_b) = (Lent::holding(&self.seed_a), Lent::holding(&self.seed_b));
         let mut pass = Lent::marked(self.slots);
-        let refusal = ours::pass(self.term, self.numbers, &self.seed_a, &self.seed_b, pass.list());
+        let refusal = ours::pass(self.term, self.numbers, seed_a.list(), seed_b.list(), pass.list());
+        seed_a.kept("seed A")?;
+        seed_b.kept("seed B")?;
         let theirs = their_passes::pass(self.term, self.numbers, &self.seed_a, &self.seed_b);
         match if self.slots < 20 { Err(6) } else { theirs } {
             Ok(numbers) => {

@@ -3,11 +3,11 @@ use crate::case::{Failed, Run};
 
 pub mod entropy;
 mod log_words;
-mod making;
+pub mod making;
 pub mod packs;
 mod pass_bytes;
 pub mod passes;
-mod reads;
+pub mod reads;
 pub mod words;
 
 /// A kind: its name, and what runs it.

@@ -9,13 +9,13 @@ use crate::theirs::MAX_FRAMES;
 use std::fmt;
 
 #[derive(Clone)]
-struct Pack {
-    residuals: Vec<i32>,
-    entropy: Vec<u8>,
-    frames: usize,
+pub struct Pack {
+    pub residuals: Vec<i32>,
+    pub entropy: Vec<u8>,
+    pub frames: usize,
     /// The length of the lent buffer, and that of the answer.
-    room: usize,
-    slots: usize,
+    pub room: usize,
+    pub slots: usize,
 }
 
 impl fmt::Debug for Pack {
@@ -29,7 +29,10 @@ impl fmt::Debug for Pack {
 impl Case for Pack {
     fn compare(&self) -> Result<u32, String> {
         let (mut out, mut answer) = (Lent::marked(self.room), Lent::marked(self.slots));
-        let refusal = ours::pack(&self.residuals, &self.entropy, self.frames, out.list(), answer.list());
+        let (mut residuals, mut entropy) = (Lent::holding(&self.residuals), Lent::holding(&self.entropy));
+        let refusal = ours::pack(residuals.list(), entropy.list(), self.frames, out.list(), answer.list());
+        residuals.kept("residuals")?;
+        entropy.kept("entropy")?;
         if self.slots < 7 {
             same("refusal", &refusal, &6)?;
             out.kept("out")?;
@@ -62,7 +65,7 @@ impl Case for Pack {
 }
 
 /// All of a list, with just the room that it needs.
-fn whole_pack(residuals: Vec<i32>, entropy: Vec<u8>) -> Pack {
+pub fn whole_pack(residuals: Vec<i32>, entropy: Vec<u8>) -> Pack {
     let frames = residuals.len() / 2;
     Pack { residuals, entropy, frames, room: 28 * frames, slots: 7 }
 }

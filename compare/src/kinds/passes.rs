@@ -8,12 +8,12 @@ use crate::their_passes::{self, MAX_ELEMENTS, Pass, TERMS};
 use wavpack_stereo::{analyse, decorrelate, ffi};
 
 #[derive(Clone, Debug)]
-struct Passes {
-    analyse: bool,
-    passes: Vec<Pass>,
+pub struct Passes {
+    pub analyse: bool,
+    pub passes: Vec<Pass>,
     /// How many numbers of one more pass stand behind the list.
-    rest: usize,
-    buffer: Vec<i32>,
+    pub rest: usize,
+    pub buffer: Vec<i32>,
 }
 
 impl Passes {

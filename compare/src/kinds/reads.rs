@@ -30,7 +30,10 @@ impl fmt::Debug for Read {
 impl Case for Read {
     fn compare(&self) -> Result<u32, String> {
         let (mut samples, mut answer) = (Lent::marked(self.length), Lent::marked(self.slots));
-        let refusal = ours::read(&self.entropy, &self.payload, self.frames, samples.list(), answer.list());
+        let (mut entropy, mut payload) = (Lent::holding(&self.entropy), Lent::holding(&self.payload));
+        let refusal = ours::read(entropy.list(), payload.list(), self.frames, samples.list(), answer.list());
+        entropy.kept("entropy")?;
+        payload.kept("payload")?;
         if self.slots < 8 {
             same("refusal", &refusal, &6)?;
             samples.kept("samples")?;

@@ -7,22 +7,24 @@ use crate::random::Random;
 use crate::theirs::{self, MAX_BYTES, State};
 
 #[derive(Clone, Debug)]
-struct Word {
-    payload: Vec<u8>,
-    state: State,
-    /// The lengths of the three lists that are lent.
-    slots: [usize; 3],
+pub struct Word {
+    pub payload: Vec<u8>,
+    pub state: State,
+    /// The lengths of the three lists that are lent and written.
+    pub slots: [usize; 3],
 }
 
 /// As many slots as the interface asks for.
-const SLOTS: [usize; 3] = [13, 1, 2];
+pub const SLOTS: [usize; 3] = [13, 1, 2];
 
 impl Case for Word {
     fn compare(&self) -> Result<u32, String> {
         let held = [&self.state[..], &[77; 2]].concat();
         let mut state = Lent::holding(&held[..self.slots[0]]);
         let (mut sample, mut report) = (Lent::marked(self.slots[1]), Lent::marked(self.slots[2]));
-        let refusal = ours::word(&self.payload, state.list(), sample.list(), report.list());
+        let mut payload = Lent::holding(&self.payload);
+        let refusal = ours::word(payload.list(), state.list(), sample.list(), report.list());
+        payload.kept("payload")?;
         if (0..3).any(|i| self.slots[i] < SLOTS[i]) {
             same("refusal", &refusal, &6)?;
             state.kept("state")?;
