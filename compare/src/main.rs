@@ -2,8 +2,8 @@
 //!
 //! `compare` compares them on every kind of input. `compare SEED SCALE` does so with other random inputs, SCALE times
 //! as many. The seed is printed; the same seed gives the same inputs. `compare store` writes the answers of the
-//! published Rust that the program `replay` carries. `compare bench` prints a table of both sides' speed.
-//! `compare long` runs millions of damaged inputs.
+//! published Rust that the program `replay` carries. `compare bench` prints a table of both sides' speed, and
+//! `compare count` makes one call, whose instructions a tool can count. `compare long` runs millions of damaged inputs.
 mod bench;
 mod case;
 mod fields;
@@ -30,7 +30,9 @@ use std::time::{Duration, Instant};
 const SEED: u64 = 20_261_115;
 
 const USAGE: &str =
-    "usage: compare [SEED [SCALE]] | compare long [SEED [MILLIONS [MINUTES]]] | compare store | compare bench";
+    "usage: compare [SEED [SCALE]] | compare long [SEED [MILLIONS [MINUTES]]] | compare store | compare bench
+     | compare count ours|theirs reading|packing
+     | compare count ours|theirs decorrelation|analysis TERM|sixteen";
 
 fn compare(seed: u64, scale: usize) -> Result<(), Failed> {
     println!("compare: seed {seed}, scale {scale}");
@@ -64,6 +66,7 @@ fn run(words: &[&str]) -> Option<Result<(), Failed>> {
             bench::run(SEED);
             Some(Ok(()))
         }
+        ["count", call @ ..] => bench::count::run(call, SEED).then_some(Ok(())),
         ["long", bounds @ ..] => {
             let (millions, minutes) = (number(bounds, 1, 10.0)?, number(bounds, 2, 60.0)?);
             let time = Duration::try_from_secs_f64(60.0 * minutes).ok()?;

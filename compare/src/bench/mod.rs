@@ -6,6 +6,7 @@ use crate::random::Random;
 use crate::theirs::MAX_FRAMES;
 use std::time::{Duration, Instant};
 
+pub mod count;
 mod packing;
 mod passes;
 mod reading;

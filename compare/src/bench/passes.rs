@@ -7,7 +7,7 @@ use crate::theirs::MAX_FRAMES;
 use reference::decorrelation::{DecorrPass, decorrelate_stereo, recorrelate_stereo};
 use wavpack_stereo::{analyse, decorrelate};
 
-fn pass(random: &mut Random, term: i8) -> Pass {
+pub fn pass(random: &mut Random, term: i8) -> Pass {
     let mut pass: Pass = std::array::from_fn(|_| random.below(65_536) as i32 - 32_768);
     (pass[0], pass[1]) = (i32::from(term), 2);
     (pass[2], pass[3]) = (random.below(1024) as i32, random.below(1024) as i32);
@@ -37,10 +37,20 @@ fn turn(name: &str, back: bool, passes: &[Pass], buffer: &[i32]) {
     row(name, ours, theirs);
 }
 
+/// Noise of 16 bits.
+pub fn buffer(random: &mut Random) -> Vec<i32> {
+    (0..2 * MAX_FRAMES).map(|_| (random.next() as i32) >> 16).collect()
+}
+
+/// The terms of 16 passes: each one, and three that files hold often.
+pub fn sixteen() -> Vec<i8> {
+    TERMS.iter().copied().chain([18, 17, 2]).collect()
+}
+
 pub fn run(random: &mut Random) {
-    let buffer: Vec<i32> = (0..2 * MAX_FRAMES).map(|_| (random.next() as i32) >> 16).collect();
+    let buffer = buffer(random);
     let usual: [i8; 5] = [18, 18, 2, 17, 3];
-    let sixteen: Vec<i8> = TERMS.iter().copied().chain([18, 17, 2]).collect();
+    let sixteen = sixteen();
     for (what, back) in [("decorrelation", false), ("analysis", true)] {
         for term in TERMS {
             turn(&format!("{what}, term {term}"), back, &[pass(random, term)], &buffer);

@@ -1,0 +1,84 @@
+//! One call of one side, for a tool that counts the instructions of `counted`: the inputs are made before it, and the
+//! output is checked behind it.
+use super::passes::{self, sixteen};
+use super::reading::sounds;
+use crate::ours;
+use crate::random::Random;
+use crate::their_passes::{Pass, made};
+use crate::theirs::MAX_FRAMES;
+use reference::PackedSamples;
+use reference::decorrelation::{DecorrPass, decorrelate_stereo, recorrelate_stereo};
+use reference::entropy::expand_entropy;
+use reference::samples::{decode_packed_samples_stereo_from_entropy, encode_packed_samples_stereo_from_entropy};
+use wavpack_stereo::{BYTES_PER_FRAME, analyse, decorrelate, pack, read};
+
+/// The call, and nothing else.
+#[inline(never)]
+fn counted<T>(call: impl FnOnce() -> T) -> T {
+    std::hint::black_box(call())
+}
+
+/// Reading, or packing, of the loud sound.
+fn loud(random: &mut Random, packing: bool, ours: bool) {
+    let sound = sounds(random).swap_remove(0);
+    let info = expand_entropy(&sound.entropy).unwrap();
+    let payload = encode_packed_samples_stereo_from_entropy(&sound.residuals, &info).unwrap();
+    let (mut samples, mut out) = (vec![0x5a; 2 * MAX_FRAMES], vec![0x5a; BYTES_PER_FRAME * MAX_FRAMES]);
+    match (packing, ours) {
+        (false, true) => {
+            let reading = counted(|| read(&sound.entropy, &payload, MAX_FRAMES, &mut samples));
+            assert!(reading.is_ok() && samples == sound.residuals);
+        }
+        (false, false) => {
+            let packed = PackedSamples::new(&payload);
+            let samples = counted(|| decode_packed_samples_stereo_from_entropy(&packed, &info, MAX_FRAMES));
+            assert!(samples.unwrap() == sound.residuals);
+        }
+        (true, true) => {
+            let packed = counted(|| pack(&sound.residuals, &sound.entropy, MAX_FRAMES, &mut out));
+            let length = packed.unwrap().bytes();
+            assert!(out[..length] == payload[..length]);
+        }
+        (true, false) => {
+            let written = counted(|| encode_packed_samples_stereo_from_entropy(&sound.residuals, &info));
+            assert!(written.unwrap() == payload);
+        }
+    }
+}
+
+/// Decorrelation, or analysis, of the largest buffer.
+fn run_passes(random: &mut Random, terms: &[i8], back: bool, ours: bool) {
+    let mut buffer = passes::buffer(random);
+    let list: Vec<Pass> = terms.iter().map(|&term| passes::pass(random, term)).collect();
+    if ours {
+        let (mut list, way) = (ours::passes(&list), if back { analyse } else { decorrelate });
+        counted(|| way(&mut list, &mut buffer)).unwrap();
+    } else {
+        let mut list: Vec<DecorrPass> = list.iter().map(made).collect();
+        let way = if back { recorrelate_stereo } else { decorrelate_stereo };
+        counted(|| way(&mut list, &mut buffer)).unwrap();
+    }
+}
+
+/// Makes the call that the words name: `ours` or `theirs`; `reading`, `packing`, `decorrelation` or `analysis`; for the
+/// last two a term, or `sixteen` for 16 passes. False where they name none.
+pub fn run(words: &[&str], seed: u64) -> bool {
+    let random = &mut Random::new(seed);
+    let [side @ ("ours" | "theirs"), what, rest @ ..] = words else {
+        return false;
+    };
+    let ours = *side == "ours";
+    let terms = match rest {
+        [] => None,
+        ["sixteen"] => Some(sixteen()),
+        [term, ..] => term.parse().ok().map(|term: i8| vec![term]),
+    };
+    match (*what, terms) {
+        ("reading", None) => loud(random, false, ours),
+        ("packing", None) => loud(random, true, ours),
+        ("decorrelation", Some(terms)) => run_passes(random, &terms, false, ours),
+        ("analysis", Some(terms)) => run_passes(random, &terms, true, ours),
+        _ => return false,
+    }
+    true
+}

@@ -1,0 +1,112 @@
+/* Measures the stack that each function of the library needs, and prints a row of a table for each.
+   A call runs on a stack of its own that was filled with a pattern; how far down the pattern is gone is what the call needed:
+   the bytes below the caller's stack pointer, return address and stack arguments included, the most of many inputs. */
+#define _GNU_SOURCE
+#include <stdint.h>
+#include <stdio.h>
+#include <stdlib.h>
+#include <string.h>
+#include <ucontext.h>
+#include "wavpack_stereo.h"
+
+enum { STACK = 1 << 16, PATTERN = 0xa5, ROUNDS = 2000, FRAMES = 64, MOST_PASSES = 17 };
+
+static unsigned char stack[STACK];
+static unsigned char *above;
+static ucontext_t here, there;
+
+/* Calls, and remembers the stack pointer from which it does. */
+#define CALL(call)                                              \
+    do {                                                        \
+        __asm__ volatile("mov %%rsp, %0" : "=r"(above)::"memory"); \
+        (void)(call);                                           \
+    } while (0)
+
+/* A generator of numbers that repeats (SplitMix64). */
+static uint64_t state;
+static uint64_t next(void)
+{
+    uint64_t z = state += 0x9e3779b97f4a7c15u;
+    z = (z ^ (z >> 30)) * 0xbf58476d1ce4e5b9u;
+    z = (z ^ (z >> 27)) * 0x94d049bb133111ebu;
+    return z ^ (z >> 31);
+}
+
+static uint8_t entropy[12], payload[64 * FRAMES], out[28 * FRAMES];
+static int32_t numbers[2 * FRAMES], passes[20 * MOST_PASSES], seed[8];
+static uint32_t answer[13], report[2];
+
+/* Entropy payloads that reading takes, payloads with many ones, numbers of any size. */
+static void fill(void)
+{
+    for (size_t i = 0; i < 12; i++)
+        entropy[i] = (uint8_t)(i % 2 ? next() % 32 : next());
+    for (size_t i = 0; i < sizeof payload; i++)
+        payload[i] = (uint8_t)(next() | (next() & next()));
+    for (size_t i = 0; i < 2 * FRAMES; i++)
+        numbers[i] = (int32_t)next() >> (2 + next() % 30);
+    for (size_t i = 0; i < 20 * MOST_PASSES; i++)
+        passes[i] = (int32_t)next() >> next() % 32;
+    for (size_t i = 0; i < 13; i++)
+        answer[i] = (uint32_t)next() >> next() % 32;
+    answer[0] %= 8 * sizeof payload;
+    answer[1] %= 2;
+    answer[4] %= 4 * (next() % 8 == 0) + 1;
+}
+
+/* Valid terms, now and then one that is not. */
+static void fill_terms(void)
+{
+    static const int8_t terms[13] = {1, 2, 3, 4, 5, 6, 7, 8, 17, 18, -1, -2, -3};
+    for (size_t i = 0; i < MOST_PASSES; i++)
+        passes[20 * i] = next() % 200 ? terms[next() % 13] : 9;
+}
+
+static void log_word(void) { CALL(wv_log_word((int16_t)next(), numbers, 1)); }
+static void term_byte(void) { CALL(wv_term_byte((uint8_t)next(), numbers, 2)); }
+static void weight_byte(void) { CALL(wv_weight_byte((uint8_t)next(), numbers, 1)); }
+static void medians(void) { CALL(wv_entropy(entropy, next() % 2 ? 12 : 6, numbers, 6)); }
+static void word(void) { CALL(wv_word(payload, sizeof payload, answer, 13, numbers, 1, report, 2)); }
+static void reading(void) { CALL(wv_read(entropy, 12, payload, sizeof payload, FRAMES, numbers, 2 * FRAMES, answer, 8)); }
+static void making(void) { CALL(wv_pass((int8_t)passes[0], 2, 3, 4, seed, 8, seed, 8, passes + 20, 20)); }
+static void decorrelation(void) { CALL(wv_decorrelate(passes, 20 * (next() % 18), numbers, 2 * FRAMES)); }
+static void analysis(void) { CALL(wv_analyse(passes, 20 * (next() % 18), numbers, 2 * FRAMES)); }
+static void packing(void) { CALL(wv_pack(numbers, 2 * FRAMES, entropy, 12, FRAMES, out, sizeof out, answer, 7)); }
+
+/* How many bytes one call needs. */
+static size_t needed(void (*call)(void))
+{
+    memset(stack, PATTERN, STACK);
+    if (getcontext(&there) != 0)
+        exit(2);
+    there.uc_stack.ss_sp = stack;
+    there.uc_stack.ss_size = STACK;
+    there.uc_link = &here;
+    makecontext(&there, call, 0);
+    if (swapcontext(&here, &there) != 0)
+        exit(2);
+    size_t untouched = 0;
+    while (untouched < STACK && stack[untouched] == PATTERN)
+        untouched++;
+    return (size_t)(above - (stack + untouched));
+}
+
+int main(void)
+{
+    static const struct { const char *name; void (*call)(void); } entries[10] = {
+        {"wv_log_word", log_word}, {"wv_term_byte", term_byte}, {"wv_weight_byte", weight_byte}, {"wv_entropy", medians},
+        {"wv_word", word}, {"wv_read", reading}, {"wv_pass", making}, {"wv_decorrelate", decorrelation},
+        {"wv_analyse", analysis}, {"wv_pack", packing}};
+    puts("| function | bytes of stack |\n|---|---:|");
+    for (size_t i = 0; i < 10; i++) {
+        size_t most = 0;
+        for (int round = 0; round < ROUNDS; round++) {
+            fill();
+            fill_terms();
+            size_t bytes = needed(entries[i].call);
+            most = bytes > most ? bytes : most;
+        }
+        printf("| `%s` | %zu |\n", entries[i].name, most);
+    }
+    return 0;
+}
