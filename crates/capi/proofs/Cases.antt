@@ -18,7 +18,8 @@ use Rattle.samples.specs.State.{paid, inRun, unbroken, cleared, flagged, after,
 use Rattle.samples.specs.Word.{value, plain, fresh, word}
 use Rattle.samples.specs.Reading.{reading}
 use Rattle.samples.specs.View.{readRefusal, readEntry, oneWord}
-use Rattle.capi.specs.Words.{readLeft, readCall, wordLeft, wordCall}
+use Rattle.word_slots.specs.WordSlots.{wordLeft}
+use Rattle.capi.specs.Words.{readLeft, readCall, wordCall}
 
 -- one frame: 3 and -1 in 10 bits; the left medians went up from 1, and a ninth element stays
 pub frame-read :

@@ -1,9 +1,5 @@
-pub mod SlotLaws
 pub mod EntropySlots
-pub mod PlaceLaws
-pub mod WordSlots
-pub mod PassSlotLaws
-pub mod PassCallLaws
-pub mod ListCallLaws
+pub mod WordLaws
+pub mod PassLaws
 pub mod PackLaws
 pub mod Cases

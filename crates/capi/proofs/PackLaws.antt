@@ -1,32 +1,25 @@
 -- The answers of `wv_pack`, each way out by a law; the bits written fit 32 bits.
 -- Assumes nothing.
 use mathlib.Core.Path.{_≡_, refl, ap}
-use mathlib.Core.List.{List, [], _∷_}
+use mathlib.Core.List.{List}
 use Prim.Native.Nat.{ℕ, zero, suc, _≤_, _<_}
 use native.Mathlib.Omega.{arith}
 use lib.IntN.{ℤ}
-use lib.ListN.{length, getD}
+use lib.ListN.{length}
 use borrow.Author.Tests.{lt-ltb, le-ltb}
 use Rattle.answers.specs.Numbers.{outcomeNumber}
-use Rattle.entropy.specs.Medians.{Medians}
+use Rattle.entropy.specs.Medians.{Medians, pairOf}
 use Rattle.entropy.specs.Seed.{seedMedians}
 use Rattle.samples.specs.State.{start}
-use Rattle.samples.proofs.HeldLaws.{noSet, there}
 use Rattle.packing.specs.Entry.{PackTold, packToldOf, packedFrom, toldPacked, packRefusal, unlessRefused, packEntry}
 use Rattle.packing.specs.declared.PackAnswer.{PackAnswer}
 use Rattle.packing.proofs.EntryLaws.{seeds-small}
 use Rattle.packing.proofs.ReadingLaws.{start-inv}
 use Rattle.packing.proofs.SizeLaws.{packed-long}
 use Rattle.packing.proofs.TripLaws.{packing-accepted}
-use Rattle.capi.specs.Slots.{laid}
-use Rattle.capi.specs.PackSlots.{packLeft, packCall}
-
--- the seven numbers that the code takes out of an answer
-abbrev answerSlots : PackAnswer → List ℕ
-answerSlots x =
-    let l = getD (x .medians) 0 noSet .values in
-    let r = getD (x .medians) 1 noSet .values in
-    x .bits ∷ getD l 0 0 ∷ getD l 1 0 ∷ getD l 2 0 ∷ getD r 0 0 ∷ getD r 1 0 ∷ getD r 2 0 ∷ []
+use Rattle.slots.specs.Slots.{laid}
+use Rattle.word_slots.specs.WordSlots.{toldSlots}
+use Rattle.capi.specs.Pack.{packLeft, packCall}
 
 module _ (residuals : List ℤ) (entropy : List ℕ) (frames : ℕ) (buffer : List ℕ) where
   -- at most 111 bits for each of 262,144 residuals, and none on refusal
@@ -59,7 +52,7 @@ module _ (residuals : List ℤ) (entropy : List ℕ) (frames : ℕ) (buffer : Li
     pack-short r e h = rw (lt-ltb (length answer) 7 h, e)
 
     -- what packing told
-    pub pack-laid : (x : PackAnswer) (bytes : List ℕ) (r : ℕ) (after : List ℕ) → length (x .medians) ≡ 2 → packToldOf x bytes ≡ packEntry residuals entropy frames buffer → 7 ≤ length answer
-        → r ≡ outcomeNumber (x .outcome) → after ≡ laid (answerSlots x) answer → packLeft r bytes after ≡ packCall residuals entropy frames buffer answer
+    pub pack-laid : (x : PackAnswer) (bytes : List ℕ) (r : ℕ) (after : List ℕ) → packToldOf x bytes ≡ packEntry residuals entropy frames buffer → 7 ≤ length answer
+        → r ≡ outcomeNumber (x .outcome) → after ≡ laid (toldSlots (x .bits) (pairOf (x .medians))) answer → packLeft r bytes after ≡ packCall residuals entropy frames buffer answer
     unfolding packCall
-    pack-laid x bytes r after l t h e f = rw (le-ltb (length answer) 7 h, ← t, e, f, there (x .medians) 0 l (omega arith), there (x .medians) 1 l (omega arith))
+    pack-laid x bytes r after t h e f = rw (le-ltb (length answer) 7 h, ← t, e, f)

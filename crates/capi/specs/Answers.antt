@@ -7,7 +7,7 @@ use Rattle.logpack.specs.LogWord.{logWord}
 use Rattle.entropy.specs.Entropy.{entropyInfo, entropyRefusal}
 use Rattle.entropy.specs.Seed.{orElse}
 use Rattle.decorrelation.specs.PassBytes.{termOfByte, deltaOfByte, weightOfByte}
-use Rattle.capi.specs.Slots.{slotRefusal}
+use Rattle.slots.specs.Slots.{slotRefusal}
 
 -- `wv_log_word`: the value of the word
 abbrev pub logWordValues : ℤ → List ℤ

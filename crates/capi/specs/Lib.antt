@@ -1,5 +1,4 @@
-pub mod Slots
 pub mod Answers
 pub mod Words
-pub mod PassSlots
-pub mod PackSlots
+pub mod Passes
+pub mod Pack

@@ -3,7 +3,6 @@
 // has fewer slots is refused with 6, and then nothing is written. Only the passes of a list are copied, into an array of 16.
 pub mod pack;
 pub mod pass_lists;
-pub mod slots;
 pub mod values;
 pub mod words;
 

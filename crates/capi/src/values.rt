@@ -1,11 +1,11 @@
 // Values of one word or byte, and of the entropy payload. A refused call leaves the lent list as it was.
-use crate::slots::lay;
 use answers::Outcome;
 use answers::Refusal;
 use answers::number;
 use answers::outcome_number;
+use slots::lay;
 ghost use mathlib.Core.Path.{_≡_};
-ghost use Rattle.capi.specs.Slots.{slotRefusal, laidIf};
+ghost use Rattle.slots.specs.Slots.{slotRefusal, laidIf};
 ghost use Rattle.capi.specs.Answers.{logWordValues, termByteValues, weightByteValues, entropyValues, entropyAnswer};
 
 // The value of a log word, into 1 slot. Refuses 6.
@@ -18,7 +18,7 @@ pub extern "C" fn wv_log_word(word: i16, value: &mut [i32]) -> u32
         return number(Refusal::ListLength);
     }
     let values = [logpack::wp_exp2s(word)];
-    lay(&values, value);
+    lay(&values, 0, value);
     0
 }
 
@@ -35,7 +35,7 @@ pub extern "C" fn wv_term_byte(byte: u8, out: &mut [i32]) -> u32
     let term = decoded.term;
     let delta = decoded.delta;
     let values = [term as i32, delta];
-    lay(&values, out);
+    lay(&values, 0, out);
     0
 }
 
@@ -49,7 +49,7 @@ pub extern "C" fn wv_weight_byte(byte: u8, out: &mut [i32]) -> u32
         return number(Refusal::ListLength);
     }
     let values = [decorrelation::expand_weight_byte(byte)];
-    lay(&values, out);
+    lay(&values, 0, out);
     0
 }
 
@@ -70,7 +70,7 @@ pub extern "C" fn wv_entropy(entropy: &[u8], medians: &mut [i32]) -> u32
     };
     let left = info.medians_left;
     let right = info.medians_right;
-    let values = [left[0], left[1], left[2], right[0], right[1], right[2]];
-    lay(&values, medians);
+    lay(&left, 0, medians);
+    lay(&right, 3, medians);
     0
 }

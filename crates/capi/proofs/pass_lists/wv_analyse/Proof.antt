@@ -1,7 +1,7 @@
 -- `capi::pass_lists::wv_analyse` meets its contract.
 -- Assumes nothing.
 use mathlib.Core.Path.{_∙_}
-use Rattle.capi.proofs.ListCallLaws.{call-analysis}
+use Rattle.pass_slots.proofs.CallLaws.{call-analysis}
 use borrow.Author.Needs.{needs}
 use Rattle.capi.proofs.pass_lists.wv_analyse.Statement.{statement}
 use Rattle.capi.proofs.pass_lists.wv_analyse.Tie as tie

@@ -1,7 +1,7 @@
 -- `capi::pass_lists::wv_decorrelate` meets its contract.
 -- Assumes nothing.
 use mathlib.Core.Path.{_∙_}
-use Rattle.capi.proofs.ListCallLaws.{call-decorrelation}
+use Rattle.pass_slots.proofs.CallLaws.{call-decorrelation}
 use borrow.Author.Needs.{needs}
 use Rattle.capi.proofs.pass_lists.wv_decorrelate.Statement.{statement}
 use Rattle.capi.proofs.pass_lists.wv_decorrelate.Tie as tie

@@ -5,7 +5,7 @@ use mir.Syntax.{w8, w32}
 use mir.ValLaws.{toZ-ofZ}
 use Rattle.answers.specs.Numbers.{outcomeNumber}
 use Rattle.passes.specs.Making.{made}
-use Rattle.capi.proofs.PassCallLaws.{pass-short, pass-refused, pass-made}
+use Rattle.capi.proofs.PassLaws.{pass-short, pass-refused, pass-made}
 use borrow.Author.Needs.{needs}
 use Rattle.capi.proofs.pass_lists.wv_pass.Statement.{statement}
 use Rattle.capi.proofs.pass_lists.wv_pass.Tie as tie

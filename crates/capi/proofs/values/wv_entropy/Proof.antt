@@ -1,11 +1,10 @@
 -- `capi::values::wv_entropy` meets its contract: one law for each of its three answers.
 -- Assumes nothing.
-use mathlib.Core.Path.{_≡_}
-use lib.IntN.{pos}
-use lib.ListN.{getD}
-use mir.Syntax.{w32}
-use mir.ValLaws.{toZ-ofZ}
-use Rattle.capi.proofs.EntropySlots.{six, sixAgain, entropy-short, entropy-refused, entropy-laid}
+use mathlib.Core.Path.{_≡_, ap, _∙_}
+use native.Mathlib.Omega.{arith}
+use lib.ListN.{length}
+use Rattle.slots.proofs.SlotLaws.{laid-length}
+use Rattle.capi.proofs.EntropySlots.{entropy-short, entropy-refused, entropy-laid}
 use borrow.Author.Needs.{needs}
 use Rattle.capi.proofs.values.wv_entropy.Statement.{statement}
 use Rattle.capi.proofs.values.wv_entropy.Tie as tie
@@ -33,41 +32,35 @@ returns-2 c =
     let x = c .before .before .before .before .expand-entropy in
     entropy-refused _ _ _ _ _ (c .outcome-number .ensures) (c .before .enum-told2 .given .1) (x .ensures .0) (c .before .before .before .before .before .if1 .left)
 
-array-copy-out-t14 : tie.Need-array-copy-out-t14
-array-copy-out-t14 c = search needs
-
-array-copy-out-t17 : tie.Need-array-copy-out-t17
-array-copy-out-t17 c = search needs
-
-array-copy-out-t20 : tie.Need-array-copy-out-t20
-array-copy-out-t20 c = search needs
-
-array-copy-out-t23 : tie.Need-array-copy-out-t23
-array-copy-out-t23 c = search needs
-
-array-copy-out-t26 : tie.Need-array-copy-out-t26
-array-copy-out-t26 c = search needs
-
-array-copy-out-t29 : tie.Need-array-copy-out-t29
-array-copy-out-t29 c = search needs
-
 slice-aggregate-lay : tie.Need-slice-aggregate-lay
 slice-aggregate-lay c = search needs
 
 lay-requires : tie.Need-lay-requires
-lay-requires c κs = search needs
+lay-requires c κs =
+    let l : length (c .before .before .before .before .before .before .before .expand-entropy .result .info .«medians_left») ≡ 3 = search needs in
+    omega (arith, l, c .before .before .before .before .before .before .before .before .if1 .left)
+
+slice-aggregate-lay-2 : tie.Need-slice-aggregate-lay-2
+slice-aggregate-lay-2 c = search needs
+
+lay-requires-2 : tie.Need-lay-requires-2
+lay-requires-2 c κs =
+    let slots = c .before .before .before .before .before .before .before .before .before .before .before .before .before .before .args .medians .now in
+    let i = c .before .before .before .before .before .before .before .before .before .before .before .expand-entropy .result .info in
+    let l : length (i .«medians_left») ≡ 3 = search needs in
+    let r : length (i .«medians_right») ≡ 3 = search needs in
+    let enough = c .before .before .before .before .before .before .before .before .before .before .before .before .if1 .left in
+    let same = ap length (c .before .before .before .lay .ensures) ∙ laid-length 0 (i .«medians_left») slots (omega (arith, l, enough)) in
+    omega (arith, r, same, enough)
 
 same-length : tie.Need-same-length
 same-length c = search needs
 
 returns-3 : tie.Need-returns-3
 returns-3 c =
-    let x = c .before .before .before .before .before .before .before .before .before .before .before .before .before .before .before .expand-entropy in
-    let l = x .result .info .«medians_left» in
-    let r = x .result .info .«medians_right» in
-    let same : sixAgain (x .result .info) ≡ six (x .result .info) = rw (toZ-ofZ w32 (getD l 0 (pos 0)) (search needs), toZ-ofZ w32 (getD l 1 (pos 0)) (search needs), toZ-ofZ w32 (getD l 2 (pos 0)) (search needs), toZ-ofZ w32 (getD r 0 (pos 0)) (search needs), toZ-ofZ w32 (getD r 1 (pos 0)) (search needs), toZ-ofZ w32 (getD r 2 (pos 0)) (search needs)) in
-    entropy-laid (c .before .before .before .before .before .before .before .before .before .before .before .before .before .before .before .before .before .before .args .entropy .now) (c .before .before .before .before .before .before .before .before .before .before .before .before .before .before .before .before .before .before .args .medians .now) _ _ _ _ (c .before .lay .ensures) same
-    (c .before .before .before .before .before .before .before .before .before .before .before .before .enum-told .given .1) (x .ensures .0) (x .ensures .1) (c .before .before .before .before .before .before .before .before .before .before .before .before .before .before .before .before .if1 .left)
+    let a = c .before .before .before .before .before .before .before .before .before .before .before .before .before .before .before .before .args in
+    let x = c .before .before .before .before .before .before .before .before .before .before .before .before .before .expand-entropy in
+    entropy-laid (a .entropy .now) (a .medians .now) _ _ (x .result .outcome) (x .result .info) (c .before .before .before .before .before .before .before .before .before .before .before .before .before .before .if1 .left) (c .before .before .before .before .before .before .before .before .before .before .enum-told .given .1) (x .ensures .0) (x .ensures .1) (search needs) (c .before .before .before .before .before .lay .ensures) (c .before .lay2 .ensures)
 
 pub wv-entropy-spec : {M : Type 1} → statement M
 wv-entropy-spec =
@@ -80,13 +73,9 @@ wv-entropy-spec =
     enum-told-2
     outcome-number-requires
     returns-2
-    array-copy-out-t14
-    array-copy-out-t17
-    array-copy-out-t20
-    array-copy-out-t23
-    array-copy-out-t26
-    array-copy-out-t29
     slice-aggregate-lay
     lay-requires
+    slice-aggregate-lay-2
+    lay-requires-2
     same-length
     returns-3)

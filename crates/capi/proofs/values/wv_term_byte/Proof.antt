@@ -6,7 +6,7 @@ use mir.Syntax.{w8, w32}
 use mir.ValLaws.{toZ-ofZ}
 use Rattle.capi.specs.Answers.{termByteValues}
 use Rattle.logpack.proofs.Negation.{again}
-use Rattle.capi.proofs.SlotLaws.{wider, short, enough}
+use Rattle.slots.proofs.SlotLaws.{wider, short, enough}
 use borrow.Author.Needs.{needs}
 use Rattle.capi.proofs.values.wv_term_byte.Statement.{statement}
 use Rattle.capi.proofs.values.wv_term_byte.Tie as tie

@@ -5,7 +5,7 @@ use mir.Syntax.{w32}
 use mir.ValLaws.{toZ-ofZ}
 use Rattle.capi.specs.Answers.{weightByteValues}
 use Rattle.logpack.proofs.Negation.{again}
-use Rattle.capi.proofs.SlotLaws.{short, enough}
+use Rattle.slots.proofs.SlotLaws.{short, enough}
 use borrow.Author.Needs.{needs}
 use Rattle.capi.proofs.values.wv_weight_byte.Statement.{statement}
 use Rattle.capi.proofs.values.wv_weight_byte.Tie as tie

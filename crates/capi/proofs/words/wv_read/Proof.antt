@@ -1,12 +1,9 @@
 -- `capi::words::wv_read` meets its contract: too few slots, or what reading told, whose counts fit 32 bits.
 -- Assumes nothing.
-use borrow.Author.Needs.{needs}
 use native.Mathlib.Omega.{arith}
-use mathlib.Core.Path.{_≡_}
-use denote.Ref.{now}
-use lib.ListN.{length}
-use Rattle.samples.proofs.HeldLaws.{length-mapped, there}
-use Rattle.capi.proofs.WordSlots.{read-short, read-fits, read-laid}
+use Rattle.word_slots.proofs.PlaceLaws.{read-fits}
+use Rattle.capi.proofs.WordLaws.{read-short, read-laid}
+use borrow.Author.Needs.{needs}
 use Rattle.capi.proofs.words.wv_read.Statement.{statement}
 use Rattle.capi.proofs.words.wv_read.Tie as tie
 
@@ -16,48 +13,24 @@ number-requires c κs = search needs
 returns : tie.Need-returns
 returns c =
     let a = c .before .before .before .before .before .args in
-    read-short (now (a .entropy)) (now (a .payload)) (a .frames) (now (a .samples)) (now (a .answer)) _ (c .number .ensures) (omega arith)
+    read-short (a .entropy .now) (a .payload .now) (a .frames) (a .samples .now) (a .answer .now) _ (c .number .ensures) (c .before .if1 .taken)
 
 decode-packed-samples-stereo-from-entropy-requires :
     tie.Need-decode-packed-samples-stereo-from-entropy-requires
 decode-packed-samples-stereo-from-entropy-requires c κs = search needs
 
-array-copy-out-left : tie.Need-array-copy-out-left
-array-copy-out-left c = search needs
+lay-told-requires : tie.Need-lay-told-requires
+lay-told-requires c κs =
+    let a = c .before .before .before .before .before .before .before .before .before .args in
+    let x = c .before .before .before .decode-packed-samples-stereo-from-entropy in
+    let s = read-fits (a .entropy .now) (a .payload .now) (a .frames) (a .samples .now) _ (x .result) (x .ensures) in
+    (omega (arith, s .bits-small), omega (arith, c .before .before .before .before .before .if1 .left))
 
-array-copy-out-right : tie.Need-array-copy-out-right
-array-copy-out-right c = search needs
-
-cast-t26 : tie.Need-cast-t26
-cast-t26 c =
+cast-t20 : tie.Need-cast-t20
+cast-t20 c =
     let a = c .before .before .before .before .before .before .before .before .before .before .before .before .args in
     let x = c .before .before .before .before .before .before .decode-packed-samples-stereo-from-entropy in
-    let s = read-fits (now (a .entropy)) (now (a .payload)) (a .frames) (now (a .samples)) _ (x .result) (x .ensures) in
-    omega (arith, s .bits-small)
-
-array-read-t29 : tie.Need-array-read-t29
-array-read-t29 c = search needs
-
-array-read-t32 : tie.Need-array-read-t32
-array-read-t32 c = search needs
-
-array-read-t35 : tie.Need-array-read-t35
-array-read-t35 c = search needs
-
-array-read-t38 : tie.Need-array-read-t38
-array-read-t38 c = search needs
-
-array-read-t41 : tie.Need-array-read-t41
-array-read-t41 c = search needs
-
-array-read-t44 : tie.Need-array-read-t44
-array-read-t44 c = search needs
-
-cast-t45 : tie.Need-cast-t45
-cast-t45 c =
-    let a = c .before .before .before .before .before .before .before .before .before .before .before .before .args in
-    let x = c .before .before .before .before .before .before .decode-packed-samples-stereo-from-entropy in
-    let s = read-fits (now (a .entropy)) (now (a .payload)) (a .frames) (now (a .samples)) _ (x .result) (x .ensures) in
+    let s = read-fits (a .entropy .now) (a .payload .now) (a .frames) (a .samples .now) _ (x .result) (x .ensures) in
     omega (arith, s .written-small)
 
 slice-aggregate-lay-words : tie.Need-slice-aggregate-lay-words
@@ -79,9 +52,7 @@ returns-2 : tie.Need-returns-2
 returns-2 c =
     let a = c .before .before .before .before .before .before .before .before .before .before .before .before .before .before .before .before .before .before .args in
     let x = c .before .before .before .before .before .before .before .before .before .before .before .before .decode-packed-samples-stereo-from-entropy in
-    let ms = x .result .medians in
-    let l : length ms ≡ 2 = search (needs, length-mapped) in
-    read-laid (now (a .entropy)) (now (a .payload)) (a .frames) (now (a .samples)) (now (a .answer)) (x .result) _ _ _ l (x .ensures) (omega arith) (c .outcome-number .ensures) (c .before .before .before .lay-words .ensures)
+    read-laid (a .entropy .now) (a .payload .now) (a .frames) (a .samples .now) (a .answer .now) (x .result) _ _ _ _ (x .ensures) (c .before .before .before .before .before .before .before .before .before .before .before .before .before .before .if1 .left) (c .outcome-number .ensures) (c .before .before .before .before .before .before .before .before .lay-told .ensures) (c .before .before .before .lay-words .ensures)
 
 pub wv-read-spec : {M : Type 1} → statement M
 wv-read-spec =
@@ -90,16 +61,8 @@ wv-read-spec =
     number-requires
     returns
     decode-packed-samples-stereo-from-entropy-requires
-    array-copy-out-left
-    array-copy-out-right
-    cast-t26
-    array-read-t29
-    array-read-t32
-    array-read-t35
-    array-read-t38
-    array-read-t41
-    array-read-t44
-    cast-t45
+    lay-told-requires
+    cast-t20
     slice-aggregate-lay-words
     lay-words-requires
     outcome-number-requires

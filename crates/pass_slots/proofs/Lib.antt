@@ -1,0 +1,2 @@
+pub mod PassSlotLaws
+pub mod CallLaws

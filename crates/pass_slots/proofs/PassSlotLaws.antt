@@ -1,0 +1,126 @@
+-- Passes and their slots: the term of a slot, one pass and its 20 slots, lists of passes pass by pass.
+-- Assumes nothing.
+use mathlib.Core.Path.{_≡_, refl, sym, ap, _∙_}
+use mathlib.Core.Bool.{true, false}
+use mathlib.Core.List.{List, [], _∷_, _++_, append-assoc, append-nil}
+use Prim.Native.Nat.{ℕ, zero, suc, _+_, _-_, _*_, _≤_, _<_}
+use native.Mathlib.Omega.{arith}
+use lib.IntN.{ℤ, pos, negsuc}
+use lib.ListN.{length, getD, set, take, drop, length-append, length-drop}
+use lib.Seq.{take-at, drop-at, take-suc, take-suc-set, take-length, drop-drop, length-take-le}
+use lib.Signed.{ltZ}
+use mir.Syntax.{w8}
+use mir.Val.{SFits}
+use borrow.Author.Tests.{ltb-true, ltb-false, le-leb, lt-leb}
+use Rattle.passes.specs.declared.DecorrPass.{DecorrPass}
+use Rattle.slots.specs.Slots.{laid, laidAt}
+use Rattle.slots.proofs.SlotLaws.{laid-first, laid-next, laid-whole}
+use Rattle.pass_slots.specs.PassSlots.{slotTerm, passOf, slotsOf, passesOf, listSlots}
+
+-- ---- the term of a slot
+
+-- a number below 8 bits
+pub term-low : (z : ℤ) → ltZ z (negsuc 127) ≡ true → pos 0 ≡ slotTerm z
+term-low (pos n) t = cc
+term-low (negsuc n) t = rw (lt-leb n 127 (ltb-true 127 n t))
+
+-- a number above 8 bits
+pub term-high : (z : ℤ) → ltZ (pos 127) z ≡ true → pos 0 ≡ slotTerm z
+term-high (pos n) t = rw (lt-leb n 127 (ltb-true 127 n t))
+term-high (negsuc n) t = cc
+
+-- a number of 8 bits
+pub term-fits : (z : ℤ) → ltZ z (negsuc 127) ≡ false → ltZ (pos 127) z ≡ false → SFits w8 z
+term-fits (pos n) a b = record { sfits = omega (arith, ltb-false 127 n b) }
+term-fits (negsuc n) a b = record { sfits = omega (arith, ltb-false 127 n a) }
+
+-- it is kept
+pub term-kept : (z : ℤ) → SFits w8 z → z ≡ slotTerm z
+term-kept (pos n) h = rw (le-leb n 127 (omega (arith, h .sfits)))
+term-kept (negsuc n) h = rw (le-leb n 127 (omega (arith, h .sfits)))
+
+-- ---- one pass
+
+-- the part of a list from place a on is what is left of it
+pub part-is : (a : ℕ) (l : List ℤ) → take (length l - a) (drop a l) ≡ drop a l
+part-is a l = rw (← length-drop a l) (take-length (drop a l))
+
+-- a history that was laid into eight slots
+history-held : (l h : List ℤ) (at : ℕ) → at + 8 ≤ length l → length h ≡ 8 → laidAt 0 (take 8 (drop at l)) h ≡ take 8 (drop at l)
+history-held l h at k e =
+    let part = take 8 (drop at l) in
+    let n : length part ≡ length h = length-take-le 8 (drop at l) (rw (length-drop at l) (omega arith)) ∙ sym e in
+    laid-first part h ∙ laid-whole part h n
+
+-- a pass from the parts of its slots
+pub pass-held : (s h g : List ℤ) (t : ℤ) (a b : List ℤ) → 20 ≤ length s → length h ≡ 8 → length g ≡ 8 → t ≡ slotTerm (getD s 0 (pos 0)) → a ≡ laidAt 0 (take 8 (drop 4 s)) h → b ≡ laidAt 0 (take 8 (drop 12 s)) g
+    → record { term = t; delta = getD s 1 (pos 0); «weight_a» = getD s 2 (pos 0); «weight_b» = getD s 3 (pos 0); «history_a» = a; «history_b» = b } ≡ passOf s
+unfolding passOf
+pass-held s h g t a b long i j e f k = rw (e, f, k, history-held s h 4 (omega arith) i, history-held s g 12 (omega arith) j)
+
+-- the 20 slots of a pass: four numbers, then the two histories
+pub twenty : (p : DecorrPass) (head none first second third : List ℤ) → first ≡ laidAt 0 head none → second ≡ laidAt 4 (p .«history_a») first → third ≡ laidAt 12 (p .«history_b») second → length none ≡ 20
+    → length (p .«history_a») ≡ 8 → length (p .«history_b») ≡ 8 → head ≡ p .term ∷ p .delta ∷ p .«weight_a» ∷ p .«weight_b» ∷ [] → third ≡ slotsOf p
+unfolding slotsOf
+twenty p head none first second third e f g n la lb h =
+    let a = p .«history_a» in
+    let b = p .«history_b» in
+    let four : length head ≡ 4 = ap length h in
+    let twelve : length (head ++ a) ≡ 12 = rw (length-append head a, four, la) in
+    let all : length ((head ++ a) ++ b) ≡ length none = rw (length-append (head ++ a) b, twelve, lb, n) in
+    g ∙ rw (f, e, laid-first head none, laid-next 4 head a none four, laid-next 12 (head ++ a) b none twelve, laid-whole ((head ++ a) ++ b) none all, append-assoc head a b, h)
+
+-- the slots of a pass hold that pass
+pub pass-again : (p : DecorrPass) → SFits w8 (p .term) → length (p .«history_a») ≡ 8 → length (p .«history_b») ≡ 8 → passOf (slotsOf p) ≡ p
+unfolding passOf slotsOf
+pass-again p h a b =
+    let l = p .«history_b» in
+    let whole : take 8 l ≡ l = rw (← b) (take-length l) in
+    rw (← term-kept (p .term) h, take-at (p .«history_a») l 8 a, drop-at (p .«history_a») l 8 a, whole)
+
+-- ---- lists of passes
+
+-- one pass more
+passes-more : (i : ℕ) (s : List ℤ) → passesOf (suc i) s ≡ passesOf i s ++ (passOf (drop (i * 20) s) ∷ [])
+passes-more zero s = refl
+passes-more (suc i) s =
+    let e : 20 + i * 20 ≡ suc i * 20 = omega arith in
+    ap (λ (l : List DecorrPass). passOf s ∷ l) (rw (← e, ← drop-drop (i * 20) 20 s) (passes-more i (drop 20 s)))
+
+-- how many there are
+pub passes-length : (n : ℕ) (s : List ℤ) → length (passesOf n s) ≡ n
+passes-length zero s = refl
+passes-length (suc n) s = ap suc (passes-length n (drop 20 s))
+
+-- one pass more in an array
+pub taken-more : (i : ℕ) (ps : List DecorrPass) (p : DecorrPass) (s : List ℤ) → i < length ps → take i ps ≡ passesOf i s → p ≡ passOf (drop (i * 20) s) → take (suc i) (set ps i p) ≡ passesOf (suc i) s
+taken-more i ps p s h e f = rw (take-suc-set ps i p h, e, f) (sym (passes-more i s))
+
+-- slots of two lists, one behind the other
+slots-append : (ps qs : List DecorrPass) → listSlots (ps ++ qs) ≡ listSlots ps ++ listSlots qs
+slots-append [] qs = refl
+slots-append (p ∷ ps) qs = rw (slots-append ps qs, append-assoc (slotsOf p) (listSlots ps) (listSlots qs))
+
+-- the slots of the first i passes are laid
+pub record Laying (i : ℕ) (ps : List DecorrPass) (before slots : List ℤ) : Type 0 where
+  pub long : length (listSlots (take i ps)) ≡ i * 20
+  pub holds : slots ≡ laid (listSlots (take i ps)) before
+
+pub laying-none : (ps : List DecorrPass) (before : List ℤ) → Laying 0 ps before before
+laying-none ps before = record { long = refl; holds = refl }
+
+-- one more is laid behind them
+pub laying-more : (i : ℕ) (ps : List DecorrPass) (d : DecorrPass) (before slots values after : List ℤ) → i < length ps → length values ≡ 20 → values ≡ slotsOf (getD ps i d)
+    → after ≡ laidAt (i * 20) values slots → Laying i ps before slots → Laying (suc i) ps before after
+laying-more i ps d before slots values after h n v e l =
+    let done = listSlots (take i ps) in
+    let more : listSlots (take (suc i) ps) ≡ done ++ values = rw (take-suc ps i d h, slots-append (take i ps) (getD ps i d ∷ []), append-nil (slotsOf (getD ps i d)), v) in
+    let long : length (done ++ values) ≡ suc i * 20 = rw (length-append done values, l .long, n) (omega arith) in
+    record { long = rw more long; holds = rw more (e ∙ ap (laidAt (i * 20) values) (l .holds) ∙ laid-next (i * 20) done values before (l .long)) }
+
+-- all of them are laid
+pub laying-all : (n i : ℕ) (ps : List DecorrPass) (before slots : List ℤ) → n ≤ i → i ≤ n → length before ≡ n * 20 → Laying i ps before slots → slots ≡ listSlots (take n ps)
+laying-all n i ps before slots h k e l =
+    let same : i ≡ n = omega arith in
+    let whole : length (listSlots (take i ps)) ≡ length before = l .long ∙ rw same (sym e) in
+    rw (← same) (l .holds ∙ laid-whole (listSlots (take i ps)) before whole)

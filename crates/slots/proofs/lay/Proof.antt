@@ -1,0 +1,79 @@
+-- `slots::lay` meets its contract. The loop's invariant: the first i values are copied, and the list has its length. The measure is what is left of the values.
+-- Assumes nothing.
+use mathlib.Core.Path.{_≡_, refl, _∙_}
+use Prim.Native.Nat.{_≤_, _-_}
+use native.Mathlib.Numerals.{add-one}
+use native.Mathlib.Omega.{arith}
+use lib.IntN.{pos}
+use lib.ListN.{length, getD, length-set}
+use lib.Seq.{paste, paste-zero, paste-suc}
+use mir.Syntax.{w32}
+use mir.ValLaws.{toZ-ofZ}
+use borrow.Author.Needs.{needs}
+use Rattle.slots.proofs.SlotLaws.{copied}
+use Rattle.slots.proofs.lay.Statement.{statement}
+use Rattle.slots.proofs.lay.Tie as tie
+
+abbrev Inv-loop : tie.InvT-loop
+Inv-loop values at slots₀ i₀ slots i = (i ≤ length values) × (length slots ≡ length slots₀) × (slots ≡ paste slots₀ at values i)
+
+abbrev μ-loop : tie.MeasureT-loop
+μ-loop values at slots₀ i₀ slots i = length values - i
+
+loop-holds : tie.Need-loop-holds Inv-loop μ-loop
+loop-holds c = (omega arith, refl, paste-zero (c .args .slots .now) (c .args .at) (c .args .values .now))
+
+mul-slots : tie.Need-mul-slots Inv-loop μ-loop
+mul-slots c = omega arith
+
+shared-slice-copy-out-slots : tie.Need-shared-slice-copy-out-slots Inv-loop μ-loop
+shared-slice-copy-out-slots c = omega arith
+
+add-t9 : tie.Need-add-t9 Inv-loop μ-loop
+add-t9 c = omega arith
+
+mul-t10 : tie.Need-mul-t10 Inv-loop μ-loop
+mul-t10 c = omega arith
+
+slice-set-from-slots : tie.Need-slice-set-from-slots Inv-loop μ-loop
+slice-set-from-slots c = omega arith
+
+add-i : tie.Need-add-i Inv-loop μ-loop
+add-i c = omega arith
+
+loop-less : tie.Need-loop-less Inv-loop μ-loop
+loop-less c = omega arith
+
+loop-again : tie.Need-loop-again Inv-loop μ-loop
+loop-again c =
+    let a = c .before .before .before .args in
+    let vs = a .values .now in
+    let t = c .before .before .loop in
+    (omega arith, simp length-set (t .inv .1), rw (toZ-ofZ w32 (getD vs (t .i) (pos 0)) (search needs), t .inv .2, add-one (t .i)) (paste-suc (a .slots .now) (a .at) vs (t .i) (pos 0) (omega arith) (omega arith)))
+
+same-length : tie.Need-same-length Inv-loop μ-loop
+same-length c = c .before .loop .inv .1
+
+returns : tie.Need-returns Inv-loop μ-loop
+returns c =
+    let a = c .before .before .args in
+    let t = c .before .loop in
+    t .inv .2 ∙ copied (a .slots .now) (a .values .now) (a .at) (t .i) (omega arith) (omega arith)
+
+pub lay-spec : {M : Type 1} → statement M
+lay-spec =
+    tie.close
+    (tie.spec
+    Inv-loop
+    μ-loop
+    loop-holds
+    mul-slots
+    shared-slice-copy-out-slots
+    add-t9
+    mul-t10
+    slice-set-from-slots
+    add-i
+    loop-less
+    loop-again
+    same-length
+    returns)
