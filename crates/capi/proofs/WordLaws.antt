@@ -16,7 +16,7 @@ use Rattle.samples.specs.declared.ReadAnswer.{ReadAnswer}
 use Rattle.samples.specs.declared.WordAnswer.{WordAnswer}
 use Rattle.slots.specs.Slots.{laid, laidAt}
 use Rattle.slots.proofs.SlotLaws.{laid-next}
-use Rattle.word_slots.specs.WordSlots.{toldSlots, slotsPlace, slotsState, WordLeft, wordLeft, wordTold}
+use Rattle.word_slots.specs.WordSlots.{toldSlots, slotsPlace, slotsState, wordLeft, wordTold}
 use Rattle.capi.specs.Words.{readLeft, readCall, wordCall}
 
 -- ---- `wv_read`
@@ -42,7 +42,7 @@ module _ (payload state : List ℕ) (sample : List ℤ) (report : List ℕ) wher
   word-short r e h = rw (h, e)
 
   -- what the word told
-  pub word-told : (x : WordAnswer) (s : State) (left : WordLeft) → (13 ≤ length state) × (1 ≤ length sample) × (2 ≤ length report) → s ≡ slotsState state → wordToldOf x ≡ oneWord payload (slotsPlace state) s
-      → left ≡ wordTold (wordToldOf x) state sample report → left ≡ wordCall payload state sample report
+  pub word-told : (x : WordAnswer) (s : State) → (13 ≤ length state) × (1 ≤ length sample) × (2 ≤ length report) → s ≡ slotsState state → wordToldOf x ≡ oneWord payload (slotsPlace state) s
+      → wordTold (wordToldOf x) state sample report ≡ wordCall payload state sample report
   unfolding wordCall
-  word-told x s left enough holds told e = rw (le-ltb (length state) 13 (enough .0), le-ltb (length sample) 1 (enough .1), le-ltb (length report) 2 (enough .2), ← holds, ← told) e
+  word-told x s enough holds told = rw (le-ltb (length state) 13 (enough .0), le-ltb (length sample) 1 (enough .1), le-ltb (length report) 2 (enough .2), ← holds, ← told)

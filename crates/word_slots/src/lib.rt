@@ -18,7 +18,7 @@ ghost use Rattle.slots.specs.Slots.{laid, laidAt};
 ghost use Rattle.word_slots.specs.WordSlots.{pairSlots, toldSlots, slotsState, stateSlots, reportSlots, wordLeft, wordTold};
 
 // Lays both sets of medians into 6 slots from a place on.
-pub fn lay_medians(medians: [AdaptiveMedians; 2], at: usize, slots: &mut [u32])
+fn lay_medians(medians: [AdaptiveMedians; 2], at: usize, slots: &mut [u32])
     requires { ⌜ at + 6 ≤ length (now slots) ⌝ }
     ensures { λ _. ⌜ now (slots .exit) ≡ laidAt at (pairSlots (pairOf medians)) (now (slots .entry)) ⌝ }
 {

@@ -1,8 +1,10 @@
 -- `capi::words::wv_word` meets its contract: too few slots, or what the word told, whose place fits 32 bits.
 -- Assumes nothing.
 use borrow.Author.Tests.{lt-ltb, le-ltb}
+use mathlib.Core.Path.{_∙_}
 use native.Mathlib.Omega.{arith}
 use lib.ListN.{length, getD}
+use Rattle.samples.specs.View.{stateOf}
 use Rattle.word_slots.proofs.PlaceLaws.{place-fits}
 use Rattle.capi.proofs.WordLaws.{word-short, word-told}
 use borrow.Author.Needs.{needs}
@@ -66,7 +68,8 @@ returns-4 : tie.Need-returns-4
 returns-4 c =
     let a = c .before .before .before .before .before .before .before .before .before .before .before .before .before .before .before .before .before .before .before .args in
     let x = c .before .before .before .before .before .before .before .before .before .decode-sample-stateful-stereo in
-    word-told (a .payload .now) (a .state .now) (a .sample .now) (a .report .now) (x .result) _ _ (c .before .before .before .before .before .before .before .before .before .before .before .before .before .before .before .if1 .left, c .before .before .before .before .before .before .before .before .before .before .before .before .before .before .if2 .left, c .before .before .before .before .before .before .before .before .before .before .before .before .before .if3 .left) (c .before .before .before .before .before .before .before .before .before .before .state-in .ensures) (x .ensures) (c .before .before .before .before .before .lay-word .ensures)
+    c .before .before .before .before .before .lay-word .ensures
+    ∙ word-told (a .payload .now) (a .state .now) (a .sample .now) (a .report .now) (x .result) (stateOf (c .before .before .before .before .before .before .before .before .before .before .state-in .result)) (c .before .before .before .before .before .before .before .before .before .before .before .before .before .before .before .if1 .left, c .before .before .before .before .before .before .before .before .before .before .before .before .before .before .if2 .left, c .before .before .before .before .before .before .before .before .before .before .before .before .before .if3 .left) (c .before .before .before .before .before .before .before .before .before .before .state-in .ensures) (x .ensures)
 
 pub wv-word-spec : {M : Type 1} → statement M
 wv-word-spec =
