@@ -1,5 +1,5 @@
 //! Inputs on which both sides are run; a failing one is made small before it is shown.
-use crate::guarded::watched;
+use crate::guarded;
 use crate::random::Random;
 use std::fmt::Debug;
 use std::iter::successors;
@@ -65,28 +65,28 @@ impl Run {
 
     /// Compares both sides on one input; shows the smallest failing input that it finds from there.
     pub fn agree<C: Case>(&mut self, case: C) -> Result<(), Failed> {
-        match watched(&case, C::compare) {
+        match guarded::compare(&case) {
             Ok(refusal) => {
                 self.agreed[refusal as usize] += 1;
                 Ok(())
             }
             Err(said) => {
-                let (case, said) = smallest(case, said);
-                println!("DIFFERENCE {case:?}\n  {said}");
+                let case = smallest(case, |smaller| smaller.compare().is_err());
+                println!("DIFFERENCE {case:?}\n  {}", case.compare().err().unwrap_or(said));
                 Err(Failed)
             }
         }
     }
 }
 
-fn smallest<C: Case>(case: C, said: String) -> (C, String) {
-    let mut found = (case, said);
-    let mut tries = 0;
+/// The smallest failing input that it finds from one that fails.
+pub fn smallest<C: Case>(case: C, fails: impl Fn(&C) -> bool) -> C {
+    let (mut found, mut tries) = (case, 0);
     loop {
-        let case = found.0.clone();
-        let fails = |candidate: C| candidate.compare().err().map(|why| (candidate, why));
+        let case = found.clone();
         let rest = TRIES - tries;
-        match case.smaller().take(rest).inspect(|_| tries += 1).find_map(fails) {
+        let mut smaller = case.smaller().take(rest).inspect(|_| tries += 1);
+        match smaller.find(&fails) {
             Some(smaller) => found = smaller,
             None => return found,
         }

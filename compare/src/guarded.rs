@@ -2,9 +2,9 @@
 //!
 //! The archive is compiled without such checks of its own; here the processor makes them.
 #![allow(unsafe_code)]
+use crate::case::{Case, smallest};
 use std::cell::RefCell;
 use std::ffi::{c_int, c_void};
-use std::fmt::Debug;
 use std::mem::{needs_drop, transmute};
 use std::ops::{Deref, DerefMut};
 use std::ptr::null_mut;
@@ -105,15 +105,17 @@ impl<T> DerefMut for Guarded<T> {
 static INPUT: AtomicPtr<c_void> = AtomicPtr::new(null_mut());
 static SHOW: AtomicUsize = AtomicUsize::new(0);
 
-/// Runs `work` on an input that is shown where a stray access stops it.
-pub fn watched<C: Debug, T>(input: &C, work: impl FnOnce(&C) -> T) -> T {
-    fn show<C: Debug>(input: *const c_void) {
-        println!("STRAY ACCESS {:?}", unsafe { &*input.cast::<C>() });
+/// Compares on an input, which is made small and shown where a stray access stops it.
+pub fn compare<C: Case>(input: &C) -> Result<u32, String> {
+    fn show<C: Case>(input: *const c_void) {
+        let input = unsafe { &*input.cast::<C>() };
+        let input = smallest(input.clone(), |smaller| strays(|| smaller.compare()));
+        println!("STRAY ACCESS {input:?}");
     }
     let shown: fn(*const c_void) = show::<C>;
     SHOW.store(shown as usize, Relaxed);
     INPUT.store((&raw const *input).cast_mut().cast(), Relaxed);
-    let answer = work(input);
+    let answer = input.compare();
     INPUT.store(null_mut(), Relaxed);
     answer
 }
@@ -135,19 +137,24 @@ pub fn watch() {
     unsafe { signal(STRAY_ACCESS, handler as usize) };
 }
 
-/// Whether reading the byte just outside a list is stopped, before the page and behind it: tried in a child each.
+/// Whether a stray access stops `work`, which a child does.
+fn strays<T>(work: impl FnOnce() -> T) -> bool {
+    unsafe {
+        let (child, mut status) = (fork(), 0);
+        if child == 0 {
+            signal(STRAY_ACCESS, USUAL_HANDLER);
+            work();
+            _exit(0);
+        }
+        child > 0 && waitpid(child, &raw mut status, 0) == child && status & 0x7f == STRAY_ACCESS
+    }
+}
+
+/// Whether reading the byte just outside a list is stopped, before the page and behind it.
 pub fn holds() -> bool {
     [true, false].into_iter().all(|before| {
         let list = Guarded::holding(&[0_u8; 5], before);
         let outside = if before { list.start.wrapping_add(5) } else { list.start.wrapping_sub(1) };
-        unsafe {
-            let (child, mut status) = (fork(), 0);
-            if child == 0 {
-                signal(STRAY_ACCESS, USUAL_HANDLER);
-                outside.read_volatile();
-                _exit(0);
-            }
-            child > 0 && waitpid(child, &raw mut status, 0) == child && status & 0x7f == STRAY_ACCESS
-        }
+        strays(|| unsafe { outside.read_volatile() })
     })
 }
