@@ -1,6 +1,7 @@
 #!/bin/sh
 # Holds docs/PROVED.md to the repository, both ways: every path and name in it is there, every entry has two wrong answers
-# that the check refuses, every edit is named, and every rule that a comment cites has a row. Prints what does not hold.
+# that the check refuses, every edit and every public function of a library is named, and every rule that a comment cites
+# has a row. Prints what does not hold.
 set -u
 cd "$(dirname "$0")/.." || exit 2
 proved=docs/PROVED.md
@@ -29,6 +30,11 @@ entries() {
     awk -F ' [|] ' '/^[|] `.*[|] `crates\// { sub(/^[|] /, "", $1); gsub(/`/, "", $2); print $2 "\t" $1 "\t" $3 }' "$proved"
 }
 
+# The public functions below the entries, one on a line: its name, and the answers that it rules out.
+below() {
+    awk -F ' [|] ' '/^[|] `[a-z_]+::/ && $2 !~ /^`crates\// { gsub(/[|`] ?/, "", $1); print $1 "\t" $2 }' "$proved"
+}
+
 # The names between backticks, one on a line.
 quoted() {
     printf '%s' "$1" | grep -o '`[^`]*`' | tr -d '`'
@@ -49,6 +55,19 @@ entries | while IFS="$tab" read -r path names edits; do
     [ "$(quoted "$edits" | wc -l)" -ge 2 ] || echo "fewer than two edits for $names"
     quoted "$edits" | while read -r edit; do
         ls crates/*/must-fail/"$edit.edit" >/dev/null 2>&1 || echo "no edit $edit for $names"
+    done
+done >>"$found"
+
+below | while IFS="$tab" read -r name ruled_out; do
+    grep -rqF -e "fn ${name##*::}" "crates/${name%%::*}/src" || echo "no function $name"
+    quoted "$ruled_out" | while read -r edit; do
+        ls crates/*/must-fail/"$edit.edit" >/dev/null 2>&1 || echo "no edit $edit for $name"
+    done
+done >>"$found"
+
+for library in crates/*/src/lib.rt; do
+    grep -rhoE 'pub (extern "C" )?fn [a-z_0-9]+' "$(dirname "$library")" | sed 's/.* //' | while read -r name; do
+        grep -qE -e "[\`:]$name\`" "$proved" || echo "no row names the function $name under $(dirname "$library")"
     done
 done >>"$found"
 
