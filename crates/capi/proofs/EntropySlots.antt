@@ -13,7 +13,7 @@ use Rattle.answers.specs.declared.Refusal.{Refusal}
 use Rattle.answers.specs.Numbers.{outcomeNumber}
 use Rattle.entropy.specs.declared.EntropyInfo.{EntropyInfo}
 use Rattle.entropy.specs.Entropy.{entropyInfo, entropyRefusal}
-use Rattle.entropy.proofs.SeedLaws.{number-positive}
+use Rattle.answers.proofs.NumberLaws.{number-positive}
 use Rattle.slots.specs.Slots.{laid, laidAt, laidIf}
 use Rattle.slots.proofs.SlotLaws.{refused, laid-two}
 use Rattle.capi.specs.Answers.{entropyValues, entropyAnswer}

@@ -11,7 +11,7 @@ use borrow.Author.Tests.{lt-ltb, le-ltb}
 use Rattle.answers.specs.declared.Outcome.{Outcome}
 use Rattle.answers.specs.declared.Refusal.{Refusal}
 use Rattle.answers.specs.Numbers.{outcomeNumber}
-use Rattle.entropy.proofs.SeedLaws.{number-positive}
+use Rattle.answers.proofs.NumberLaws.{number-positive}
 use Rattle.passes.specs.Making.{makingRefusal, Made, madeBy, made}
 use Rattle.passes.specs.declared.DecorrPass.{DecorrPass}
 use Rattle.slots.specs.Slots.{laid, laidAt, laidIf}

@@ -1,13 +1,13 @@
--- The range of the seed medians: each is below 2^31, so that it is a number of 32 bits with room to spare.
+-- The range of the seed medians: each is below 2^31, so that it is a number of 32 bits with room to spare. A refusal of a payload is 1 or 2.
 -- Assumes nothing.
 use mathlib.Core.Path.{_≡_, refl}
-use mathlib.Core.Bool.{Bool, true, false, cond}
+use mathlib.Core.Bool.{Bool, true, false, cond, _||_}
 use mathlib.Core.List.{List}
-use Prim.Native.Nat.{ℕ, zero, suc, _<_}
+use Prim.Native.Nat.{ℕ, zero, suc, _≤_, _<_}
 use native.Mathlib.Omega.{arith}
 use lib.Dec.{eqb, eqb·suc-zero}
 use lib.IntN.{ℤ, pos, negsuc, natAbs}
-use lib.ListN.{getD, drop}
+use lib.ListN.{length, getD, drop}
 use mir.Syntax.{w32}
 use mir.Val.{SFits}
 use Rattle.logpack.proofs.LogWordLaws.{logWord-fits}
@@ -76,3 +76,17 @@ by-test (suc n) b info e f = rw (eqb·suc-zero n) zeros-bounded
 pub seed-bounded : (p : List ℕ) → BoundedPair (seedMedians p)
 unfolding seedMedians seedRefusal
 seed-bounded p = by-test (entropyRefusal p) (notStereo (entropyInfo p)) (entropyInfo p) refl (info-fits p)
+
+-- of two numbers, whichever
+pub cond-le : (t : Bool) (a b n : ℕ) → a ≤ n → b ≤ n → cond t a b ≤ n
+cond-le true a b n h k = h
+cond-le false a b n h k = k
+
+-- the refusal of a payload
+pub seed-le : (p : List ℕ) → seedRefusal p ≤ 2
+unfolding seedRefusal entropyRefusal
+seed-le p = go (cond (eqb (length p) 6 || eqb (length p) 12) 0 1) (cond-le (eqb (length p) 6 || eqb (length p) 12) 0 1 2 (omega arith) (omega arith))
+  where
+    go : (c : ℕ) → c ≤ 2 → orElse c (cond (notStereo (entropyInfo p)) 2 0) ≤ 2
+    go zero h = cond-le (notStereo (entropyInfo p)) 2 0 2 (omega arith) (omega arith)
+    go (suc c) h = h

@@ -14,26 +14,12 @@ use mir.Val.{Fits, SFits, toZ, ofZ}
 use mir.ValLaws.{toZ-ofZ}
 use Rattle.answers.specs.declared.Refusal.{Refusal}
 use Rattle.answers.specs.declared.Outcome.{Outcome}
-use Rattle.answers.specs.Numbers.{numberOf, outcomeNumber}
+use Rattle.answers.specs.Numbers.{outcomeNumber}
+use Rattle.answers.proofs.NumberLaws.{number-positive}
 use Rattle.entropy.specs.declared.EntropyInfo.{EntropyInfo}
 use Rattle.entropy.specs.Medians.{Medians, MedianPair, zeroPair}
 use Rattle.entropy.specs.Entropy.{entropyInfo, entropyRefusal, isMono}
 use Rattle.entropy.specs.Seed.{isNegative, anyNegative, notStereo, seedRefusal, seedSet, seedPair, seedMedians}
-
--- a refusal's number is not 0
-pub number-positive : (r : Refusal) → 0 < numberOf r
-number-positive Refusal.EntropyLength = omega arith
-number-positive Refusal.NotStereo = omega arith
-number-positive Refusal.Truncated = omega arith
-number-positive Refusal.EndOfStream = omega arith
-number-positive Refusal.TooLarge = omega arith
-number-positive Refusal.ListLength = omega arith
-number-positive Refusal.InvalidTerm = omega arith
-number-positive Refusal.SeedTooShort = omega arith
-number-positive Refusal.TooManyPasses = omega arith
-number-positive Refusal.ResidualOutOfSpan = omega arith
-number-positive Refusal.OutputTooShort = omega arith
-number-positive Refusal.InvalidChannel = omega arith
 
 -- the answer that a payload calls for
 abbrev pub Seeds : List ℕ → ℕ → MedianPair → Type 0

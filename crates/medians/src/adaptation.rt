@@ -3,13 +3,8 @@ ghost use mathlib.Core.Path.{_≡_};
 ghost use Prim.Native.Nat.{_≤_};
 ghost use Rattle.entropy.specs.Medians.{mediansOf};
 ghost use Rattle.medians.specs.Adaptation.{hold, up, down, adapt};
+use crate::wide;
 use entropy::AdaptiveMedians;
-
-fn wide(x: u32) -> u64
-    ensures { λ r. ⌜ r ≡ x ⌝ }
-{
-    x as u64
-}
 
 // A number held within 32 bits.
 fn held(x: u64) -> u32

@@ -3,18 +3,13 @@ ghost use mathlib.Core.Path.{_≡_};
 ghost use Prim.Native.Nat.{_+_, _-_, _≤_, _<_, max};
 ghost use Rattle.entropy.specs.Medians.{mediansOf};
 ghost use Rattle.medians.specs.Interval.{g, wrapped, IntervalIs};
+use crate::wide;
 use entropy::AdaptiveMedians;
 
 // The interval of a count: its first and its last number.
 pub struct SampleInterval {
     pub low: u32,
     pub high: u32,
-}
-
-fn wide(x: u32) -> u64
-    ensures { λ r. ⌜ r ≡ x ⌝ }
-{
-    x as u64
 }
 
 // The width that a median gives to its interval.

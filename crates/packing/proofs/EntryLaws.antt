@@ -21,7 +21,7 @@ use Rattle.bits.proofs.LaidLaws.{put-start}
 use Rattle.entropy.specs.Medians.{MedianPair, pairOf, zeroPair}
 use Rattle.entropy.specs.Seed.{orElse, seedRefusal, seedMedians}
 use Rattle.entropy.proofs.SeedBounds.{seed-bounded}
-use Rattle.entropy.proofs.SeedLaws.{number-positive}
+use Rattle.answers.proofs.NumberLaws.{number-positive}
 use Rattle.samples.specs.State.{start}
 use Rattle.packing.specs.Counts.{Small}
 use Rattle.packing.specs.Packing.{spanned, packed}

@@ -15,6 +15,7 @@ use Rattle.bits.proofs.LaidLaws.{Bytes, put-put, put-nil}
 use Rattle.entropy.specs.declared.AdaptiveMedians.{AdaptiveMedians}
 use Rattle.entropy.specs.Medians.{Medians, MedianPair, mediansOf, pairOf, zeroSet}
 use Rattle.samples.specs.State.{State, start, side, flip, paid, inRun}
+use Rattle.samples.proofs.HeldLaws.{noSet, there, turned, picked}
 use Rattle.packing.specs.Counts.{Small}
 use Rattle.packing.specs.Packing.{zeros, spanned, Out, behind, silent, wordOut, packed}
 use Rattle.packing.specs.View.{Seen, Next, RunIs, PackedIs}
@@ -41,12 +42,6 @@ unfolding packed
 packing-end w s = ap (λ (l : List Bool). record { bits = l; next = s }) (append-nil w)
 
 -- ---- a debt is paid
-
--- the other channel is the next number's remainder by 2
-flip-mod : (c j : ℕ) → c ≡ j % 2 → flip c ≡ (j + 1) % 2
-flip-mod zero j e = omega arith
-flip-mod (suc zero) j e = omega arith
-flip-mod (suc (suc c)) j e = absurd (omega arith)
 
 -- the zeros of a debt write no bits, and leave all but the channel
 record Settled (s : State) (l : List ℤ) (d j : ℕ) : Type 0 where
@@ -88,7 +83,7 @@ settle (suc d) j s [] e h c = absurd (omega arith)
 settle (suc d) j s (pos (suc n) ∷ l) e h c = absurd (omega arith)
 settle (suc d) j s (negsuc n ∷ l) e h c = absurd (omega arith)
 settle (suc d) j s (pos zero ∷ l) e h c =
-    let r = settle d (j + 1) (paid d s) l refl (omega arith) (flip-mod (s .channel) j c) in
+    let r = settle d (j + 1) (paid d s) l refl (omega arith) (ap flip c ∙ turned j) in
     record {
       t = r .t;
       same = packed-paid s (pos 0) l d e ∙ r .same;
@@ -124,25 +119,15 @@ pub record Loop (before : List ℕ) (vs : List ℤ) (s₀ : State) (out : List �
   pub break-is : state .runBreak ≡ brk
   pub inv : Inv state (drop i vs)
 
--- what an element of an array is read as where there is none
-abbrev unset : AdaptiveMedians
-unset = record { values = [] }
-
 -- one of the two sets, and the other
-set-is : (sets : List AdaptiveMedians) (c : ℕ) → length sets ≡ 2 → c < 2 → side c (mediansOf (getD sets 0 zeroSet)) (mediansOf (getD sets 1 zeroSet)) ≡ mediansOf (getD sets c unset)
-set-is [] c e h = absurd (omega arith)
-set-is (a ∷ []) c e h = absurd (omega arith)
-set-is (a ∷ b ∷ l) zero e h = refl
-set-is (a ∷ b ∷ l) (suc zero) e h = refl
-set-is (a ∷ b ∷ l) (suc (suc c)) e h = absurd (omega arith)
+set-is : (sets : List AdaptiveMedians) (c : ℕ) → length sets ≡ 2 → c < 2 → side c (mediansOf (getD sets 0 zeroSet)) (mediansOf (getD sets 1 zeroSet)) ≡ mediansOf (getD sets c noSet)
+set-is sets c e h = picked sets c h ∙ ap mediansOf (sym (there sets c e h))
 
 -- the other of them
-other-is : (sets : List AdaptiveMedians) (c : ℕ) → length sets ≡ 2 → c < 2 → side c (mediansOf (getD sets 1 zeroSet)) (mediansOf (getD sets 0 zeroSet)) ≡ mediansOf (getD sets (1 - c) unset)
-other-is [] c e h = absurd (omega arith)
-other-is (a ∷ []) c e h = absurd (omega arith)
-other-is (a ∷ b ∷ l) zero e h = refl
-other-is (a ∷ b ∷ l) (suc zero) e h = refl
-other-is (a ∷ b ∷ l) (suc (suc c)) e h = absurd (omega arith)
+other-is : (sets : List AdaptiveMedians) (c : ℕ) → length sets ≡ 2 → c < 2 → side c (mediansOf (getD sets 1 zeroSet)) (mediansOf (getD sets 0 zeroSet)) ≡ mediansOf (getD sets (1 - c) noSet)
+other-is sets zero e h = ap mediansOf (sym (there sets 1 e (omega arith)))
+other-is sets (suc zero) e h = ap mediansOf (sym (there sets 0 e (omega arith)))
+other-is sets (suc (suc c)) e h = absurd (omega arith)
 
 -- one of them replaced
 record Replaced (sets : List AdaptiveMedians) (x : AdaptiveMedians) (c : ℕ) : Type 0 where
@@ -190,7 +175,7 @@ loop-start before vs sets b e l r = record {
 module _ (before : List ℕ) (vs : List ℤ) (s₀ : State) (out : List ℕ) (sets : List AdaptiveMedians) (place : ℕ) (lz lo brk : Bool) (i : ℕ)
     (l : Loop before vs s₀ out sets place lz lo brk i) where
   -- the loop's locals are the state's medians and flags
-  pub loop-seen : Seen (l .state) (mediansOf (getD sets (i % 2) unset)) (mediansOf (getD sets (1 - i % 2) unset)) lz lo brk
+  pub loop-seen : Seen (l .state) (mediansOf (getD sets (i % 2) noSet)) (mediansOf (getD sets (1 - i % 2) noSet)) lz lo brk
   loop-seen = record {
     owes = l .owes;
     due-is = rw (l .channel-is, l .left-is, l .right-is) (set-is sets (i % 2) (l .two) (omega arith));
@@ -201,11 +186,11 @@ module _ (before : List ℕ) (vs : List ℤ) (s₀ : State) (out : List ℕ) (se
   }
 
   -- the medians due have 32 bits
-  pub loop-due-small : Small (mediansOf (getD sets (i % 2) unset))
+  pub loop-due-small : Small (mediansOf (getD sets (i % 2) noSet))
   loop-due-small = rw (loop-seen .due-is) at (due-small (l .inv))
 
   -- and so have the others
-  pub loop-other-small : Small (mediansOf (getD sets (1 - i % 2) unset))
+  pub loop-other-small : Small (mediansOf (getD sets (1 - i % 2) noSet))
   loop-other-small = rw (loop-seen .other-is) at (other-small (l .inv))
 
   -- the residual due, and those behind it
@@ -267,7 +252,7 @@ module _ (before : List ℕ) (vs : List ℤ) (s₀ : State) (out : List ℕ) (se
         two = length-set sets (i % 2) x ∙ l .two;
         left-is = t .left-is ∙ rw (l .channel-is, l .left-is) (r .at-left);
         right-is = t .right-is ∙ rw (l .channel-is, l .right-is) (r .at-right);
-        channel-is = t .channel-is ∙ flip-mod (l .state .channel) i (l .channel-is);
+        channel-is = t .channel-is ∙ ap flip (l .channel-is) ∙ turned i;
         owes = t .owes ∙ l .owes;
         zero-is = t .zero-is;
         one-is = t .one-is;
@@ -286,7 +271,7 @@ module _ (before : List ℕ) (vs : List ℤ) (s₀ : State) (out : List ℕ) (se
       let d = run - 1 in
       let y = inRun d (l .state) in
       let zs = zeros-head head tail d (omega (arith, t .length-is)) in
-      let r = settle d (i + 1) y tail refl (zs .1) (flip-mod (l .state .channel) i (l .channel-is)) in
+      let r = settle d (i + 1) y tail refl (zs .1) (ap flip (l .channel-is) ∙ turned i) in
       let m : suc i + d ≡ i + run = omega arith in
       let j : drop d tail ≡ drop (i + run) vs = drop-drop d (suc i) vs ∙ ap (λ (a : ℕ). drop a vs) m in
       let c : packed (u .next) tail ≡ packed (r .t) (drop (i + run) vs) = ap (λ (a : State). packed a tail) (t .state-is) ∙ r .same ∙ ap (packed (r .t)) j in

@@ -29,48 +29,39 @@ fn pack_words(residuals: &[i32], seeds: [AdaptiveMedians; 2], out: &mut [u8]) ->
     requires { ⌜ (spanned (now residuals) ≡ true) × Small (pairOf seeds .left) × Small (pairOf seeds .right) ⌝ }
     ensures { λ r. ⌜ PackedIs (now (out .entry)) (now (out .exit)) (pairOf seeds) (now (residuals .entry)) r ⌝ }
 {
-    let mut sets = seeds;
-    let mut place: usize = 0;
+    let mut medians = seeds;
+    let mut bits: usize = 0;
     let mut last_zero = false;
     let mut last_one = false;
     let mut run_break = false;
     let mut i: usize = 0;
     while i < residuals.len() {
-        let channel = i % 2;
-        let due = sets[channel];
-        let other = sets[1 - channel];
-        let a = place / 8;
+        let a = bits / 8;
         let turn = put_turn(
             &mut out[a..],
-            place % 8,
+            bits % 8,
             residuals,
             i,
-            due,
-            other,
+            medians[i % 2],
+            medians[1 - i % 2],
             last_zero,
             last_one,
             run_break,
         );
-        place = 8 * a + turn.place;
+        bits = 8 * a + turn.place;
         last_zero = turn.last_zero;
         last_one = turn.last_one;
-        if turn.run > 0 {
-            let none = AdaptiveMedians { values: [0, 0, 0] };
-            sets = [none, none];
-            run_break = true;
+        run_break = turn.run > 0;
+        if run_break {
+            medians = [AdaptiveMedians { values: [0, 0, 0] }; 2];
             i = i + turn.run;
             continue;
         }
-        sets[channel] = AdaptiveMedians {
-            values: [turn.m0, turn.m1, turn.m2],
-        };
-        run_break = false;
+        let values = [turn.m0, turn.m1, turn.m2];
+        medians[i % 2] = AdaptiveMedians { values };
         i = i + 1;
     }
-    Packed {
-        bits: place,
-        medians: sets,
-    }
+    Packed { bits, medians }
 }
 
 // A refusal: bits and medians 0.

@@ -8,7 +8,6 @@ ghost use lib.IntN.{pos};
 ghost use lib.ListN.{length, drop, getD};
 ghost use lib.Signed.{mag};
 ghost use Rattle.bits.specs.Bits.{low, val};
-ghost use Rattle.bits.specs.Laid.{put};
 ghost use Rattle.entropy.specs.Medians.{mediansOf};
 ghost use Rattle.packing.specs.Counts.{Small};
 ghost use Rattle.packing.specs.Packing.{ahead, prefixOf};
@@ -189,6 +188,21 @@ fn one_after(last_zero: bool, last_one: bool, more: bool) -> bool
     if last_zero { last_one } else { more }
 }
 
+// A turn that tells of zeros, and leaves the flags.
+fn run_turn(before: Before, last_zero: bool, last_one: bool) -> Turn
+    ensures { λ r. ⌜ r ≡ record { place = before .place; run = before .run; m0 = 0; m1 = 0; m2 = 0; «last_zero» = «last_zero»; «last_one» = «last_one» } ⌝ }
+{
+    Turn {
+        place: before.place,
+        run: before.run,
+        m0: 0,
+        m1: 0,
+        m2: 0,
+        last_zero,
+        last_one,
+    }
+}
+
 // A run length where one is due, and the word where it tells of no zeros, from `at` on. `due` and `other` are the medians of the channel due and of the
 // other.
 pub fn put_turn(
@@ -211,26 +225,12 @@ pub fn put_turn(
     let asked = run_due(d[0], o[0], last_zero, last_one, run_break);
     let before = put_before(out, at, residuals, i, asked);
     if before.run > 0 {
-        return Turn {
-            place: before.place,
-            run: before.run,
-            m0: 0,
-            m1: 0,
-            m2: 0,
-            last_zero: last_zero,
-            last_one: last_one,
-        };
+        return run_turn(before, last_zero, last_one);
     }
     let more = is_ahead(other, residuals, i + 1);
-    let word = put_word(
-        out,
-        before.place,
-        residuals[i],
-        due,
-        last_zero,
-        last_one,
-        more,
-    );
+    let place = before.place;
+    let residual = residuals[i];
+    let word = put_word(out, place, residual, due, last_zero, last_one, more);
     Turn {
         place: word.place,
         run: 0,

@@ -12,17 +12,12 @@ ghost use Rattle.packing.specs.View.{Gathers};
 use bits::write::put_bits;
 use bits::write::put_unary;
 use fields::code::bit_length;
+use medians::wide;
 
 // Bits as a number, low bit first, and how many they are.
 pub struct Gathered {
     pub value: u64,
     pub count: usize,
-}
-
-fn wide(x: u32) -> u64
-    ensures { λ r. ⌜ r ≡ x ⌝ }
-{
-    x as u64
 }
 
 // The bits of a code as a number, where a code below `extras` has `digits` bits and any other one more.

@@ -13,7 +13,7 @@ use borrow.Author.Tests.{lt-ltb, le-ltb}
 use Rattle.answers.specs.declared.Outcome.{Outcome}
 use Rattle.answers.specs.declared.Refusal.{Refusal}
 use Rattle.answers.specs.Numbers.{outcomeNumber}
-use Rattle.entropy.proofs.SeedLaws.{number-positive}
+use Rattle.answers.proofs.NumberLaws.{number-positive}
 use Rattle.passes.specs.Run.{passed, Chain, decorrelated, analysed}
 use Rattle.passes.specs.declared.DecorrPass.{DecorrPass}
 use Rattle.decorrelation.specs.Lists.{allValid, pickNumber, decorrelationNumber, analysisNumber, Answer, answerBy, decorrelation, analysis, numberBy, chained, listed, followed, arrayAnswer}

@@ -1,13 +1,13 @@
 -- "A cross weight that starts within ±1024, with delta 0 to 7, stays there" (P9): through a step, a pass and a list, in
 -- decorrelation and in analysis. One update is `clip-stays` of `weights`. Assumes nothing.
-use mathlib.Core.Path.{_≡_, refl, sym, ap, _∙_, subst}
+use mathlib.Core.Path.{_≡_, refl, _∙_}
 use mathlib.Core.Bool.{Bool, true, false}
 use mathlib.Core.List.{List, [], _∷_}
 use Prim.Native.Nat.{ℕ, suc, _≤_}
 use lib.IntN.{ℤ, pos, natAbs}
 use Rattle.weights.proofs.ClipLaws.{clip-stays}
 use Rattle.passes.specs.Terms.{termOf, isCross}
-use Rattle.passes.specs.Step.{Rule, ruleOf, weighed, advanced, Stepped, step, unstep}
+use Rattle.passes.specs.Step.{Rule, ruleOf, advanced, Stepped, step, unstep}
 use Rattle.passes.specs.Run.{run, turn, passed, decorrelated, analysed}
 use Rattle.passes.specs.declared.DecorrPass.{DecorrPass}
 use Rattle.passes.specs.declared.Term.{Term}

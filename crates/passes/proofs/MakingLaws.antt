@@ -1,5 +1,5 @@
 -- The laws of pass making: its answer by each of the code's returns. Assumes nothing.
-use mathlib.Core.Path.{_≡_, refl, sym, _∙_}
+use mathlib.Core.Path.{_≡_, refl}
 use mathlib.Core.Bool.{Bool, true, false, not, _&&_}
 use mathlib.Core.List.{List}
 use Prim.Native.Nat.{ℕ, zero, suc, _≤_}
@@ -14,7 +14,6 @@ use mir.ValLaws.{toZ-ofZ}
 use Rattle.wrapping.proofs.ReadBack.{reread}
 use Rattle.passes.specs.Terms.{pickTerm, termOf, isValid, isCross, isLag}
 use Rattle.passes.specs.Making.{seedCount, ordered, padded, seeded, tooShort, pickAnswer, seedAnswer, makingRefusal, noPass, Made, made}
-use Rattle.passes.specs.declared.DecorrPass.{DecorrPass}
 use Rattle.passes.specs.declared.SeedAnswer.{SeedAnswer}
 use Rattle.passes.specs.declared.SeedAnswer.the-variants.{Enough, TooShort}
 use Rattle.passes.specs.declared.Term.{Term}

@@ -6,19 +6,12 @@ use mathlib.Core.List.{List, [], _∷_}
 use Prim.Native.Nat.{ℕ, suc}
 use lib.IntN.{ℤ}
 use lib.ListN.{length}
-use mir.Syntax.{w32}
-use mir.Val.{SFits}
 use Rattle.passes.specs.Terms.{termOf}
-use Rattle.passes.specs.Step.{Stepped, step, unstep}
-use Rattle.passes.specs.Run.{Run, run, turn, passed, Chain, decorrelated, analysed}
+use Rattle.passes.specs.Step.{Stepped}
+use Rattle.passes.specs.Run.{Fit, run, turn, passed, decorrelated, analysed}
 use Rattle.passes.specs.declared.DecorrPass.{DecorrPass}
 use Rattle.passes.specs.declared.Term.{Term}
 use Rattle.passes.proofs.StepInverse.{Undoes, Fitting, step-unstep, unstep-step, step-fits, unstep-fits}
-
--- a list of 32-bit numbers: a recording, or a residual list
-abbrev pub Fit : List ℤ → Type 0
-Fit [] = Unit {0}
-Fit (x ∷ l) = SFits w32 x × Fit l
 
 -- ---- a pass from any history index
 run-undone : (F G : DecorrPass → ℕ → ℤ → ℤ → Stepped) → Undoes F G → (p : DecorrPass) (m : ℕ) (l : List ℤ) → Fit l → run F p m (run G p m l .buffer) ≡ record { pass = run G p m l .pass; buffer = l }

@@ -5,12 +5,12 @@ use mathlib.Core.List.{List, [], _∷_, _++_, reverse, reverse-append}
 use Prim.Native.Nat.{ℕ, zero, suc, _+_, _-_, _<_, _≤_}
 use native.Mathlib.Omega.{arith}
 use native.Mathlib.Numerals.{add-one}
-use borrow.Author.Tests.{ltb-true, ltb-false, lt-ltb}
+use borrow.Author.Tests.{ltb-false, lt-ltb}
 use lib.Dec.{ltb}
 use lib.IntN.{ℤ, pos}
 use lib.ListN.{length, getD, set, take, replicate, length-append, length-replicate, length-reverse, length-take, List·getD-append}
 use lib.Seq.{take-suc, take-all, take-suc-set, getD-take}
-use Rattle.passes.specs.Making.{ordered, padded, tooShort, pickAnswer, seedAnswer}
+use Rattle.passes.specs.Making.{ordered, padded, pickAnswer, seedAnswer}
 use Rattle.passes.specs.declared.SeedAnswer.{SeedAnswer}
 use Rattle.passes.specs.declared.SeedAnswer.the-variants.{Enough, TooShort}
 

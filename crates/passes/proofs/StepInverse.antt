@@ -5,9 +5,8 @@ use Prim.Native.Nat.{ℕ}
 use lib.IntN.{ℤ, pos}
 use mir.Syntax.{w32}
 use mir.Val.{SFits}
-use Rattle.weights.specs.Weights.{sample, residual}
 use Rattle.weights.proofs.PredictLaws.{sample-fits, residual-fits, sample-residual, residual-sample}
-use Rattle.passes.specs.Step.{Rule, ruleOf, advanced, Pair, samplesBy, residualsBy, Stepped, step, unstep}
+use Rattle.passes.specs.Step.{Rule, ruleOf, advanced, samplesBy, residualsBy, Stepped, step, unstep}
 use Rattle.passes.specs.declared.DecorrPass.{DecorrPass}
 use Rattle.passes.specs.declared.Term.{Term}
 use Rattle.passes.specs.declared.Term.the-variants.{Lag, Seventeen, Eighteen, MinusOne, MinusTwo, MinusThree, Invalid}

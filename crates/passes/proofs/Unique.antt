@@ -8,11 +8,11 @@ use lib.IntN.{ℤ}
 use mir.Syntax.{w32}
 use mir.Val.{SFits}
 use Rattle.passes.specs.Step.{Stepped, Pair, step, unstep}
-use Rattle.passes.specs.Run.{Run, passed, Chain, decorrelated, analysed}
+use Rattle.passes.specs.Run.{Fit, Run, passed, Chain, decorrelated, analysed}
 use Rattle.passes.specs.declared.DecorrPass.{DecorrPass}
 use Rattle.passes.specs.declared.Term.{Term}
 use Rattle.passes.proofs.StepInverse.{Undoes, unstep-step}
-use Rattle.passes.proofs.RunInverse.{Fit, analysed-fit, analyses-back, analysed-decorrelated, decorrelated-analysed}
+use Rattle.passes.proofs.RunInverse.{analysed-fit, analyses-back, analysed-decorrelated, decorrelated-analysed}
 
 abbrev pairOf : Stepped → Pair
 pairOf o = record { a = o .a; b = o .b }

@@ -3,10 +3,17 @@ use mathlib.Core.Bool.{Bool, true, false}
 use mathlib.Core.List.{List, [], _∷_}
 use Prim.Native.Nat.{ℕ, suc}
 use lib.IntN.{ℤ}
+use mir.Syntax.{w32}
+use mir.Val.{SFits}
 use Rattle.passes.specs.Terms.{termOf}
 use Rattle.passes.specs.Step.{Stepped, step, unstep}
 use Rattle.passes.specs.declared.DecorrPass.{DecorrPass}
 use Rattle.passes.specs.declared.Term.{Term}
+
+-- document 01, "The words of demand 3" (M1): a list of 32-bit numbers, as a recording or a residual list is
+abbrev pub Fit : List ℤ → Type 0
+Fit [] = Unit {0}
+Fit (x ∷ l) = SFits w32 x × Fit l
 
 -- what a pass leaves: its own state, and the buffer
 pub record Run : Type 0 where

@@ -10,7 +10,7 @@ use lib.ListN.{length, take, getD, set, length-set}
 use mir.Syntax.{w32}
 use mir.Val.{SFits}
 use native.Mathlib.Decide.{decLt}
-use Rattle.passes.proofs.RunInverse.{Fit}
+use Rattle.passes.specs.Run.{Fit}
 use Rattle.roundtrip.specs.Trip.{CopyIs}
 use lib.Seq.{take-all, take-suc, take-suc-set}
 

@@ -12,12 +12,12 @@ use lib.ListN.{length, take, drop}
 use Rattle.answers.specs.declared.Outcome.{Outcome}
 use Rattle.answers.specs.declared.Refusal.{Refusal}
 use Rattle.answers.specs.Numbers.{outcomeNumber}
-use Rattle.entropy.proofs.SeedLaws.{number-positive}
+use Rattle.answers.proofs.NumberLaws.{number-positive}
 use Rattle.samples.specs.View.{ReadTold, readToldOf, readEntry}
 use Rattle.samples.specs.declared.ReadAnswer.{ReadAnswer}
 use Rattle.passes.specs.declared.DecorrPass.{DecorrPass}
-use Rattle.passes.specs.Run.{Chain, decorrelated, analysed}
-use Rattle.passes.proofs.RunInverse.{Fit, decorrelated-analysed}
+use Rattle.passes.specs.Run.{Fit, Chain, decorrelated, analysed}
+use Rattle.passes.proofs.RunInverse.{decorrelated-analysed}
 use Rattle.decorrelation.specs.Lists.{Answer, allValid, analysisNumber, decorrelationNumber, pickNumber, answerBy, arrayAnswer, arrayBy, chained, followed}
 use Rattle.bits.proofs.LaidLaws.{length-laid}
 use Rattle.entropy.specs.Seed.{seedMedians}

@@ -10,7 +10,7 @@ use lib.ListN.{length}
 use Rattle.entropy.specs.Seed.{acceptsEntropy}
 use Rattle.samples.specs.View.{ReadTold, readEntry}
 use Rattle.passes.specs.declared.DecorrPass.{DecorrPass}
-use Rattle.passes.proofs.RunInverse.{Fit}
+use Rattle.passes.specs.Run.{Fit}
 use Rattle.decorrelation.specs.Lists.{Answer, allValid, decorrelation, analysis}
 use Rattle.packing.specs.Packing.{spanned}
 use Rattle.packing.specs.Entry.{PackTold, packedFrom, toldPacked, packEntry, packedBytes}

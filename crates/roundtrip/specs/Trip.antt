@@ -9,7 +9,7 @@ use lib.IntN.{ℤ}
 use lib.ListN.{length}
 use Rattle.answers.specs.Numbers.{outcomeNumber}
 use Rattle.passes.specs.declared.DecorrPass.{DecorrPass}
-use Rattle.passes.proofs.RunInverse.{Fit}
+use Rattle.passes.specs.Run.{Fit}
 use Rattle.decorrelation.specs.Lists.{arrayAnswer}
 use Rattle.packing.specs.Entry.{PackTold, packEntry}
 use Rattle.roundtrip.specs.declared.TripAnswer.{TripAnswer}

@@ -39,7 +39,7 @@ pub record Held (s : State) (medians : List AdaptiveMedians) (owed : ℕ) (broke
   pub channel-is : s .channel ≡ i % 2
 
 -- the channel of the next word
-turned : (i : ℕ) → flip (i % 2) ≡ (i + 1) % 2
+pub turned : (i : ℕ) → flip (i % 2) ≡ (i + 1) % 2
 turned i = go (i % 2) refl
   where
     go : (x : ℕ) → i % 2 ≡ x → flip x ≡ (i + 1) % 2

@@ -8,4 +8,5 @@ pub mod LoopLaws
 pub mod EntryLaws
 pub mod Cases
 pub mod RefusalLaws
+pub mod WordBounds
 pub mod LocalLaws

@@ -14,7 +14,7 @@ use Rattle.answers.specs.Numbers.{outcomeNumber}
 use Rattle.bits.specs.Bits.{val}
 use Rattle.entropy.specs.declared.AdaptiveMedians.{AdaptiveMedians}
 use Rattle.entropy.specs.Medians.{mediansOf, pairOf}
-use Rattle.entropy.proofs.SeedLaws.{number-positive}
+use Rattle.answers.proofs.NumberLaws.{number-positive}
 use Rattle.samples.specs.State.{State}
 use Rattle.samples.specs.View.{stateOf, reportOf, wordToldOf}
 use Rattle.samples.specs.declared.WordAnswer.{WordAnswer}

@@ -7,4 +7,3 @@ pub mod ShortLaws
 pub mod SignLaws
 pub mod StarredLaws
 pub mod TextLaws
-pub mod WordBounds

@@ -1,11 +1,9 @@
 -- What a reading tells of an input: small numbers, and samples that stand first in a longer list.
 -- Assumes nothing.
 use mathlib.Core.Path.{_≡_, refl, ap}
-use mathlib.Core.Bool.{Bool, true, false, cond, _||_}
 use mathlib.Core.List.{List, _∷_, _++_}
 use Prim.Native.Nat.{ℕ, zero, suc, _*_, _≤_, _<_}
 use native.Mathlib.Omega.{arith}
-use lib.Dec.{ltb, eqb}
 use lib.IntN.{ℤ, pos}
 use lib.ListN.{length, take, drop, getD, replicate}
 use lib.Signed.{mag}
@@ -13,16 +11,15 @@ use lib.Seq.{take-append-le, take-append-seam}
 use Rattle.answers.specs.Numbers.{outcomeNumber}
 use Rattle.bits.specs.Bits.{bitsOf}
 use Rattle.bits.proofs.BitLaws.{length-bits}
-use Rattle.entropy.specs.Entropy.{entropyInfo, entropyRefusal}
-use Rattle.entropy.specs.Seed.{notStereo, orElse, seedRefusal, seedMedians}
+use Rattle.entropy.specs.Seed.{seedMedians}
 use Rattle.samples.proofs.LocalLaws.{reading-inside}
+use Rattle.samples.proofs.WordBounds.{small-reading, refusal-le}
 use Rattle.samples.specs.Reading.{Reading, reading}
 use Rattle.samples.specs.State.{start}
 use Rattle.samples.specs.View.{ReadTold, readToldOf, toldReading, readRefusal, unlessRefused, readEntry}
 use Rattle.samples.specs.declared.ReadAnswer.{ReadAnswer}
 use Rattle.wvpair_text.specs.Lines.{report}
 use Rattle.wvpair_text.specs.Text.{frameCount, payloadOf, printed, readingOf}
-use Rattle.wvpair_text.proofs.WordBounds.{small-reading}
 
 -- the first of many zeros are fewer zeros
 pub take-replicate : (n m : ℕ) (v : ℤ) → n ≤ m → take n (replicate m v) ≡ replicate n v
@@ -36,27 +33,6 @@ pub record Small (bytes frames : ℕ) (told : ReadTold) : Type 0 where
   pub samples : (i : ℕ) → mag (getD (take (told .written) (told .list)) i (pos 0)) < 2147483648
   pub refusal : told .refusal < 10
   pub bits : told .bits ≤ 8 * bytes
-
--- of two numbers, whichever
-cond-le : (t : Bool) (a b n : ℕ) → a ≤ n → b ≤ n → cond t a b ≤ n
-cond-le true a b n h k = h
-cond-le false a b n h k = k
-
--- the refusals before any word
-seed-le : (entropy : List ℕ) → seedRefusal entropy ≤ 6
-unfolding seedRefusal entropyRefusal
-seed-le entropy =
-    go (cond (eqb (length entropy) 6 || eqb (length entropy) 12) 0 1) (cond-le (eqb (length entropy) 6 || eqb (length entropy) 12) 0 1 6 (omega arith) (omega arith))
-  where
-    go : (c : ℕ) → c ≤ 6 → orElse c (cond (notStereo (entropyInfo entropy)) 2 0) ≤ 6
-    go zero h = cond-le (notStereo (entropyInfo entropy)) 2 0 6 (omega arith) (omega arith)
-    go (suc c) h = h
-
-refusal-le : (entropy payload : List ℕ) (frames : ℕ) (list : List ℤ) → readRefusal entropy payload frames list ≤ 6
-unfolding readRefusal
-refusal-le entropy payload frames list =
-    cond-le (ltb 131072 frames || ltb 4194304 (length payload)) 5 (cond (eqb (length list) (2 * frames)) (seedRefusal entropy) 6) 6 (omega arith)
-    (cond-le (eqb (length list) (2 * frames)) (seedRefusal entropy) 6 6 (seed-le entropy) (omega arith))
 
 -- any reading
 told-small : (entropy payload : List ℕ) (frames : ℕ) (list : List ℤ) → Small (length payload) frames (readEntry entropy payload frames list)

@@ -1,23 +1,18 @@
 -- What the test for a negative number tells of the number and of its text.
 -- Assumes nothing.
-use mathlib.Core.Path.{_≡_, refl, ap}
+use mathlib.Core.Path.{_≡_, refl}
 use mathlib.Core.Bool.{true, false}
 use mathlib.Core.List.{_∷_}
 use Prim.Native.Nat.{ℕ, suc, _+_, _≤_, _<_}
 use native.Mathlib.Omega.{arith}
-use borrow.Author.Tests.{ltb-true, le-ltb}
-use lib.IntN.{ℤ, pos, negsuc, natAbs, _-ℤ_}
+use borrow.Author.Tests.{ltb-true}
+use lib.IntN.{ℤ, pos, negsuc, natAbs}
 use lib.ListN.{length}
 use lib.Signed.{mag, ltZ}
 use Rattle.wvpair_text.specs.Decimal.{decimal, signedDecimal}
 use Rattle.wvpair_text.proofs.DecimalLaws.{decimal-short}
 
--- -1 less a negative number is its distance from 0, less one
-pub flipped : (v : ℤ) → ltZ v (pos 0) ≡ true → negsuc 0 -ℤ v ≡ pos (mag v)
-flipped (pos n) e = absurd (omega (arith, ltb-true n 0 e))
-flipped (negsuc n) e = rw (le-ltb (suc n) 1 (omega arith)) (ap pos (omega arith))
-
--- and that is one short of the distance
+-- the magnitude of a negative number is one short of its distance from 0
 pub flipped-size : (v : ℤ) → ltZ v (pos 0) ≡ true → mag v + 1 ≡ natAbs v
 flipped-size (pos n) e = absurd (omega (arith, ltb-true n 0 e))
 flipped-size (negsuc n) e = omega arith
@@ -28,12 +23,7 @@ unfolding signedDecimal
 negative-text (pos n) e = absurd (omega (arith, ltb-true n 0 e))
 negative-text (negsuc n) e = refl
 
--- any other number is its distance from 0
-pub unsigned : (v : ℤ) → ltZ v (pos 0) ≡ false → v ≡ pos (mag v)
-unsigned (pos n) e = refl
-unsigned (negsuc n) e = absurd (let z : _≡_ {A = ℕ} 0 1 = cc in omega arith)
-
--- and prints as that
+-- any other number prints as its distance from 0
 pub unsigned-text : (v : ℤ) → ltZ v (pos 0) ≡ false → signedDecimal v ≡ decimal (natAbs v)
 unfolding signedDecimal
 unsigned-text (pos n) e = refl

@@ -15,6 +15,7 @@ use mir.Val.{SFits}
 use Rattle.entropy.specs.Medians.{mediansOf}
 use Rattle.packing.specs.Packing.{ahead}
 use Rattle.packing.specs.View.{runTest, BeforeIs, WordIs}
+use Rattle.packing.specs.declared.word.Turn.{Turn}
 use Rattle.packing.proofs.TurnLaws.{before-few, turn-run, turn-word}
 use borrow.Author.Needs.{needs}
 use Rattle.packing.proofs.word.put_turn.Statement.{statement}
@@ -59,18 +60,22 @@ run-due-requires c κs = search needs
 put-before-requires : tie.Need-put-before-requires
 put-before-requires c κs = search needs
 
+run-turn-requires : tie.Need-run-turn-requires
+run-turn-requires c κs = search needs
+
 same-length : tie.Need-same-length
 same-length c = search needs
 
 returns : tie.Need-returns
 returns c =
-    let x = start (c .before .before .before .before) in
-    let a = x .args in
+    let b = c .before .before .before .before .before in
+    let a = start b .args in
     let vs = now (a .residuals) in
+    let e = c .run-turn .ensures in
     record {
       turned = λ s seen.
           turn-run s (mediansOf (a .due)) (mediansOf (a .other)) (a .last-zero) (a .last-one) (a .run-break) (getD vs (a .i) (pos 0)) (drop (suc (a .i)) vs) seen
-          (now (a .out)) _ (a .at) _ _ (before-is (c .before .before .before .before)) (omega arith) refl refl refl refl;
+          (now (a .out)) _ (a .at) _ _ (before-is b) (omega arith) (ap (λ (t : Turn). t .place) e) (ap (λ (t : Turn). t .run) e) (ap (λ (t : Turn). t .«last_zero») e) (ap (λ (t : Turn). t .«last_one») e);
     }
 
 add-is-ahead : tie.Need-add-is-ahead
@@ -79,11 +84,11 @@ add-is-ahead c = search needs
 is-ahead-requires : tie.Need-is-ahead-requires
 is-ahead-requires c κs = search needs
 
-mul-put-word : tie.Need-mul-put-word
-mul-put-word c = search needs
+mul-residual : tie.Need-mul-residual
+mul-residual c = search needs
 
-shared-slice-copy-out-put-word : tie.Need-shared-slice-copy-out-put-word
-shared-slice-copy-out-put-word c = search needs
+shared-slice-copy-out-residual : tie.Need-shared-slice-copy-out-residual
+shared-slice-copy-out-residual c = search needs
 
 put-word-requires : tie.Need-put-word-requires
 put-word-requires c κs =
@@ -125,12 +130,13 @@ put-turn-spec =
     array-read-run-due-2
     run-due-requires
     put-before-requires
+    run-turn-requires
     same-length
     returns
     add-is-ahead
     is-ahead-requires
-    mul-put-word
-    shared-slice-copy-out-put-word
+    mul-residual
+    shared-slice-copy-out-residual
     put-word-requires
     zero-after-requires
     one-after-requires

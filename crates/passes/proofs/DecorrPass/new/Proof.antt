@@ -1,11 +1,9 @@
-use mathlib.Core.Path.{_≡_}
-use mathlib.Core.Bool.{true, false, _&&_}
+use mathlib.Core.Bool.{false, _&&_}
 use lib.Dec.{ltb}
 use Prim.Native.Nat.{_≤_}
 use lib.ListN.{length}
 use mir.Syntax.{w8}
 use mir.ValLaws.{toZ-ofZ}
-use Rattle.passes.specs.Terms.{termOf}
 use Rattle.passes.proofs.SeedLaws.{enough-long}
 use Rattle.passes.proofs.MakingLaws.{count-small, not-false, not-true, Known, made-invalid, made-short-a, made-short-b, made-accepted}
 use borrow.Author.Needs.{needs}

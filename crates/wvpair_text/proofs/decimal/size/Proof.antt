@@ -7,7 +7,8 @@ use lib.Signed.{mag}
 use mir.Facts.{toZ-ofZ}
 use mir.Syntax.{w32}
 use mir.Val.{SFits, toZ, ofZ}
-use Rattle.wvpair_text.proofs.SignLaws.{flipped, flipped-size, unsigned}
+use Rattle.samples.proofs.SignLaws.{neg-is, pos-is}
+use Rattle.wvpair_text.proofs.SignLaws.{flipped-size}
 use borrow.Author.Needs.{needs}
 use Rattle.wvpair_text.proofs.decimal.size.Statement.{statement}
 use Rattle.wvpair_text.proofs.decimal.size.Tie as tie
@@ -23,10 +24,10 @@ minus : (c : lts.Then1 reads.Pre reads.Post) → toZ w32 (ofZ w32 (negsuc 0 -ℤ
 minus c =
     let v = c .before .args .v in
     let g : SFits w32 (pos (mag v)) = record { sfits = fits c .sfits } in
-    rw (toZ-ofZ (fits c), flipped v (rw (toZ-ofZ (fits c)) at (c .if1 .taken)), toZ-ofZ g)
+    rw (toZ-ofZ (fits c), neg-is v (rw (toZ-ofZ (fits c)) at (c .if1 .taken)), toZ-ofZ g)
 
 sub-result : tie.Need-sub-result
-sub-result c = rw (toZ-ofZ (fits c), flipped (c .before .args .v) (rw (toZ-ofZ (fits c)) at (c .if1 .taken))) (record { sfits = fits c .sfits })
+sub-result c = rw (toZ-ofZ (fits c), neg-is (c .before .args .v) (rw (toZ-ofZ (fits c)) at (c .if1 .taken))) (record { sfits = fits c .sfits })
 
 cast-result : tie.Need-cast-result
 cast-result c = rw (minus c) (tt, record { fits = omega (arith, fits c .sfits) })
@@ -41,7 +42,7 @@ cast-result-2 : tie.Need-cast-result-2
 cast-result-2 c =
     let v = c .before .args .v in
     let f : SFits w32 v = search needs in
-    rw (toZ-ofZ f, unsigned v (rw (toZ-ofZ f) at (c .if1 .left))) (tt, record { fits = omega (arith, f .sfits) })
+    rw (toZ-ofZ f, pos-is v (rw (toZ-ofZ f) at (c .if1 .left))) (tt, record { fits = omega (arith, f .sfits) })
 
 returns-2 : tie.Need-returns-2
 returns-2 c = search needs

@@ -1,0 +1,21 @@
+-- What every refusal number is.
+-- Assumes nothing.
+use Prim.Native.Nat.{_<_}
+use native.Mathlib.Omega.{arith}
+use Rattle.answers.specs.declared.Refusal.{Refusal}
+use Rattle.answers.specs.Numbers.{numberOf}
+
+-- a refusal's number is not 0
+pub number-positive : (r : Refusal) → 0 < numberOf r
+number-positive Refusal.EntropyLength = omega arith
+number-positive Refusal.NotStereo = omega arith
+number-positive Refusal.Truncated = omega arith
+number-positive Refusal.EndOfStream = omega arith
+number-positive Refusal.TooLarge = omega arith
+number-positive Refusal.ListLength = omega arith
+number-positive Refusal.InvalidTerm = omega arith
+number-positive Refusal.SeedTooShort = omega arith
+number-positive Refusal.TooManyPasses = omega arith
+number-positive Refusal.ResidualOutOfSpan = omega arith
+number-positive Refusal.OutputTooShort = omega arith
+number-positive Refusal.InvalidChannel = omega arith
