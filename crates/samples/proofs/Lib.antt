@@ -3,6 +3,7 @@ pub mod PartLaws
 pub mod JoinLaws
 pub mod ReadingLaws
 pub mod HeldLaws
+pub mod ZeroLaws
 pub mod WordLaws
 pub mod LoopLaws
 pub mod EntryLaws

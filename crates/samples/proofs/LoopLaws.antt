@@ -3,7 +3,7 @@
 use mathlib.Core.Path.{_≡_, refl, sym, ap, ap₂, _∙_}
 use mathlib.Core.Bool.{Bool, true, false}
 use mathlib.Core.List.{List, [], _∷_, _++_}
-use Prim.Native.Nat.{ℕ, suc, _+_, _-_, _%_, _≤_, _<_}
+use Prim.Native.Nat.{ℕ, zero, suc, _+_, _-_, _%_, _≤_, _<_}
 use native.Mathlib.Numerals.{add-one}
 use native.Mathlib.Omega.{arith}
 use lib.IntN.{ℤ, pos}
@@ -16,16 +16,17 @@ use Rattle.medians.specs.Adaptation.{adapt}
 use Rattle.samples.specs.State.{State, start, paid}
 use Rattle.samples.specs.Word.{Report, given, refused, word}
 use Rattle.samples.specs.Reading.{reading}
-use Rattle.samples.specs.Parts.{eligible, codedWord, CodedIs}
+use Rattle.samples.specs.Parts.{eligible, codedWord, CodedIs, zeroed, ZerosIs}
 use Rattle.samples.specs.View.{toldReading}
 use Rattle.samples.specs.declared.coded.Coded.{Coded}
 use Rattle.samples.proofs.ReadingLaws.{prepend, reading-on, reading-stop, reading-end}
 use Rattle.samples.proofs.HeldLaws.{noSet, there, Held, held-start, held-due, held-paid, held-run, held-sample}
 use Rattle.samples.proofs.WordLaws.{word-paid, word-fresh}
+use Rattle.samples.proofs.ZeroLaws.{zeroed-length, zeroed-first}
 
 -- before word i: the locals hold a state, the first i elements are written, the others are as they were, and what is written joined to the reading of
 -- the words that are left is the whole reading
-pub record Loop (payload : List ℕ) (out₀ : List ℤ) (s₀ : State) (out : List ℤ) (ms : List AdaptiveMedians) (owed : ℕ) (b z o : Bool) (p i : ℕ) : Type 0 where
+pub record Words (payload : List ℕ) (out₀ : List ℤ) (s₀ : State) (out : List ℤ) (ms : List AdaptiveMedians) (owed : ℕ) (b z o : Bool) (p i : ℕ) : Type 0 where
   pub state : State
   pub held : Held state ms owed b z o i
   pub here : i ≤ length out₀
@@ -33,17 +34,10 @@ pub record Loop (payload : List ℕ) (out₀ : List ℤ) (s₀ : State) (out : L
   pub is : prepend (take i out) (reading (bitsOf payload) (length out₀ - i) p state) ≡ reading (bitsOf payload) (length out₀) 0 s₀
   pub others : drop i out ≡ drop i out₀
 
--- before the first word the locals hold the start
-pub loop-start : (payload : List ℕ) (out : List ℤ) (ms : List AdaptiveMedians) → length ms ≡ 2
-    → Loop payload out (start (pairOf ms .left) (pairOf ms .right)) out ms 0 false false false 0 0
-loop-start payload out ms l =
-    let e : length out - 0 ≡ length out = omega arith in
-    record { state = start (pairOf ms .left) (pairOf ms .right); held = held-start ms l; here = omega arith; same = refl; is = rw e; others = refl }
-
-module _ (payload : List ℕ) (out₀ : List ℤ) (s₀ : State) (out : List ℤ) (ms : List AdaptiveMedians) (owed : ℕ) (b z o : Bool) (p i : ℕ) (l : Loop payload out₀ s₀ out ms owed b z o p i) where
+module _ (payload : List ℕ) (out₀ : List ℤ) (s₀ : State) (out : List ℤ) (ms : List AdaptiveMedians) (owed : ℕ) (b z o : Bool) (p i : ℕ) (l : Words payload out₀ s₀ out ms owed b z o p i) where
   -- an accepted word: its sample is written, and the locals hold the state after it
   step : (v : ℤ) (q : ℕ) (t : State) (x : Report) (ns : List AdaptiveMedians) (d : ℕ) (b' z' o' : Bool) → i < length out
-      → word (bitsOf payload) p (l .state) ≡ given v q t x → Held t ns d b' z' o' (i + 1) → Loop payload out₀ s₀ (set out i v) ns d b' z' o' q (i + 1)
+      → word (bitsOf payload) p (l .state) ≡ given v q t x → Held t ns d b' z' o' (i + 1) → Words payload out₀ s₀ (set out i v) ns d b' z' o' q (i + 1)
   step v q t x ns d b' z' o' h e g =
       let n = length out₀ - (i + 1) in
       let m : length out₀ - i ≡ suc n = omega (arith, l .same) in
@@ -72,15 +66,15 @@ module _ (payload : List ℕ) (out₀ : List ℤ) (s₀ : State) (out : List ℤ
       ∙ ap (toldReading out₀) e
 
   -- the end of the list
-  pub loop-end : length out ≤ i → record { refusal = 0; bits = p; medians = pairOf ms; written = i; list = out } ≡ toldReading out₀ (reading (bitsOf payload) (length out₀) 0 s₀)
-  loop-end h =
+  words-end : length out ≤ i → record { refusal = 0; bits = p; medians = pairOf ms; written = i; list = out } ≡ toldReading out₀ (reading (bitsOf payload) (length out₀) 0 s₀)
+  words-end h =
       let m : length out₀ - i ≡ 0 = omega (arith, l .same) in
       told 0 (omega (arith, l .here, l .same)) (sym (reading-end (bitsOf payload) p (l .state) (take i out))
       ∙ ap (λ (x : ℕ). prepend (take i out) (reading (bitsOf payload) x p (l .state))) (sym m) ∙ l .is)
 
   -- a zero that is owed
-  pub loop-paid : 0 < owed → i < length out → Loop payload out₀ s₀ (set out i (pos 0)) ms (owed - 1) b z o p (i + 1)
-  loop-paid n h =
+  words-paid : 0 < owed → i < length out → Words payload out₀ s₀ (set out i (pos 0)) ms (owed - 1) b z o p (i + 1)
+  words-paid n h =
       let e = word-paid (bitsOf payload) p (l .state) (omega (arith, l .held .debt-is)) in
       let d : l .state .debt - 1 ≡ owed - 1 = omega (arith, l .held .debt-is) in
       step (pos 0) p (paid (owed - 1) (l .state)) _ ms (owed - 1) b z o h (rw d at e) (held-paid (l .state) ms owed b z o i (l .held) (owed - 1))
@@ -94,19 +88,89 @@ module _ (payload : List ℕ) (out₀ : List ℤ) (s₀ : State) (out : List ℤ
         c .is (l .state) (rw (t .left-is, t .right-is, t .break-is, t .zero-is, t .one-is, ← there ms 0 (t .pair) (omega arith), ← there ms 1 (t .pair) (omega arith)) (sym f)) (held-due (l .state) ms owed b z o i t) (t .zero-is) (t .one-is)
         ∙ sym (word-fresh (bitsOf payload) p (l .state) (t .debt-is ∙ n))
 
-    pub loop-run : (d q : ℕ) → r ≡ Coded.Run d q → Loop payload out₀ s₀ (set out i (pos 0)) (zeroSet ∷ zeroSet ∷ []) d true z o q (i + 1)
-    loop-run d q e =
+    words-run : (d q : ℕ) → r ≡ Coded.Run d q → Words payload out₀ s₀ (set out i (pos 0)) (zeroSet ∷ zeroSet ∷ []) d true z o q (i + 1)
+    words-run d q e =
         step (pos 0) q _ _ (zeroSet ∷ zeroSet ∷ []) d true z o h (sym coded ∙ ap (codedWord (l .state)) e) (held-run (l .state) ms owed b z o i (l .held) d)
 
-    pub loop-sample : (v : ℤ) (k q : ℕ) (z' o' : Bool) (x : AdaptiveMedians) → r ≡ Coded.Sample v k q z' o' → mediansOf x ≡ adapt (mediansOf (getD ms (i % 2) noSet)) k
-        → Loop payload out₀ s₀ (set out i v) (set ms (i % 2) x) owed false z' o' q (i + 1)
-    loop-sample v k q z' o' x e a =
+    words-sample : (v : ℤ) (k q : ℕ) (z' o' : Bool) (x : AdaptiveMedians) → r ≡ Coded.Sample v k q z' o' → mediansOf x ≡ adapt (mediansOf (getD ms (i % 2) noSet)) k
+        → Words payload out₀ s₀ (set out i v) (set ms (i % 2) x) owed false z' o' q (i + 1)
+    words-sample v k q z' o' x e a =
         step v q _ _ (set ms (i % 2) x) owed false z' o' h (sym coded ∙ ap (codedWord (l .state)) e) (held-sample (l .state) ms owed b z o i (l .held) k x z' o' a)
 
-    pub loop-stop : (w : ℕ) → codedWord (l .state) r ≡ refused w
+    words-stop : (w : ℕ) → codedWord (l .state) r ≡ refused w
         → record { refusal = w; bits = p; medians = pairOf ms; written = i; list = out } ≡ toldReading out₀ (reading (bitsOf payload) (length out₀) 0 s₀)
-    loop-stop w e =
+    words-stop w e =
         let n = length out₀ - (i + 1) in
         let m : length out₀ - i ≡ suc n = omega (arith, l .same) in
         told w (omega arith) (sym (reading-stop (bitsOf payload) n p w (l .state) (take i out) (sym coded ∙ e))
         ∙ ap (λ (x : ℕ). prepend (take i out) (reading (bitsOf payload) x p (l .state))) (sym m) ∙ l .is)
+
+-- the numbers may be written otherwise
+words-as : (payload : List ℕ) (out₀ : List ℤ) (s₀ : State) (out : List ℤ) (ms : List AdaptiveMedians) (owed d : ℕ) (b z o : Bool) (p i j : ℕ) → owed ≡ d → i ≡ j
+    → Words payload out₀ s₀ out ms owed b z o p i → Words payload out₀ s₀ out ms d b z o p j
+words-as payload out₀ s₀ out ms owed d b z o p i j e f l = rw (e, f) at l
+
+-- n of the zeros that are owed
+words-zeros : (payload : List ℕ) (out₀ : List ℤ) (s₀ : State) (out : List ℤ) (ms : List AdaptiveMedians) (owed : ℕ) (b z o : Bool) (p i n : ℕ) → Words payload out₀ s₀ out ms owed b z o p i
+    → n ≤ owed → i + n ≤ length out → Words payload out₀ s₀ (zeroed out i n) ms (owed - n) b z o p (i + n)
+words-zeros payload out₀ s₀ out ms owed b z o p i zero l h k =
+    words-as payload out₀ s₀ out ms owed (owed - 0) b z o p i (i + 0) (omega arith) (omega arith) l
+words-zeros payload out₀ s₀ out ms owed b z o p i (suc n) l h k =
+    let w = words-zeros payload out₀ s₀ out ms owed b z o p i n l (omega arith) (omega arith) in
+    let x = words-paid payload out₀ s₀ (zeroed out i n) ms (owed - n) b z o p (i + n) w (omega arith) (omega (arith, zeroed-length out i n)) in
+    words-as payload out₀ s₀ (zeroed out i (suc n)) ms (owed - n - 1) (owed - suc n) b z o p (i + n + 1) (i + suc n) (omega arith) (omega arith) x
+
+-- ---- the loop
+
+-- between two turns zeros are owed only where the list ends
+pub record Loop (payload : List ℕ) (out₀ : List ℤ) (s₀ : State) (out : List ℤ) (ms : List AdaptiveMedians) (b z o : Bool) (p i : ℕ) : Type 0 where
+  pub owed : ℕ
+  pub words : Words payload out₀ s₀ out ms owed b z o p i
+  pub settled : i < length out → owed ≡ 0
+
+-- before the first word the locals hold the start
+pub loop-start : (payload : List ℕ) (out : List ℤ) (ms : List AdaptiveMedians) → length ms ≡ 2
+    → Loop payload out (start (pairOf ms .left) (pairOf ms .right)) out ms false false false 0 0
+loop-start payload out ms l =
+    let e : length out - 0 ≡ length out = omega arith in
+    record {
+      owed = 0;
+      words = record { state = start (pairOf ms .left) (pairOf ms .right); held = held-start ms l; here = omega arith; same = refl; is = rw e; others = refl };
+      settled = λ h. refl;
+    }
+
+module _ (payload : List ℕ) (out₀ : List ℤ) (s₀ : State) (out : List ℤ) (ms : List AdaptiveMedians) (b z o : Bool) (p i : ℕ) (l : Loop payload out₀ s₀ out ms b z o p i) where
+  -- the end of the list
+  pub loop-end : length out ≤ i → record { refusal = 0; bits = p; medians = pairOf ms; written = i; list = out } ≡ toldReading out₀ (reading (bitsOf payload) (length out₀) 0 s₀)
+  loop-end h = words-end payload out₀ s₀ out ms (l .owed) b z o p i (l .words) h
+
+  module _ (r : Coded) (run : Bool) (h : i < length out) (f : run ≡ eligible (mediansOf (getD ms 0 noSet) .m0) (mediansOf (getD ms 1 noSet) .m0) b z o)
+      (c : CodedIs (bitsOf payload) p run (mediansOf (getD ms (i % 2) noSet)) z o r) where
+    -- the zeros of a run, as far as the list goes
+    pub loop-run : (d q j : ℕ) (after : List ℤ) → r ≡ Coded.Run d q → ZerosIs out after i d j → Loop payload out₀ s₀ after (zeroSet ∷ zeroSet ∷ []) true z o q j
+    loop-run d q j after e zs =
+        let n = j - (i + 1) in
+        let w = words-run payload out₀ s₀ out ms (l .owed) b z o p i (l .words) r run (l .settled h) h f c d q e in
+        let k : j - i ≡ suc n = omega (arith, zs .some) in
+        let m : i + 1 + n ≡ j = omega (arith, zs .some) in
+        let y : zeroed (set out i (pos 0)) (i + 1) n ≡ after = zeroed-first out i n ∙ ap (zeroed out i) (sym k) ∙ sym (zs .list-is) in
+        let x = words-zeros payload out₀ s₀ (set out i (pos 0)) (zeroSet ∷ zeroSet ∷ []) d true z o q (i + 1) n w (omega (arith, zs .most)) (omega (arith, zs .some, zs .within, length-set out i (pos 0))) in
+        record {
+          owed = d - n;
+          words = rw (y, m) at x;
+          settled = λ t. omega (arith, zs .all (omega (arith, ap length (zs .list-is), zeroed-length out i (j - i))));
+        }
+
+    -- a sample
+    pub loop-sample : (v : ℤ) (k q : ℕ) (z' o' : Bool) (x : AdaptiveMedians) → r ≡ Coded.Sample v k q z' o' → mediansOf x ≡ adapt (mediansOf (getD ms (i % 2) noSet)) k
+        → Loop payload out₀ s₀ (set out i v) (set ms (i % 2) x) false z' o' q (i + 1)
+    loop-sample v k q z' o' x e a = record {
+      owed = l .owed;
+      words = words-sample payload out₀ s₀ out ms (l .owed) b z o p i (l .words) r run (l .settled h) h f c v k q z' o' x e a;
+      settled = λ t. l .settled h;
+    }
+
+    -- a refused word
+    pub loop-stop : (w : ℕ) → ((s : State) → codedWord s r ≡ refused w)
+        → record { refusal = w; bits = p; medians = pairOf ms; written = i; list = out } ≡ toldReading out₀ (reading (bitsOf payload) (length out₀) 0 s₀)
+    loop-stop w e = words-stop payload out₀ s₀ out ms (l .owed) b z o p i (l .words) r run (l .settled h) h f c w (e (l .words .state))

@@ -3,9 +3,10 @@
 use mathlib.Core.Path.{_≡_}
 use mathlib.Core.Bool.{Bool, not, _&&_}
 use mathlib.Core.List.{List}
-use Prim.Native.Nat.{ℕ}
+use Prim.Native.Nat.{ℕ, zero, suc, _+_, _-_, _≤_, _<_}
 use lib.Dec.{leb}
-use lib.IntN.{pos}
+use lib.IntN.{ℤ, pos}
+use lib.ListN.{length, set}
 use Rattle.entropy.specs.Medians.{Medians}
 use Rattle.fields.specs.declared.Prefix.{Prefix}
 use Rattle.samples.specs.State.{State, due, withFlags, inRun, unbroken, after}
@@ -78,3 +79,16 @@ pub record PlainIs (bits : List Bool) (p : ℕ) (medians : Medians) (lastZero la
 -- steps 2 to 4
 pub record CodedIs (bits : List Bool) (p : ℕ) (read : Bool) (medians : Medians) (lastZero lastOne : Bool) (r : Coded) : Type 0 where
   pub is : (s : State) → runRead s ≡ read → due s ≡ medians → s .lastZero ≡ lastZero → s .lastOne ≡ lastOne → codedWord s r ≡ fresh bits p s
+
+-- the n elements of a list from i on are 0
+abbrev pub zeroed : List ℤ → ℕ → ℕ → List ℤ
+zeroed l i zero = l
+zeroed l i (suc n) = set (zeroed l i n) (i + n) (pos 0)
+
+-- the zeros of a run from `first` on, the first and `behind` more, as far as the list goes; r is the index after them
+pub record ZerosIs (before after : List ℤ) (first behind r : ℕ) : Type 0 where
+  pub list-is : after ≡ zeroed before first (r - first)
+  pub some : first < r
+  pub within : r ≤ length before
+  pub most : r ≤ first + 1 + behind
+  pub all : r < length before → r ≡ first + 1 + behind

@@ -1,12 +1,14 @@
 // Implements document 01, "Reading": the refusals that come before any word, then word after word into a lent list. The medians are a local array that is indexed by
-// channel, and the rest of the state is in locals, so that the compiler keeps it in registers.
+// channel, and the rest of the state is in locals, so that the compiler keeps it in registers; a run is one turn, so that no debt is held.
+// The zero set stands outside the loop: made inside it, it cost loud payloads a twentieth.
 ghost use mathlib.Core.Path.{_≡_};
-ghost use Prim.Native.Nat.{_≤_};
+ghost use Prim.Native.Nat.{_≤_, _<_};
 ghost use lib.ListN.{length};
 ghost use Rattle.bits.specs.Bits.{bitsOf};
 ghost use Rattle.entropy.specs.Medians.{pairOf, zeroPair};
 ghost use Rattle.samples.specs.State.{start};
 ghost use Rattle.samples.specs.Reading.{reading};
+ghost use Rattle.samples.specs.Parts.{ZerosIs};
 ghost use Rattle.samples.specs.View.{readToldOf, toldReading, readEntry};
 use crate::ReadAnswer;
 use crate::coded::Coded;
@@ -47,6 +49,24 @@ fn stopped(
     }
 }
 
+// The first zero of a run and `behind` more into `out` from `first` on, as far as `out` goes. The index after them.
+fn put_zeros(out: &mut [i32], first: usize, behind: u32) -> usize
+    requires { ⌜ first < length (now out) ⌝ }
+    ensures { λ r. ⌜ ZerosIs (now (out .entry)) (now (out .exit)) first behind r ⌝ }
+{
+    let run = behind as usize + 1;
+    let mut end = out.len();
+    if run < end - first {
+        end = first + run;
+    }
+    let mut i = first;
+    while i < end {
+        out[i] = 0;
+        i = i + 1;
+    }
+    i
+}
+
 // Words into all of `out`, the first of them for the left channel. What it holds behind a refused word stays.
 fn decode_packed_samples_stereo(
     payload: &[u8],
@@ -58,41 +78,33 @@ fn decode_packed_samples_stereo(
 {
     let none = AdaptiveMedians { values: [0, 0, 0] };
     let mut medians = seeds;
-    let mut owed: u32 = 0;
     let mut run_break = false;
     let mut last_zero = false;
     let mut last_one = false;
     let mut bits: usize = 0;
     let mut written: usize = 0;
     while written < out.len() {
-        let mut sample: i32 = 0;
-        if owed > 0 {
-            owed = owed - 1;
-        } else {
-            let due = medians[written % 2];
-            let run = zero_run_eligible(medians[0], medians[1], run_break, last_zero, last_one);
-            let word = read_word(payload, bits, run, due, last_zero, last_one);
-            match word {
-                Coded::Run(behind, next) => {
-                    medians = [none, none];
-                    run_break = true;
-                    owed = behind;
-                    bits = next;
-                }
-                Coded::Sample(value, ones_count, next, zero, one) => {
-                    medians[written % 2] = adapt(due, ones_count);
-                    run_break = false;
-                    last_zero = zero;
-                    last_one = one;
-                    bits = next;
-                    sample = value;
-                }
-                Coded::EndOfStream => return stopped(Refusal::EndOfStream, bits, medians, written),
-                Coded::Truncated => return stopped(Refusal::Truncated, bits, medians, written),
+        let due = medians[written % 2];
+        let run = zero_run_eligible(medians[0], medians[1], run_break, last_zero, last_one);
+        match read_word(payload, bits, run, due, last_zero, last_one) {
+            Coded::Run(behind, next) => {
+                medians = [none, none];
+                run_break = true;
+                bits = next;
+                written = put_zeros(out, written, behind);
             }
+            Coded::Sample(value, ones_count, next, zero, one) => {
+                medians[written % 2] = adapt(due, ones_count);
+                run_break = false;
+                last_zero = zero;
+                last_one = one;
+                bits = next;
+                out[written] = value;
+                written = written + 1;
+            }
+            Coded::EndOfStream => return stopped(Refusal::EndOfStream, bits, medians, written),
+            Coded::Truncated => return stopped(Refusal::Truncated, bits, medians, written),
         }
-        out[written] = sample;
-        written = written + 1;
     }
     accepted(bits, medians, written)
 }

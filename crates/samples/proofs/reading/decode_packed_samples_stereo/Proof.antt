@@ -1,10 +1,8 @@
--- `samples::reading::decode_packed_samples_stereo` meets its contract. The loop's invariant is `Loop`; a turn is a zero that is owed, a run that starts,
--- or a sample, in this order where the arms meet.
+-- `samples::reading::decode_packed_samples_stereo` meets its contract. The loop's invariant is `Loop`; a turn is a run or a sample.
 -- Assumes nothing.
 use borrow.Author.Needs.{needs}
 use native.Mathlib.Omega.{arith}
 use mathlib.Core.Path.{_≡_, ap}
-use mathlib.Core.Logic.{⊎-elim}
 use Prim.Native.Nat.{_-_}
 use denote.Ref.{now}
 use lib.ListN.{length}
@@ -15,25 +13,22 @@ use Rattle.entropy.specs.Medians.{pairOf}
 use Rattle.samples.specs.State.{start}
 use Rattle.samples.specs.Parts.{codedWord}
 use Rattle.samples.proofs.HeldLaws.{length-mapped}
-use Rattle.samples.proofs.LoopLaws.{Loop, loop-start, loop-end, loop-paid, loop-run, loop-sample, loop-stop}
+use Rattle.samples.proofs.LoopLaws.{Loop, loop-start, loop-end, loop-run, loop-sample, loop-stop}
 use Rattle.samples.proofs.reading.decode_packed_samples_stereo.Statement.{statement}
 use Rattle.samples.proofs.reading.decode_packed_samples_stereo.Tie as tie
 
 abbrev Inv-loop : tie.InvT-loop
-Inv-loop payload out₀ none medians₀ owed₀ run-break₀ last-zero₀ last-one₀ bits₀ written₀ out medians owed run-break last-zero last-one bits written =
-    Loop payload out₀ (start (pairOf medians₀ .left) (pairOf medians₀ .right)) out medians owed run-break last-zero last-one bits written
+Inv-loop payload out₀ none medians₀ run-break₀ last-zero₀ last-one₀ bits₀ written₀ out medians run-break last-zero last-one bits written =
+    Loop payload out₀ (start (pairOf medians₀ .left) (pairOf medians₀ .right)) out medians run-break last-zero last-one bits written
 
 abbrev μ-loop : tie.MeasureT-loop
-μ-loop payload out₀ none medians₀ owed₀ run-break₀ last-zero₀ last-one₀ bits₀ written₀ out medians owed run-break last-zero last-one bits written = length out₀ - written
+μ-loop payload out₀ none medians₀ run-break₀ last-zero₀ last-one₀ bits₀ written₀ out medians run-break last-zero last-one bits written = length out₀ - written
 
 loop-holds : tie.Need-loop-holds Inv-loop μ-loop
 loop-holds c =
     let a = c .before .args in
     let l : length (a .seeds) ≡ 2 = search (needs, length-mapped) in
     loop-start (now (a .payload)) (now (a .out)) (a .seeds) l
-
-sub-owed : tie.Need-sub-owed Inv-loop μ-loop
-sub-owed c = search needs
 
 mul-due : tie.Need-mul-due Inv-loop μ-loop
 mul-due c = search needs
@@ -53,11 +48,27 @@ zero-run-eligible-requires c κs = search needs
 read-word-requires : tie.Need-read-word-requires Inv-loop μ-loop
 read-word-requires c κs = search needs
 
-enum-known-word : tie.Need-enum-known-word Inv-loop μ-loop
-enum-known-word c = search needs
+enum-known-behind : tie.Need-enum-known-behind Inv-loop μ-loop
+enum-known-behind c = search needs
 
-enum-known-word-2 : tie.Need-enum-known-word-2 Inv-loop μ-loop
-enum-known-word-2 c = search needs
+put-zeros-requires : tie.Need-put-zeros-requires Inv-loop μ-loop
+put-zeros-requires c κs = search needs
+
+loop-less : tie.Need-loop-less Inv-loop μ-loop
+loop-less c =
+    let l = c .before .before .before .before .before .before .before .before .before .before .before .before .loop .inv in
+    let z = c .before .put-zeros .ensures in
+    omega (arith, z .some, z .within, l .words .same)
+
+loop-again : tie.Need-loop-again Inv-loop μ-loop
+loop-again c =
+    let y = c .before .before .before .before in
+    let w = y .before .before in
+    let l = w .before .before .before .before .before .before .loop .inv in
+    loop-run _ _ _ _ _ _ _ _ _ _ l _ _ (omega arith) (w .before .zero-run-eligible .ensures) (w .read-word .ensures) _ _ _ _ (y .behind .given .1) (c .before .put-zeros .ensures)
+
+enum-known-value : tie.Need-enum-known-value Inv-loop μ-loop
+enum-known-value c = search needs
 
 adapt-requires : tie.Need-adapt-requires Inv-loop μ-loop
 adapt-requires c κs = search needs
@@ -67,6 +78,28 @@ mul-medians c = search needs
 
 array-set-from-medians : tie.Need-array-set-from-medians Inv-loop μ-loop
 array-set-from-medians c = search needs
+
+mul-value : tie.Need-mul-value Inv-loop μ-loop
+mul-value c = search needs
+
+slice-set-from-value : tie.Need-slice-set-from-value Inv-loop μ-loop
+slice-set-from-value c = search needs
+
+add-written : tie.Need-add-written Inv-loop μ-loop
+add-written c = search needs
+
+loop-less-2 : tie.Need-loop-less-2 Inv-loop μ-loop
+loop-less-2 c = search needs
+
+loop-again-2 : tie.Need-loop-again-2 Inv-loop μ-loop
+loop-again-2 c =
+    let y = c .before .before in
+    let w = y .before .before in
+    let l = w .before .before .before .before .before .before .loop .inv in
+    let v = y .value .given .0 .0 in
+    let f : SFits w32 v = search needs in
+    rw (toZ-ofZ f)
+    (loop-sample _ _ _ _ _ _ _ _ _ _ l _ _ (omega arith) (w .before .zero-run-eligible .ensures) (w .read-word .ensures) v _ _ _ _ _ (y .value .given .1) (c .adapt .ensures))
 
 enum-told : tie.Need-enum-told Inv-loop μ-loop
 enum-told c = search needs
@@ -79,9 +112,9 @@ same-length c = search needs
 
 returns : tie.Need-returns Inv-loop μ-loop
 returns c =
-    let k = c .before .before .before .before .before .before .before .before .before .before in
-    let e = loop-stop _ _ _ _ _ _ _ _ _ _ _ (k .loop .inv) _ _ (omega arith) (omega arith) (c .before .before .before .before .zero-run-eligible .ensures) (c .before .before .before .read-word .ensures) 4
-    (ap (codedWord (k .loop .inv .state)) (c .before .enum-told .given .1)) in
+    let w = c .before .before .before in
+    let l = w .before .before .before .before .before .before .loop .inv in
+    let e = loop-stop _ _ _ _ _ _ _ _ _ _ l _ _ (omega arith) (w .before .zero-run-eligible .ensures) (w .read-word .ensures) 4 (λ s. ap (codedWord s) (c .before .enum-told .given .1)) in
     rw (c .stopped .ensures) e
 
 enum-told-2 : tie.Need-enum-told-2 Inv-loop μ-loop
@@ -95,36 +128,10 @@ same-length-2 c = search needs
 
 returns-2 : tie.Need-returns-2 Inv-loop μ-loop
 returns-2 c =
-    let k = c .before .before .before .before .before .before .before .before .before .before in
-    let e = loop-stop _ _ _ _ _ _ _ _ _ _ _ (k .loop .inv) _ _ (omega arith) (omega arith) (c .before .before .before .before .zero-run-eligible .ensures) (c .before .before .before .read-word .ensures) 3
-    (ap (codedWord (k .loop .inv .state)) (c .before .enum-told2 .given .1)) in
+    let w = c .before .before .before in
+    let l = w .before .before .before .before .before .before .loop .inv in
+    let e = loop-stop _ _ _ _ _ _ _ _ _ _ l _ _ (omega arith) (w .before .zero-run-eligible .ensures) (w .read-word .ensures) 3 (λ s. ap (codedWord s) (c .before .enum-told2 .given .1)) in
     rw (c .stopped2 .ensures) e
-
-mul-sample : tie.Need-mul-sample Inv-loop μ-loop
-mul-sample c = search needs
-
-slice-set-from-sample : tie.Need-slice-set-from-sample Inv-loop μ-loop
-slice-set-from-sample c = search needs
-
-add-written : tie.Need-add-written Inv-loop μ-loop
-add-written c = search needs
-
-loop-less : tie.Need-loop-less Inv-loop μ-loop
-loop-less c = search needs
-
-loop-again : tie.Need-loop-again Inv-loop μ-loop
-loop-again c =
-    let k = c .before .before in
-    ⊎-elim (λ w. rw (w .1, w .2, w .3, w .4, w .5, w .6, w .7) (loop-paid _ _ _ _ _ _ _ _ _ _ _ (k .loop .inv) (omega arith) (omega arith)))
-    (⊎-elim
-    (λ w. rw (w .9, w .10, w .11, w .12, w .13, w .14, w .15)
-    (loop-run _ _ _ _ _ _ _ _ _ _ _ (k .loop .inv) _ _ (omega arith) (omega arith) (w .4 .ensures) (w .5 .ensures) _ _ (w .7 .given .1)))
-    (λ w.
-    let v = w .7 .given .0 .0 in
-    let f : SFits w32 v = search needs in
-    rw (w .10, w .11, w .12, w .13, w .14, w .15, w .16, toZ-ofZ f)
-    (loop-sample _ _ _ _ _ _ _ _ _ _ _ (k .loop .inv) _ _ (omega arith) (omega arith) (w .4 .ensures) (w .5 .ensures) v _ _ _ _ _ (w .7 .given .1) (w .9 .ensures))))
-    (c .if1 .came)
 
 accepted-requires : tie.Need-accepted-requires Inv-loop μ-loop
 accepted-requires c κs = search needs
@@ -134,7 +141,7 @@ same-length-3 c = search needs
 
 returns-3 : tie.Need-returns-3 Inv-loop μ-loop
 returns-3 c =
-    let e = loop-end _ _ _ _ _ _ _ _ _ _ _ (c .before .before .loop .inv) (omega arith) in
+    let e = loop-end _ _ _ _ _ _ _ _ _ _ (c .before .before .loop .inv) (omega arith) in
     rw (c .accepted .ensures) e
 
 pub decode-packed-samples-stereo-spec : {M : Type 1} → statement M
@@ -144,18 +151,25 @@ decode-packed-samples-stereo-spec =
     Inv-loop
     μ-loop
     loop-holds
-    sub-owed
     mul-due
     array-copy-out-due
     array-copy-out-zero-run-eligible
     array-copy-out-zero-run-eligible-2
     zero-run-eligible-requires
     read-word-requires
-    enum-known-word
-    enum-known-word-2
+    enum-known-behind
+    put-zeros-requires
+    loop-less
+    loop-again
+    enum-known-value
     adapt-requires
     mul-medians
     array-set-from-medians
+    mul-value
+    slice-set-from-value
+    add-written
+    loop-less-2
+    loop-again-2
     enum-told
     stopped-requires
     same-length
@@ -164,11 +178,6 @@ decode-packed-samples-stereo-spec =
     stopped-requires-2
     same-length-2
     returns-2
-    mul-sample
-    slice-set-from-sample
-    add-written
-    loop-less
-    loop-again
     accepted-requires
     same-length-3
     returns-3)

@@ -1,0 +1,111 @@
+-- `samples::reading::put_zeros` meets its contract.
+-- Assumes nothing.
+use borrow.Author.Needs.{needs}
+use native.Mathlib.Omega.{arith}
+use mathlib.Core.Path.{_≡_, ap, _∙_}
+use mathlib.Core.List.{List}
+use mathlib.Core.Logic.{⊎-elim}
+use Prim.Native.Nat.{ℕ, _+_, _-_, _≤_, _<_}
+use denote.Ref.{now}
+use lib.IntN.{ℤ}
+use lib.ListN.{length}
+use Rattle.samples.specs.Parts.{zeroed}
+use Rattle.samples.proofs.ZeroLaws.{zeroed-length, zeroed-none, zeroed-more}
+use Rattle.samples.proofs.reading.put_zeros.Statement.{statement}
+use Rattle.samples.proofs.reading.put_zeros.Tie as tie
+
+-- where the zeros end
+record Ends (len first behind end : ℕ) : Type 0 where
+  some : first < end
+  within : end ≤ len
+  most : end ≤ first + 1 + behind
+  all : end < len → end ≡ first + 1 + behind
+
+-- those before i are written
+record Zeroing (before : List ℤ) (first behind end : ℕ) (out : List ℤ) (i : ℕ) : Type 0 where
+  list-is : out ≡ zeroed before first (i - first)
+  from : first ≤ i
+  here : i ≤ end
+  ends : Ends (length before) first behind end
+
+same : (before : List ℤ) (first behind end : ℕ) (out : List ℤ) (i : ℕ) → Zeroing before first behind end out i → length out ≡ length before
+same before first behind end out i l = ap length (l .list-is) ∙ zeroed-length before first (i - first)
+
+abbrev Inv-loop : tie.InvT-loop
+Inv-loop out₀ first behind run end i₀ out i = Zeroing out₀ first behind end out i
+
+abbrev μ-loop : tie.MeasureT-loop
+μ-loop out₀ first behind run end i₀ out i = end - i
+
+add-run : tie.Need-add-run Inv-loop μ-loop
+add-run c = search needs
+
+sub-if1 : tie.Need-sub-if1 Inv-loop μ-loop
+sub-if1 c = search needs
+
+add-end : tie.Need-add-end Inv-loop μ-loop
+add-end c = search needs
+
+ends-are : (c : tie.Joined1 Inv-loop μ-loop) → let a = c .before .args in Ends (length (now (a .out))) (a .first) (a .behind) (c .if1 .end)
+ends-are c =
+    let s = c .before .pre in
+    ⊎-elim
+    (λ w. record { some = omega (arith, w .0 .taken, w .1); within = omega (arith, w .0 .taken, w .1); most = omega (arith, w .1); all = λ h. omega (arith, w .1) })
+    (λ w. record { some = omega (arith, w .1); within = omega (arith, w .1); most = omega (arith, w .0 .left, w .1); all = λ h. omega (arith, w .1) })
+    (c .if1 .came)
+
+loop-holds : tie.Need-loop-holds Inv-loop μ-loop
+loop-holds c =
+    let a = c .before .args in
+    let e = ends-are c in
+    record { list-is = zeroed-none (now (a .out)) (a .first); from = omega arith; here = omega (arith, e .some); ends = e }
+
+mul-out : tie.Need-mul-out Inv-loop μ-loop
+mul-out c = search needs
+
+slice-set-of-out : tie.Need-slice-set-of-out Inv-loop μ-loop
+slice-set-of-out c = let l = c .before .loop in omega (arith, l .inv .ends .within, same _ _ _ _ _ _ (l .inv))
+
+add-i : tie.Need-add-i Inv-loop μ-loop
+add-i c = search needs
+
+loop-less : tie.Need-loop-less Inv-loop μ-loop
+loop-less c = omega arith
+
+loop-again : tie.Need-loop-again Inv-loop μ-loop
+loop-again c =
+    let l = c .before .loop .inv in
+    record { list-is = zeroed-more _ _ _ _ (l .from) (l .list-is); from = omega (arith, l .from); here = omega arith; ends = l .ends }
+
+same-length : tie.Need-same-length Inv-loop μ-loop
+same-length c = same _ _ _ _ _ _ (c .before .loop .inv)
+
+returns : tie.Need-returns Inv-loop μ-loop
+returns c =
+    let l = c .before .loop .inv in
+    let e = l .ends in
+    record {
+      list-is = l .list-is;
+      some = omega (arith, e .some);
+      within = omega (arith, l .here, e .within);
+      most = omega (arith, l .here, e .most);
+      all = λ h. omega (arith, l .here, e .all (omega (arith, l .here)));
+    }
+
+pub put-zeros-spec : {M : Type 1} → statement M
+put-zeros-spec =
+    tie.close
+    (tie.spec
+    Inv-loop
+    μ-loop
+    add-run
+    sub-if1
+    add-end
+    loop-holds
+    mul-out
+    slice-set-of-out
+    add-i
+    loop-less
+    loop-again
+    same-length
+    returns)
