@@ -1,22 +1,18 @@
 -- For every number in the span and all medians of 32 bits there is a smallest count whose interval contains it. A closed form finds it, and its interval
 -- meets neither the wrap nor the mask.
 -- Assumes nothing.
-use mathlib.Core.Path.{_≡_, refl, sym, ap, _∙_}
+use mathlib.Core.Path.{_≡_, refl, ap}
 use mathlib.Core.Bool.{Bool, true, false, cond, _&&_}
 use Prim.Native.Nat.{ℕ, zero, suc, _+_, _-_, _*_, _/_, _≤_, _<_}
 use native.Mathlib.Nat.{div-mul-le-self, lt-div-mul-add, mul-le-mul-right, div-le-self}
 use native.Mathlib.Omega.{arith}
 use borrow.Author.Tests.{lt-ltb, le-ltb, le-leb, leb-true, ltb-true, ltb-false}
 use lib.Dec.{ltb, leb}
-use Rattle.bits.specs.Bits.{val}
 use Rattle.entropy.specs.Medians.{Medians}
 use Rattle.medians.specs.Interval.{g, base, width, lowOf, highOf}
 use Rattle.medians.specs.Adaptation.{up, down, adapt}
+use Rattle.samples.proofs.PartLaws.{clash}
 use Rattle.packing.specs.Counts.{Small, contains, least, count}
-
--- what is true and false at once proves anything
-pub clash : {A : Type 0} {b : Bool} → b ≡ true → b ≡ false → A
-clash {b = b} e f = let z : _≡_ {A = ℕ} 0 1 = ap val (sym f ∙ e) in absurd (omega arith)
 
 -- both parts of a true conjunction are true
 pub both : (a b : Bool) → (a && b) ≡ true → (a ≡ true) × (b ≡ true)

@@ -1,25 +1,18 @@
 -- A walk past the intervals finds where a number lies.
 -- Assumes nothing.
-use mathlib.Core.Path.{_≡_, refl, sym, ap, _∙_}
-use Prim.Native.Nat.{ℕ, zero, suc, _+_, _-_, _*_, _/_, _%_, _≤_, _<_}
+use mathlib.Core.Path.{_≡_, sym, ap, _∙_}
+use Prim.Native.Nat.{ℕ, suc, _+_, _-_, _*_, _/_, _%_, _≤_, _<_}
 use native.Mathlib.Nat.{div-add-mod', div-eq-of-lt, lt-div-mul-add}
 use native.Mathlib.Decide.{decLe}
 use native.Mathlib.Omega.{arith}
 use Rattle.entropy.specs.Medians.{Medians}
 use Rattle.medians.specs.Interval.{g, base, width}
 use Rattle.medians.specs.Adaptation.{up, down, adapt}
+use Rattle.medians.proofs.AdaptationLaws.{adapt-many}
 use Rattle.packing.specs.Counts.{Small, count}
 use Rattle.packing.specs.View.{LocatedIs, Above}
 use Rattle.packing.specs.declared.locating.Located.{Located}
 use Rattle.packing.proofs.CountLaws.{closed, closed-first, closed-second, closed-many, count-closed, smallest}
-
--- beyond the third interval all medians move up
-adapt-many : (m : Medians) (k : ℕ) → 3 ≤ k → adapt m k ≡ record { m0 = up 128 (m .m0); m1 = up 64 (m .m1); m2 = up 32 (m .m2) }
-unfolding adapt
-adapt-many m zero h = absurd (omega arith)
-adapt-many m (suc zero) h = absurd (omega arith)
-adapt-many m (suc (suc zero)) h = absurd (omega arith)
-adapt-many m (suc (suc (suc j))) h = refl
 
 -- a number whose count is k lies where k's interval was before the wrap
 located : (m : Medians) (v k : ℕ) (r : Located) → Small m → v < 1879048192 → closed m v ≡ k → r .count ≡ k → base m k + r .code ≡ v → r .last ≡ width m k - 1

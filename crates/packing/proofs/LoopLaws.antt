@@ -16,11 +16,11 @@ use Rattle.entropy.specs.declared.AdaptiveMedians.{AdaptiveMedians}
 use Rattle.entropy.specs.Medians.{Medians, MedianPair, mediansOf, pairOf, zeroSet}
 use Rattle.samples.specs.State.{State, start, side, flip, paid, inRun}
 use Rattle.samples.proofs.HeldLaws.{noSet, there, turned, picked}
+use Rattle.samples.proofs.PartLaws.{clash}
 use Rattle.packing.specs.Counts.{Small}
 use Rattle.packing.specs.Packing.{zeros, spanned, Out, behind, silent, wordOut, packed}
 use Rattle.packing.specs.View.{Seen, Next, RunIs, PackedIs}
 use Rattle.packing.specs.declared.packing.Packed.{Packed}
-use Rattle.packing.proofs.CountLaws.{clash}
 use Rattle.packing.proofs.LongLaws.{word-long}
 use Rattle.packing.proofs.ReadingLaws.{spanned-parts, start-inv}
 use Rattle.packing.proofs.SizeLaws.{kept}

@@ -17,10 +17,11 @@ use Rattle.bits.proofs.RoundTrip.{At, at-first, at-second}
 use Rattle.entropy.specs.Medians.{Medians}
 use Rattle.samples.specs.State.{State, start}
 use Rattle.samples.specs.Reading.{Reading, reading}
+use Rattle.samples.proofs.PartLaws.{clash}
 use Rattle.packing.specs.Counts.{Small}
 use Rattle.packing.specs.Packing.{spanned, wordOut, packed}
 use Rattle.packing.proofs.StepLaws.{Inv, step}
-use Rattle.packing.proofs.CountLaws.{clash, both}
+use Rattle.packing.proofs.CountLaws.{both}
 
 -- the first residual is in the span, and so are the others
 pub spanned-parts : (v : ℤ) (vs : List ℤ) → spanned (v ∷ vs) ≡ true → (mag v < 1879048192) × (spanned vs ≡ true)

@@ -6,8 +6,8 @@ use native.Mathlib.Omega.{arith}
 use borrow.Author.Tests.{ltb-true}
 use lib.IntN.{ℤ, pos, negsuc}
 use lib.Signed.{ltZ}
+use Rattle.samples.proofs.PartLaws.{clash}
 use Rattle.packing.specs.Packing.{sign}
-use Rattle.packing.proofs.CountLaws.{clash}
 
 -- a residual below 0 has sign bit 1
 pub sign-neg : (v : ℤ) → ltZ v (pos 0) ≡ true → 1 ≡ sign v

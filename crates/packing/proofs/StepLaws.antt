@@ -19,10 +19,11 @@ use Rattle.bits.proofs.RoundTrip.{At, at-first, at-second, low-at}
 use Rattle.medians.specs.Interval.{lowOf, highOf}
 use Rattle.medians.specs.Adaptation.{adapt}
 use Rattle.packing.specs.Counts.{Small, count}
-use Rattle.packing.proofs.CountLaws.{smallest, adapt-small, clash, both}
+use Rattle.packing.proofs.CountLaws.{smallest, adapt-small, both}
 use Rattle.packing.proofs.FieldTrips.{run-at, prefix-at, code-at}
 use Rattle.samples.specs.State.{State, due, other, flip, side, paid, inRun, unbroken, cleared, flagged, after, runDue}
 use Rattle.samples.specs.Word.{Report, none, zoneOf, Word, given, onField, onPrefix, onZeros, signed, value, plain, fresh, word}
+use Rattle.samples.proofs.PartLaws.{clash}
 use Rattle.packing.specs.Packing.{zeros, ahead, sign, Out, behind, silent, valueField, valueOut, plainOut, freshOut, wordOut}
 
 -- ---- code and sign

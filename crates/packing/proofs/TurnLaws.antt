@@ -18,6 +18,7 @@ use Rattle.medians.specs.Interval.{g, lowOf, highOf}
 use Rattle.medians.specs.Adaptation.{adapt}
 use Rattle.samples.specs.State.{State, due, other, side, flip, inRun, unbroken, cleared, flagged, after, runDue}
 use Rattle.samples.specs.Word.{onZeros}
+use Rattle.samples.proofs.PartLaws.{clash}
 use Rattle.packing.specs.Counts.{Small, contains, least, count}
 use Rattle.packing.specs.Packing.{zeros, ahead, Out, behind, silent, prefixOf, valueOut, plainOut, freshOut, wordOut}
 use Rattle.packing.specs.Written.{runField, prefixField}
@@ -25,7 +26,7 @@ use Rattle.packing.specs.View.{wordField, WordIs, runTest, BeforeIs, See
 use Rattle.packing.specs.declared.word.Before.{Before}
 use Rattle.packing.specs.declared.word.Turn.{Turn}
 use Rattle.packing.specs.declared.word.Word.{Word}
-use Rattle.packing.proofs.CountLaws.{untrue, clash, both}
+use Rattle.packing.proofs.CountLaws.{untrue, both}
 use Rattle.packing.proofs.LongLaws.{run-zero-long}
 use Rattle.packing.proofs.PutLaws.{put-both}
 use Rattle.packing.proofs.StepLaws.{due-flags}

@@ -12,6 +12,7 @@ use lib.ListN.{length}
 use Rattle.answers.specs.declared.Refusal.{Refusal}
 use Rattle.answers.specs.declared.Outcome.{Outcome}
 use Rattle.answers.specs.Numbers.{numberOf, outcomeNumber}
+use Rattle.answers.proofs.NumberLaws.{number-positive}
 use Rattle.bits.specs.Bits.{bitsOf}
 use Rattle.entropy.specs.Medians.{MedianPair, pairOf, zeroPair}
 use Rattle.entropy.specs.Seed.{seedRefusal, seedMedians}
@@ -19,21 +20,6 @@ use Rattle.samples.specs.State.{start}
 use Rattle.samples.specs.Reading.{reading}
 use Rattle.samples.specs.View.{ReadTold, readToldOf, toldReading, readRefusal, unlessRefused, readEntry}
 use Rattle.samples.specs.declared.ReadAnswer.{ReadAnswer}
-
--- no refusal has the number 0
-number-some : (r : Refusal) → 0 < numberOf r
-number-some Refusal.EntropyLength = omega arith
-number-some Refusal.NotStereo = omega arith
-number-some Refusal.Truncated = omega arith
-number-some Refusal.EndOfStream = omega arith
-number-some Refusal.TooLarge = omega arith
-number-some Refusal.ListLength = omega arith
-number-some Refusal.InvalidTerm = omega arith
-number-some Refusal.SeedTooShort = omega arith
-number-some Refusal.TooManyPasses = omega arith
-number-some Refusal.ResidualOutOfSpan = omega arith
-number-some Refusal.OutputTooShort = omega arith
-number-some Refusal.InvalidChannel = omega arith
 
 module _ (entropy payload : List ℕ) (frames : ℕ) (list : List ℤ) where
   -- the three tests before the entropy payload
@@ -62,7 +48,7 @@ module _ (entropy payload : List ℕ) (frames : ℕ) (list : List ℤ) where
   unfolding readEntry
   not-read r x y e n a =
       let m : numberOf y ≡ readRefusal entropy payload frames list = sym (ap outcomeNumber e) ∙ n in
-      rw (a .0, a .1, a .2, a .3, e, ← m) (go (numberOf y) (number-some y))
+      rw (a .0, a .1, a .2, a .3, e, ← m) (go (numberOf y) (number-positive y))
     where
       whole : ReadTold
       whole = toldReading list (reading (bitsOf payload) (2 * frames) 0 (start (seedMedians entropy .left) (seedMedians entropy .right)))

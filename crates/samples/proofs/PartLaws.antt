@@ -68,7 +68,7 @@ count-none bits p o Prefix.Truncated h t = record { is = λ s z e. rw (z, h) }
 -- ---- the run length
 
 -- a flag is not both set and clear
-clash : {A : Type 0} {b : Bool} → b ≡ true → b ≡ false → A
+pub clash : {A : Type 0} {b : Bool} → b ≡ true → b ≡ false → A
 clash {b = b} e f = let z : _≡_ {A = ℕ} 0 1 = ap val (sym f ∙ e) in absurd (omega arith)
 
 -- where run_break is not set, clearing it changes nothing

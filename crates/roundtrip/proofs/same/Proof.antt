@@ -6,11 +6,11 @@ use native.Mathlib.Omega.{arith}
 use borrow.Author.Needs.{needs}
 use lib.ListN.{length, take, getD}
 use mathlib.Core.List.{List}
-use Rattle.packing.proofs.CountLaws.{clash}
 use lib.IntN.{ℤ, pos}
 use mir.Facts.{toZ-ofZ}
 use mir.Syntax.{w32}
 use mir.Val.{SFits, toZ, ofZ}
+use Rattle.samples.proofs.PartLaws.{clash}
 use Rattle.roundtrip.proofs.ListLaws.{same-step, same-end}
 use Rattle.roundtrip.proofs.same.Statement.{statement}
 use Rattle.roundtrip.proofs.same.Tie as tie
