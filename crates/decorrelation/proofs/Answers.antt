@@ -13,7 +13,7 @@ use Rattle.answers.specs.declared.Outcome.{Outcome}
 use Rattle.answers.specs.declared.Refusal.{Refusal}
 use Rattle.passes.specs.Run.{Chain}
 use Rattle.passes.specs.declared.DecorrPass.{DecorrPass}
-use Rattle.decorrelation.specs.Lists.{allValid, pickNumber, decorrelationNumber, analysisNumber, Answer, answerBy, numberBy, chained, listed, acceptedBy, followed, arrayAnswer, decorrelation, analysis}
+use Rattle.decorrelation.specs.Lists.{allValid, pickNumber, decorrelationNumber, analysisNumber, answerBy, numberBy, chained, listed, acceptedBy, followed, arrayAnswer, decorrelation, analysis}
 
 -- a refusal keeps passes and buffer
 kept : (x : Refusal) (c : Chain) (ps : List DecorrPass) (l : List ℤ) → record { refusal = numberOf x; passes = ps; buffer = l } ≡ answerBy (numberOf x) c ps l

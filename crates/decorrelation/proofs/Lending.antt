@@ -13,13 +13,13 @@ use base.Logic.{ent, sep, ex}
 use base.Fml.{Lft, GName, Share, Fml, fsep, flft, fdead, fobs, fauth, fres, flent, fobor}
 use prog.Wp.{Heap}
 use ghost.Atoms.{Atoms, sem}
-use types.Kit.{Given, ‵, _⊛_, some, given, later, _$_, _∵_, !, qed, move, use0, use1, use2, use3, drop, split, join, pick, fsplit, fjoin, fpack, feqI, frame, await, updating, now as at-once, show, done}
+use types.Kit.{Given, ‵, _⊛_, some, later, _$_, _∵_, !, qed, move, use0, use1, use2, use3, drop, split, pick, fsplit, fjoin, fpack, feqI, frame, await, updating, now as at-once, show, done}
 use types.Hole.{fillsL, fills-up}
 use types.SemTy.{cells, Arr}
 use types.Share.{arr-parts}
 use types.Tokens.{lent-back}
 use denote.RattleType.{RattleType}
-use denote.Shadow.{pureL, pureI}
+use denote.Shadow.{pureI}
 use denote.Memory.{mem, shares}
 use denote.Ref.{RefT}
 use denote.Slice.{sliceVal, MutSlice, ShrSlice, Holeys, heres, Room, finally, at-slice, codedHoleys}

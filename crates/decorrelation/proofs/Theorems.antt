@@ -10,7 +10,7 @@ use lib.ListN.{length, take, drop, take-append-drop}
 use lib.Seq.{length-take-le}
 use Rattle.passes.specs.Run.{Fit, Chain, decorrelated, analysed}
 use Rattle.passes.specs.declared.DecorrPass.{DecorrPass}
-use Rattle.passes.proofs.RunInverse.{analysed-fit, analysed-length, decorrelated-fit, decorrelated-length, decorrelated-analysed, analysed-decorrelated}
+use Rattle.passes.proofs.RunInverse.{analysed-fit, analysed-length, decorrelated-length, decorrelated-analysed, analysed-decorrelated}
 use Rattle.passes.proofs.Unique.{residuals-unique}
 use Rattle.passes.proofs.Bounds.{AllBounded, decorrelated-bounded, analysed-bounded}
 use Rattle.decorrelation.specs.Lists.{allValid, decorrelationNumber, analysisNumber, numberBy, Answer, answerBy, chained, listed, followed, arrayAnswer, decorrelation, analysis}

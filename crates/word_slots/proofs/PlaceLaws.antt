@@ -3,14 +3,14 @@
 -- Assumes nothing.
 use mathlib.Core.Path.{_≡_, refl, sym, ap, _∙_}
 use mathlib.Core.Bool.{Bool, true, false, cond, _||_}
-use mathlib.Core.List.{List, [], _∷_}
-use Prim.Native.Nat.{ℕ, zero, suc, _+_, _-_, _*_, _/_, _%_, _≤_}
+use mathlib.Core.List.{List, []}
+use Prim.Native.Nat.{ℕ, zero, suc, _+_, _-_, _*_, _≤_}
 use native.Mathlib.Omega.{arith}
 use borrow.Author.Tests.{ltb-false, leb-true, leb-false}
 use lib.Dec.{ltb, leb}
 use lib.IntN.{ℤ}
-use lib.ListN.{length, drop, drop-of-length-le}
-use Rattle.bits.specs.Bits.{val, bitOf, ones, bitsOf}
+use lib.ListN.{length, drop-of-length-le}
+use Rattle.bits.specs.Bits.{ones, bitsOf}
 use Rattle.bits.specs.Fields.{getBits, unary}
 use Rattle.bits.specs.declared.Field.{Field}
 use Rattle.bits.specs.declared.Field.the-variants.{Value, Truncated}
@@ -22,8 +22,8 @@ use Rattle.fields.proofs.LocalLaws.{fieldEnd, truncated-binary-local}
 use Rattle.medians.specs.Interval.{lowOf, highOf}
 use Rattle.entropy.specs.Seed.{seedMedians}
 use Rattle.samples.specs.State.{State, start, due, cleared, unbroken, after, runDue}
-use Rattle.samples.specs.Word.{Word, Report, given, refused, onField, onPrefix, onZeros, signed, zoneOf, value, plain, fresh, word}
-use Rattle.samples.specs.Reading.{Reading, more, onWord, reading}
+use Rattle.samples.specs.Word.{Word, Report, given, refused, onField, signed, zoneOf, value, plain, fresh, word}
+use Rattle.samples.specs.Reading.{more, onWord, reading}
 use Rattle.samples.specs.View.{ReadTold, readToldOf, WordTold, wordToldOf, toldWord, oneWord, toldReading, readRefusal, unlessRefused, readEntry}
 use Rattle.samples.specs.declared.ReadAnswer.{ReadAnswer}
 use Rattle.samples.specs.declared.WordAnswer.{WordAnswer}

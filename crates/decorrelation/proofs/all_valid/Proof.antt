@@ -1,14 +1,14 @@
 -- `decorrelation::all_valid` meets its contract: a walk of its MIR, by hand, with a loop over a `&[DecorrPass]` that is only read, a call
 -- of `valid_pass` in it, and a `return` from within the loop. Each turn looks into the slice for one pass and shuts it again. What
 -- holds at a turn is `Sound` of `Turns`. Assumes nothing.
-use mathlib.Core.Path.{_≡_, refl, sym, ap, subst}
+use mathlib.Core.Path.{_≡_, refl, sym}
 use mathlib.Core.Bool.{Bool, true, false, not}
 use mathlib.Core.WellFounded.{InvImage·wf}
 use Prim.Native.Nat.{ℕ, _+_, _-_, _*_, _<_, _≤_, _^_}
 use native.Mathlib.Omega.{arith}
 use native.Mathlib.Nat.{eq-or-lt-of-le}
 use mathlib.Core.List.{List, [], _∷_}
-use mathlib.Core.Logic.{_⊎_, inl, inr}
+use mathlib.Core.Logic.{inl, inr}
 use borrow.Author.Tests.{lt-ltb, le-ltb}
 use lib.ListN.{length, getD}
 use lib.WfN.{Nat·lt-wfRel}
@@ -25,7 +25,7 @@ use prog.Wp.{Heap, Env, WpFn, Tables, Wp, atReturn, afterSeq, afterBlock, afterT
 use ghost.Atoms.{Atoms}
 use contract.Monad.{Fun}
 use contract.Running.{givenOf, tables, tablesOf}
-use types.Kit.{Given, Item, Seq, Go, Post, prop, anyQ, atRet, runs, frees, ‵, _⊛_, ⋆, _$_, _∵_, !, qed, by, move, keep, drop, split, join, rewrite, fsplit, fjoin, suffices, frame, done}
+use types.Kit.{Given, Item, Seq, Go, Post, prop, anyQ, atRet, runs, frees, ‵, _⊛_, ⋆, _$_, _∵_, !, qed, by, move, drop, split, join, rewrite, fsplit, fjoin, suffices, frame, done}
 use types.Run.{look, look-raw, store, init, forget, stop, hop, fld, from, load, lit, true-lit, false-lit, of-opd, bin, un, and-then, no-more, assigns, assigns-last, stays, leaves-loop, land, first, blocks, branches, skips, loops, again, Below, returns, returns-within, exec, enter, alloc1, alloc0, params1, pass1, pass0, free1, free0}
 use types.Part.{whole, sub, look-in}
 use types.Share.{arr-parts}

@@ -1,4 +1,4 @@
-use mathlib.Core.Path.{_≡_, sym, _∙_}
+use mathlib.Core.Path.{sym, _∙_}
 use borrow.Author.Needs.{needs}
 use Rattle.decorrelation.proofs.Answers.{array-many, array-refused, array-accepted}
 use Rattle.decorrelation.proofs.array_answer.Statement.{statement}

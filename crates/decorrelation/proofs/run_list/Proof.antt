@@ -3,15 +3,15 @@
 -- on (`Calls`), and puts the result in its place. What holds of the lists at a turn is `Ran` of `Turns`. All that the proof knows of
 -- `place` and `run_pass` is that they meet their contracts. Assumes nothing.
 use mathlib.Core.Path.{_≡_, refl, sym, ap, subst}
-use mathlib.Core.Bool.{Bool, true}
+use mathlib.Core.Bool.{Bool}
 use mathlib.Core.WellFounded.{InvImage·wf}
 use Prim.Native.Nat.{ℕ, _+_, _-_, _*_, _<_, _≤_, _^_}
 use native.Mathlib.Omega.{arith}
 use mathlib.Core.List.{List, [], _∷_}
-use mathlib.Core.Logic.{_⊎_, inl, inr}
+use mathlib.Core.Logic.{inl, inr}
 use native.Mathlib.Nat.{eq-or-lt-of-le}
 use borrow.Author.Tests.{lt-ltb, le-ltb}
-use lib.ListN.{length, getD, set, length-set}
+use lib.ListN.{length, getD, set}
 use lib.WfN.{Nat·lt-wfRel}
 use lib.Dec.{lit<}
 use lib.IntN.{ℤ}
@@ -23,14 +23,14 @@ use base.Logic.{SProp, ent, emp, via, fst∗}
 use base.Fml.{GName, Lft, Share, ftrue, fat, froom, fdies, flft, fobs, fauth, fbor, fobor}
 use prog.Memory.{Memory}
 use prog.Routine.{Routine}
-use prog.Wp.{Heap, Env, Calls, Loops, WpFn, Tables, Wp, atReturn, afterSeq, afterBlock, afterTurn}
+use prog.Wp.{Heap, Env, WpFn, Tables, Wp, atReturn, afterSeq, afterBlock, afterTurn}
 use ghost.Atoms.{Atoms}
 use contract.Monad.{Fun}
 use contract.Running.{givenOf, tables, tablesOf}
 use types.Kit.{Given, Item, Seq, Go, Post, anyQ, atRet, runs, ‵, _⊛_, ⋆, _$_, _∵_, !, qed, by, move, keep, drop, split, join, rewrite, fsplit, fjoin, feqI, suffices, frame, done}
 use types.Run.{look, look-raw, store, store-raw, init, forget, stop, hop, fld, from, load, lit, addr, unit-lit, of-opd, bin, and-then, no-more, assigns, assigns-last, stays, leaves-loop, land, first, blocks, loops, again, Below, returns, exec, enter, alloc1, alloc0, params1, pass1, pass0, free1, free0}
 use types.Part.{agg, whole, sub, look-in}
-use sound.WpLaws.{FmC, fmOf, WpFn-mono}
+use sound.WpLaws.{fmOf, WpFn-mono}
 use denote.RattleType.{owns}
 use denote.Shadow.{pureI}
 use denote.Laws.{Is, shows}
@@ -58,7 +58,7 @@ use Rattle.pass_runs.proofs.run_pass.Symbol as run-pass-def
 use Rattle.pass_runs.proofs.run_pass.Symbol.{name as #pass_runs·run-pass}
 use Rattle.pass_runs.proofs.run_pass.Met as run-pass-thm
 use Rattle.decorrelation.specs.Lists.{chained, placeOf}
-use Rattle.decorrelation.proofs.Calls.{mach, PlaceOf, calls-place, RunPass, buf, calls-run-pass}
+use Rattle.decorrelation.proofs.Calls.{PlaceOf, calls-place, RunPass, buf, calls-run-pass}
 use Rattle.decorrelation.proofs.Turns.{none, Ran, place-within, ran-start, ran-step, ran-end}
 use Rattle.decorrelation.proofs.place.Symbol as place-def
 use Rattle.decorrelation.proofs.place.Symbol.{name as #decorrelation·place}

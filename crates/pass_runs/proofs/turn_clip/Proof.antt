@@ -1,4 +1,4 @@
-use mathlib.Core.Bool.{true, false}
+use mathlib.Core.Bool.{true}
 use Rattle.pass_runs.proofs.TurnLaws.{back-raw, forth-raw}
 use borrow.Author.Needs.{needs}
 use Rattle.pass_runs.proofs.turn_clip.Statement.{statement}

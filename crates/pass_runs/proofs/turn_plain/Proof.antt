@@ -1,4 +1,4 @@
-use mathlib.Core.Bool.{true, false}
+use mathlib.Core.Bool.{false}
 use Rattle.pass_runs.proofs.TurnLaws.{back-raw, forth-raw}
 use borrow.Author.Needs.{needs}
 use Rattle.pass_runs.proofs.turn_plain.Statement.{statement}

@@ -1,6 +1,5 @@
 -- `pass_slots::slot_term` meets its contract.
 -- Assumes nothing.
-use mathlib.Core.Path.{_≡_}
 use mir.Syntax.{w8, w32}
 use mir.Val.{SFits}
 use mir.ValLaws.{toZ-ofZ}

@@ -3,7 +3,6 @@ use mir.Syntax.{w32, w64}
 use mir.ValLaws.{toZ-ofZ}
 use Rattle.wrapping.proofs.RangeLaws.{widen, mul-fits64}
 use Rattle.wrapping.proofs.ReadBack.{cast64}
-use Rattle.weights.specs.Weights.{predict}
 use Rattle.weights.proofs.PredictLaws.{biased-fits64, predict-raw}
 use Rattle.weights.proofs.apply_weight.Statement.{statement}
 use Rattle.weights.proofs.apply_weight.Tie as tie

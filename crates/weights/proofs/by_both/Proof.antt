@@ -1,4 +1,4 @@
-use mir.Syntax.{w32, w64}
+use mir.Syntax.{w32}
 use mir.ValLaws.{toZ-ofZ}
 use Rattle.wrapping.proofs.RangeLaws.{widen}
 use Rattle.wrapping.proofs.ReadBack.{cast64}

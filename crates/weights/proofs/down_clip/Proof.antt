@@ -1,4 +1,4 @@
-use mir.Syntax.{w32, w64}
+use mir.Syntax.{w32}
 use mir.ValLaws.{toZ-ofZ}
 use borrow.Author.Needs.{needs}
 use Rattle.weights.proofs.down_clip.Statement.{statement}

@@ -1,5 +1,5 @@
 use borrow.Author.Needs.{needs}
-use Rattle.wrapping.specs.Wrap.{wrap32, low32}
+use Rattle.wrapping.specs.Wrap.{wrap32}
 use Rattle.wrapping.proofs.WrapLaws.{masked, low32-lt}
 use Rattle.wrapping.proofs.ReadBack.{not-not}
 use Rattle.wrapping.proofs.narrow.Statement.{statement}

@@ -1,6 +1,6 @@
 use mir.Syntax.{w32, w64}
 use mir.ValLaws.{toZ-ofZ}
-use lib.IntN.{pos, negℤ, +ℤ-idl}
+use lib.IntN.{+ℤ-idl}
 use Rattle.wrapping.proofs.RangeLaws.{widen, neg-fits64}
 use Rattle.wrapping.proofs.ReadBack.{cast64, narrowed}
 use borrow.Author.Needs.{needs}
