@@ -7,6 +7,7 @@ use lib.IntN.{ℤ, pos, negsuc, negℤ, natAbs, _-ℤ_, +ℤ-idl}
 use mir.Syntax.{w8, w32}
 use mir.Val.{toZ, ofZ, SFits}
 use mir.ValLaws.{toZ-pos, toZ-neg, toZ-ofZ, toZ-fits}
+use Rattle.wrapping.proofs.RangeLaws.{neg-abs}
 use Rattle.wrapping.proofs.WrapLaws.{sub-cases}
 use Rattle.decorrelation.specs.PassBytes.{termOfByte, deltaOfByte, weightOf, weightOfByte}
 
@@ -55,15 +56,11 @@ weight-down byte h k =
     rw (toZ-pos w32 ((256 - byte) * 8) (omega arith), +ℤ-idl, toZ-ofZ w32 _ (neg-fits ((256 - byte) * 8) (omega arith)), signed-down byte h k)
     (ap (λ n. negℤ (pos n)) e)
 
-abs-neg : (n : ℕ) → natAbs (negℤ (pos n)) ≡ n
-abs-neg zero = refl
-abs-neg (suc n) = refl
-
 in-range : (z : ℤ) → SFits w8 z → natAbs (weightOf z) ≤ 1024
 unfolding weightOf
 in-range (pos zero) h = omega arith
 in-range (pos (suc k)) h = omega (arith, h .sfits)
-in-range (negsuc k) h = rw (abs-neg (8 * suc k)) (omega (arith, h .sfits))
+in-range (negsuc k) h = rw (neg-abs (8 * suc k)) (omega (arith, h .sfits))
 
 -- "so -1024 to 1024" (P2): both ends are reached
 pub weight-range : (byte : ℕ) → byte < 256 → natAbs (weightOfByte byte) ≤ 1024

@@ -43,7 +43,7 @@ mag-abs : (a : ℤ) → mag a ≤ natAbs a
 mag-abs (pos n) = omega arith
 mag-abs (negsuc n) = omega arith
 
-neg-abs : (n : ℕ) → natAbs (negℤ (pos n)) ≡ n
+pub neg-abs : (n : ℕ) → natAbs (negℤ (pos n)) ≡ n
 neg-abs zero = refl
 neg-abs (suc n) = refl
 
