@@ -243,7 +243,7 @@ fn run_swap(analysis: bool, start: DecorrPass, buffer: &mut [i32]) -> DecorrPass
 }
 
 // One pass over a buffer, by its term. A term that is not valid is run as a lag of 0; no entry runs one.
-fn run_term(analysis: bool, start: DecorrPass, buffer: &mut [i32]) -> DecorrPass
+pub fn run_pass(analysis: bool, start: DecorrPass, buffer: &mut [i32]) -> DecorrPass
     ensures { λ r. ⌜ record { pass = r; buffer = now (buffer .exit) } ≡ passed analysis start (now (buffer .entry)) ⌝ }
 {
     let t = passes::term_of(start.term);
@@ -255,17 +255,5 @@ fn run_term(analysis: bool, start: DecorrPass, buffer: &mut [i32]) -> DecorrPass
         Term::MinusTwo => run_cross(analysis, true, start, buffer),
         Term::MinusThree => run_swap(analysis, start, buffer),
         Term::Invalid => run_lag(analysis, 0, start, buffer),
-    }
-}
-
-// One pass over a buffer. The direction is a constant in each call, so that the compiler makes a loop for each: a test of it
-// inside cost the loop for -3 a tenth to a quarter of its time.
-pub fn run_pass(analysis: bool, start: DecorrPass, buffer: &mut [i32]) -> DecorrPass
-    ensures { λ r. ⌜ record { pass = r; buffer = now (buffer .exit) } ≡ passed analysis start (now (buffer .entry)) ⌝ }
-{
-    if analysis {
-        run_term(true, start, buffer)
-    } else {
-        run_term(false, start, buffer)
     }
 }
