@@ -19,7 +19,7 @@ use Rattle.packing.specs.Packing.{spanned}
 use Rattle.packing.specs.Entry.{PackTold, packedFrom, toldPacked, packEntry, packedBytes}
 use Rattle.packing.proofs.EntryLaws.{accepts}
 use Rattle.packing.proofs.TripLaws.{read-what-was-packed}
-use Rattle.roundtrip.specs.Demand.{Recording, WellMade, Demand3}
+use Rattle.roundtrip.specs.Demand.{Recording, WellMade, Demand3, Writable, writtenBytes, NoTwoAlike}
 
 -- what decorrelation and analysis leave of well-made passes
 abbrev run : Chain → Answer
@@ -109,3 +109,17 @@ pub demand-3 : (frames : ℕ) (passes : List DecorrPass) (recording : List ℤ) 
     → Demand3 frames passes recording (analysis passes recording .buffer)
 demand-3 frames passes recording few w x =
     subst (Demand3 frames passes recording) (sym (ap (λ (a : Answer). a .buffer) (analysed-is frames passes recording few w x))) (demand frames passes recording few w x)
+
+-- reading and decorrelating what the writer made of a recording returns it
+written-back : (frames : ℕ) (passes : List DecorrPass) (entropy buffer behind : List ℕ) (recording list : List ℤ) → frames ≤ 131072 → WellMade passes → acceptsEntropy entropy
+    → Writable frames passes entropy buffer recording → length (writtenBytes frames passes entropy buffer recording ++ behind) ≤ 4194304 → length list ≡ 2 * frames
+    → decorrelation passes (readEntry entropy (writtenBytes frames passes entropy buffer recording ++ behind) frames list .list) .buffer ≡ recording
+written-back frames passes entropy buffer behind recording list few w a x n l =
+    demand-3 frames passes recording few w (x .is-recording) .returns entropy buffer behind list (x .in-span) a (x .room) n l .recording-back
+
+-- No two recordings look alike: one payload is read as one recording.
+pub no-two-alike : NoTwoAlike
+no-two-alike frames passes entropy few w a one other buffer buffer′ behind behind′ x y n e =
+    sym (written-back frames passes entropy buffer behind one one few w a x n (x .is-recording .two-per-frame))
+    ∙ ap (λ (payload : List ℕ). decorrelation passes (readEntry entropy payload frames one .list) .buffer) e
+    ∙ written-back frames passes entropy buffer′ behind′ other one few w a y (subst (λ (payload : List ℕ). length payload ≤ 4194304) e n) (x .is-recording .two-per-frame)

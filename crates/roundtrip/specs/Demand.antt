@@ -62,3 +62,22 @@ pub record Demand3 (frames : ℕ) (passes : List DecorrPass) (recording residual
   pub returns : (entropy buffer behind : List ℕ) (list : List ℤ) → spanned residuals ≡ true → acceptsEntropy entropy → 28 * frames ≤ length buffer
       → let p = packEntry residuals entropy frames buffer in length (packedBytes p ++ behind) ≤ 4194304 → length list ≡ 2 * frames
       → let read = readEntry entropy (packedBytes p ++ behind) frames list in Returned frames passes recording p read (decorrelation passes (read .list))
+
+-- the bytes that the writer makes of a recording: the residuals that analysis finds, packed into a buffer
+abbrev pub writtenBytes : ℕ → List DecorrPass → List ℕ → List ℕ → List ℤ → List ℕ
+writtenBytes frames passes entropy buffer recording = packedBytes (packEntry (analysis passes recording .buffer) entropy frames buffer)
+
+-- what is asked of a recording, of its passes and of the lent buffer for the writer to pack it
+pub record Writable (frames : ℕ) (passes : List DecorrPass) (entropy buffer : List ℕ) (recording : List ℤ) : Type 0 where
+  pub is-recording : Recording frames recording
+  pub in-span : spanned (analysis passes recording .buffer) ≡ true
+  pub room : 28 * frames ≤ length buffer
+
+-- Could two different recordings look alike? Two that are written from the same start, and whose bytes are alike, whatever follows each within the
+-- payload limit, are the same recording
+abbrev pub NoTwoAlike : Type 0
+NoTwoAlike =
+    (frames : ℕ) (passes : List DecorrPass) (entropy : List ℕ) → frames ≤ 131072 → WellMade passes → acceptsEntropy entropy
+    → (one other : List ℤ) (buffer buffer′ behind behind′ : List ℕ) → Writable frames passes entropy buffer one → Writable frames passes entropy buffer′ other
+    → length (writtenBytes frames passes entropy buffer one ++ behind) ≤ 4194304
+    → writtenBytes frames passes entropy buffer one ++ behind ≡ writtenBytes frames passes entropy buffer′ other ++ behind′ → one ≡ other
