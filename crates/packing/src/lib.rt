@@ -1,12 +1,12 @@
 // Implements document 01, "Packing": the residuals of a stereo recording as the words that reading reads. From the bottom: a word's bits gathered in one
-// number and laid byte by byte (`laying`), the fields as numbers or laid (`written`), where a residual lies among the intervals (`locating`), stretches of zeros and the span (`zeros`), one word with
-// what goes before it (`word`), all words and the entry (`packing`).
-pub mod laying;
-pub mod locating;
+// number and laid byte by byte (`laying`), the fields as numbers or laid (`written`), where a residual lies among the intervals (`locating`), stretches
+// of zeros and the span (`zeros`), one word with what goes before it (`word`), all words and the entry (`packing`).
+mod laying;
+mod locating;
 pub mod packing;
-pub mod word;
-pub mod written;
-pub mod zeros;
+mod word;
+mod written;
+mod zeros;
 
 use answers::Outcome;
 use entropy::AdaptiveMedians;

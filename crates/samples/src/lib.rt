@@ -6,7 +6,7 @@ ghost use Rattle.samples.specs.View.{reportOfZone};
 use answers::Outcome;
 use entropy::AdaptiveMedians;
 
-pub mod coded;
+mod coded;
 pub mod one_word;
 pub mod reading;
 
