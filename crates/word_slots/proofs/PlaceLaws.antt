@@ -3,7 +3,7 @@
 -- Assumes nothing.
 use mathlib.Core.Path.{_≡_, refl, sym, ap, _∙_}
 use mathlib.Core.Bool.{Bool, true, false, cond, _||_}
-use mathlib.Core.List.{List, []}
+use mathlib.Core.List.{List}
 use Prim.Native.Nat.{ℕ, zero, suc, _+_, _-_, _*_, _≤_}
 use native.Mathlib.Omega.{arith}
 use borrow.Author.Tests.{ltb-false, leb-true, leb-false}
@@ -23,10 +23,11 @@ use Rattle.medians.specs.Interval.{lowOf, highOf}
 use Rattle.entropy.specs.Seed.{seedMedians}
 use Rattle.samples.specs.State.{State, start, due, cleared, unbroken, after, runDue}
 use Rattle.samples.specs.Word.{Word, Report, given, refused, onField, signed, zoneOf, value, plain, fresh, word}
-use Rattle.samples.specs.Reading.{more, onWord, reading}
+use Rattle.samples.specs.Reading.{reading}
 use Rattle.samples.specs.View.{ReadTold, readToldOf, WordTold, wordToldOf, toldWord, oneWord, toldReading, readRefusal, unlessRefused, readEntry}
 use Rattle.samples.specs.declared.ReadAnswer.{ReadAnswer}
 use Rattle.samples.specs.declared.WordAnswer.{WordAnswer}
+use Rattle.samples.proofs.WordBounds.{small-reading}
 use Rattle.samples.proofs.WordLaws.{word-paid, word-fresh}
 use Rattle.samples.proofs.LocalLaws.{word-inside, reading-inside}
 
@@ -111,17 +112,6 @@ word-fits payload p s h = go (ltb 4194304 (length payload)) (ltb 1 (s .channel))
 pub place-fits : (payload : List ℕ) (p : ℕ) (s : State) (x : WordAnswer) → wordToldOf x ≡ oneWord payload p s → p ≤ 4294967295 → x .place ≤ 4294967295
 place-fits payload p s x t h = rw (ap (λ (w : WordTold). w .place) t) (word-fits payload p s h)
 
--- a reading gives no more samples than words
-samples-few : (a : List Bool) (n p : ℕ) (s : State) → length (reading a n p s .samples) ≤ n
-unfolding reading
-samples-few a zero p s = omega arith
-samples-few a (suc n) p s = go (word a p s) (samples-few a n)
-  where
-    go : (w : Word) → ((q : ℕ) (t : State) → length (reading a n q t .samples) ≤ n)
-        → length (onWord w (λ v q t. more v (reading a n q t)) (λ c. record { refusal = c; samples = []; place = p; state = s }) .samples) ≤ suc n
-    go (given v q t z) few = omega (arith, few q t)
-    go (refused c) few = omega arith
-
 -- what a reading counts is small
 pub record Small (t : ReadTold) : Type 0 where
   pub bits-small : t .bits ≤ 33554432
@@ -149,7 +139,7 @@ module _ (entropy payload : List ℕ) (frames : ℕ) (list : List ℤ) where
       go zero e =
           let l = limits e in record {
             bits-small = omega (arith, length-bits payload, l .1, reading-inside (bitsOf payload) (2 * frames) 0 first (omega arith));
-            written-small = omega (arith, l .0, samples-few (bitsOf payload) (2 * frames) 0 first);
+            written-small = omega (arith, l .0, small-reading (bitsOf payload) (2 * frames) 0 first .most);
           }
       go (suc c) e = record { bits-small = omega arith; written-small = omega arith }
 
