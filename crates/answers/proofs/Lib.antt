@@ -1,2 +1,3 @@
 -- What other crates cite.
 pub mod NumberLaws
+pub mod GuardLaws

@@ -3,6 +3,8 @@
 ghost use mathlib.Core.Path.{_≡_};
 ghost use Rattle.answers.specs.Numbers.{numberOf, outcomeNumber};
 
+pub mod limits;
+
 // A reason to refuse. The order is that of the numbers 1 to 12.
 pub enum Refusal {
     // The entropy payload is neither 6 nor 12 bytes long.
