@@ -6,6 +6,7 @@ use mathlib.Core.List.{List, [], _∷_}
 use Prim.Native.Nat.{ℕ, _+_, _*_}
 use lib.Dec.{ltb, leb}
 use lib.ListN.{length}
+use Rattle.answers.specs.Limits.{maxPayloadBytes}
 use Rattle.bits.specs.Bits.{low, bitsOf}
 use Rattle.bits.specs.Fields.{getBits, unary}
 use Rattle.bits.specs.Laid.{put}
@@ -37,13 +38,13 @@ unless false answer = answer
 
 -- one bit, a field and a count of ones of a payload
 unfoldable pub bitRead : List ℕ → ℕ → List ℕ
-bitRead s p = unless (ltb 4194304 (length s)) (fieldTold (getBits (bitsOf s) p 1))
+bitRead s p = unless (ltb maxPayloadBytes (length s)) (fieldTold (getBits (bitsOf s) p 1))
 
 unfoldable pub bitsRead : List ℕ → ℕ → ℕ → List ℕ
-bitsRead s p count = unless (ltb 4194304 (length s)) (unless (ltb 32 count) (fieldTold (getBits (bitsOf s) p count)))
+bitsRead s p count = unless (ltb maxPayloadBytes (length s)) (unless (ltb 32 count) (fieldTold (getBits (bitsOf s) p count)))
 
 unfoldable pub unaryRead : List ℕ → ℕ → List ℕ
-unaryRead s p = unless (ltb 4194304 (length s)) (fieldTold (unary (bitsOf s) p))
+unaryRead s p = unless (ltb maxPayloadBytes (length s)) (fieldTold (unary (bitsOf s) p))
 
 -- what laying a field leaves: what is told, and the buffer
 pub record Written : Type 0 where
@@ -62,6 +63,6 @@ kept number buf = record { answer = number ∷ []; buffer = buf }
 -- the count low bits of v, laid into the buffer from p on
 unfoldable pub written : List ℕ → ℕ → ℕ → ℕ → Written
 written buf p v count =
-    either (ltb 4194304 (length buf)) (kept 5 buf) (
+    either (ltb maxPayloadBytes (length buf)) (kept 5 buf) (
     either (ltb 32 count) (kept 5 buf) (
     either (leb (p + count) (8 * length buf)) (record { answer = 0 ∷ (p + count) ∷ []; buffer = put buf p (low count v) }) (kept 11 buf)))

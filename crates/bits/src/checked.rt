@@ -9,12 +9,13 @@ use crate::read::get_bit;
 use crate::read::get_bits;
 use crate::read::get_unary;
 use crate::write::lay_bits;
+use answers::limits::MAX_PAYLOAD_BYTES;
 
 // The bit at `at`; 3 past the end, 5 for a payload over the limit.
 pub fn checked_get_bit(s: &[u8], at: usize) -> BitAnswer
     ensures { λ r. ⌜ told r ≡ bitRead (now (s .entry)) at ⌝ }
 {
-    if s.len() > 4194304 {
+    if s.len() > MAX_PAYLOAD_BYTES {
         return BitAnswer::TooLarge;
     }
     let Field::Value(v, next) = get_bit(s, at) else {
@@ -27,7 +28,7 @@ pub fn checked_get_bit(s: &[u8], at: usize) -> BitAnswer
 pub fn checked_get_bits(s: &[u8], at: usize, count: u32) -> BitAnswer
     ensures { λ r. ⌜ told r ≡ bitsRead (now (s .entry)) at count ⌝ }
 {
-    if s.len() > 4194304 {
+    if s.len() > MAX_PAYLOAD_BYTES {
         return BitAnswer::TooLarge;
     }
     if count > 32 {
@@ -43,7 +44,7 @@ pub fn checked_get_bits(s: &[u8], at: usize, count: u32) -> BitAnswer
 pub fn checked_get_unary(s: &[u8], at: usize) -> BitAnswer
     ensures { λ r. ⌜ told r ≡ unaryRead (now (s .entry)) at ⌝ }
 {
-    if s.len() > 4194304 {
+    if s.len() > MAX_PAYLOAD_BYTES {
         return BitAnswer::TooLarge;
     }
     let Field::Value(v, next) = get_unary(s, at) else {
@@ -58,7 +59,7 @@ pub fn checked_put_bits(out: &mut [u8], at: usize, v: u32, count: u32) -> PutAns
     ensures answer { λ r. ⌜ putTold r ≡ written (now (out .entry)) at v count .answer ⌝ }
     ensures buffer { λ _. ⌜ now (out .exit) ≡ written (now (out .entry)) at v count .buffer ⌝ }
 {
-    if out.len() > 4194304 {
+    if out.len() > MAX_PAYLOAD_BYTES {
         return PutAnswer::TooLarge;
     }
     if count > 32 {

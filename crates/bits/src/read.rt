@@ -4,6 +4,7 @@
 ghost use mathlib.Core.Path.{_≡_};
 ghost use Prim.Native.Nat.{_≤_};
 ghost use lib.ListN.{length};
+ghost use Rattle.answers.specs.Limits.{maxPayloadBytes};
 ghost use Rattle.bits.specs.Bits.{bitsOf};
 ghost use Rattle.bits.specs.Fields.{getBits, unary};
 use crate::Field;
@@ -12,7 +13,7 @@ use crate::load::window;
 
 // The bit at `at`, as a field of one bit.
 pub fn get_bit(s: &[u8], at: usize) -> Field
-    requires limit { ⌜ length (now s) ≤ 4194304 ⌝ }
+    requires limit { ⌜ length (now s) ≤ maxPayloadBytes ⌝ }
     ensures { λ r. ⌜ r ≡ getBits (bitsOf (now (s .entry))) at 1 ⌝ }
 {
     if at / 8 >= s.len() {
@@ -23,7 +24,7 @@ pub fn get_bit(s: &[u8], at: usize) -> Field
 
 // The number of `count` bits at `at`, low bit first. No bits are found at every place.
 pub fn get_bits(s: &[u8], at: usize, count: u32) -> Field
-    requires limit { ⌜ length (now s) ≤ 4194304 ⌝ }
+    requires limit { ⌜ length (now s) ≤ maxPayloadBytes ⌝ }
     requires width { ⌜ count ≤ 32 ⌝ }
     ensures { λ r. ⌜ r ≡ getBits (bitsOf (now (s .entry))) at count ⌝ }
 {
@@ -44,7 +45,7 @@ pub fn get_bits(s: &[u8], at: usize, count: u32) -> Field
 
 // How many ones stand at `at` up to a zero, which is read too.
 pub fn get_unary(s: &[u8], at: usize) -> Field
-    requires limit { ⌜ length (now s) ≤ 4194304 ⌝ }
+    requires limit { ⌜ length (now s) ≤ maxPayloadBytes ⌝ }
     ensures { λ r. ⌜ r ≡ unary (bitsOf (now (s .entry))) at ⌝ }
 {
     let mut p = at;
