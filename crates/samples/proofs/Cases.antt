@@ -19,7 +19,7 @@ use Rattle.logpack.specs.Exp2Table.{exp2Table}
 use Rattle.logpack.specs.LogWord.{mantissa, magnitude, logWord}
 use Rattle.medians.specs.Interval.{lowOf, highOf}
 use Rattle.medians.specs.Adaptation.{up, down, adapt}
-use Rattle.samples.specs.State.{paid, inRun, unbroken, cleared, flagged, after, runDue}
+use Rattle.word_state.specs.State.{paid, inRun, unbroken, cleared, flagged, after, runDue}
 use Rattle.samples.specs.Word.{value, plain, fresh, word}
 use Rattle.samples.specs.Reading.{reading}
 use Rattle.samples.specs.View.{ReadTold, readRefusal, readEntry}

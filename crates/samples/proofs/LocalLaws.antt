@@ -17,8 +17,8 @@ use Rattle.fields.specs.Counts.{runLength, prefix}
 use Rattle.fields.specs.declared.Prefix.{Prefix}
 use Rattle.fields.proofs.LocalLaws.{Ended, at, never, fieldEnd, prefixEnd, Local, local-still, Split, part, stop, local-then, bits-local, run-local, prefix-local, truncated-binary-local}
 use Rattle.medians.specs.Interval.{lowOf, highOf}
-use Rattle.samples.specs.State.{State, due, paid, inRun, unbroken, cleared, flagged, after, runDue}
-use Rattle.samples.specs.Word.{Report, none, zoneOf, Word, given, refused, onField, onPrefix, onZeros, signed, value, plain, fresh, word}
+use Rattle.word_state.specs.State.{State, due, paid, inRun, unbroken, cleared, flagged, after, runDue, onZeros}
+use Rattle.samples.specs.Word.{Report, none, zoneOf, Word, given, refused, onField, onPrefix, signed, value, plain, fresh, word}
 use Rattle.samples.specs.Reading.{Reading, onWord, more, reading}
 use Rattle.samples.proofs.RefusalLaws.{word-refused}
 
@@ -81,8 +81,8 @@ plain-local p s =
 fresh-local : (p : ℕ) (s : State) → Local wordEnd p (λ a. fresh a p s)
 unfolding fresh
 fresh-local p s =
-    local-cond (s .runBreak) p (λ a. plain a p (unbroken s)) (λ a. cond (runDue s) (onField (runLength a p) (next a)) (plain a p s)) (plain-local p (unbroken s))
-    (local-cond (runDue s) p (λ a. onField (runLength a p) (next a)) (λ a. plain a p s)
+    local-cond (s .runBreak) p (λ a. plain a p (unbroken s)) (λ a. cond (runDue (s .left) (s .right) (s .lastZero) (s .lastOne)) (onField (runLength a p) (next a)) (plain a p s)) (plain-local p (unbroken s))
+    (local-cond (runDue (s .left) (s .right) (s .lastZero) (s .lastOne)) p (λ a. onField (runLength a p) (next a)) (λ a. plain a p s)
     (local-then fieldEnd wordEnd onField field-word p (λ a. runLength a p) next (run-local p)
     (λ n q. local-zeros n q (λ d. given (pos 0) q (inRun d s) none) (λ a. plain a q s) (λ d. given-here q (pos 0) (inRun d s) none) (plain-local q s)))
     (plain-local p s))

@@ -10,29 +10,16 @@ use Rattle.answers.specs.Numbers.{outcomeNumber}
 use Rattle.bits.specs.Bits.{bitsOf}
 use Rattle.entropy.specs.Medians.{MedianPair, pairOf, zeroPair}
 use Rattle.entropy.specs.Seed.{seedRefusal, seedMedians}
-use Rattle.samples.specs.State.{State, start}
+use Rattle.word_state.specs.State.{State, start}
+use Rattle.word_state.specs.View.{stateOf}
 use Rattle.samples.specs.Word.{Report, none, zone0, zone1, zone2, over, Word, given, refused, word}
 use Rattle.samples.specs.Reading.{Reading, reading}
-use Rattle.samples.specs.declared.StereoDecodeState.{StereoDecodeState}
 use Rattle.samples.specs.declared.Zone.{Zone}
 use Rattle.samples.specs.declared.MaybeZone.{MaybeZone}
 use Rattle.samples.specs.declared.WordAnswer.{WordAnswer}
 use Rattle.samples.specs.declared.ReadAnswer.{ReadAnswer}
 
 -- ---- one word
-
--- the state that the struct holds
-abbrev pub stateOf : StereoDecodeState → State
-stateOf s = record {
-  left = pairOf (s .medians) .left;
-  right = pairOf (s .medians) .right;
-  lastZero = s .«last_zero»;
-  lastOne = s .«last_one»;
-  debt = s .«zero_run_pending»;
-  runBreak = s .«run_break»;
-  everRun = s .«ever_took_zero_run»;
-  channel = s .«next_channel»;
-}
 
 -- the report that an enum of zones is
 abbrev pub reportOfZone : Zone → Report

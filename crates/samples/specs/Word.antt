@@ -11,7 +11,7 @@ use Rattle.fields.specs.Counts.{runLength, prefix}
 use Rattle.fields.specs.Code.{truncatedBinary}
 use Rattle.fields.specs.declared.Prefix.{Prefix}
 use Rattle.medians.specs.Interval.{lowOf, highOf}
-use Rattle.samples.specs.State.{State, due, paid, inRun, unbroken, cleared, flagged, after, runDue}
+use Rattle.word_state.specs.State.{State, due, paid, inRun, unbroken, cleared, flagged, after, runDue, onZeros}
 
 -- document 01 (Z1): "A word's report holds its zone, the overflow zone with its count; a zero out of a run and a refused word report none"
 pub data Report : Type 0 where
@@ -44,11 +44,6 @@ onPrefix (Prefix.Value v q) next = next v q
 onPrefix Prefix.EndOfStream next = refused 4
 onPrefix Prefix.Truncated next = refused 3
 
--- by a number of zeros: at d + 1 the first, at 0 the second
-abbrev pub onZeros : {A : Type 0} → ℕ → (ℕ → A) → A → A
-onZeros zero f a = a
-onZeros (suc d) f a = f d
-
 -- document 01 (I6): "Sign bit 0 gives v = low + code, 1 gives -v - 1"
 abbrev pub signed : ℕ → ℕ → ℤ
 signed zero v = pos v
@@ -73,7 +68,7 @@ unfoldable pub fresh : List Bool → ℕ → State → Word
 fresh bits p s =
     cond (s .runBreak)
     (plain bits p (unbroken s))
-    (cond (runDue s)
+    (cond (runDue (s .left) (s .right) (s .lastZero) (s .lastOne))
     (onField (runLength bits p) λ n q. onZeros n (λ d. given (pos 0) q (inRun d s) none) (plain bits q s))
     (plain bits p s))
 

@@ -6,7 +6,7 @@ ghost use lib.ListN.{length};
 ghost use Rattle.bits.specs.Bits.{bitsOf, val, bitOf};
 ghost use Rattle.entropy.specs.Medians.{mediansOf};
 ghost use Rattle.samples.specs.Word.{signed};
-ghost use Rattle.samples.specs.Parts.{ValueIs, notCounted, CountIs, notCoded, PlainIs, eligible, RunIs, CodedIs};
+ghost use Rattle.samples.specs.Parts.{ValueIs, notCounted, CountIs, notCoded, PlainIs, ZeroRunIs, CodedIs};
 use bits::Field;
 use bits::read::get_bit;
 use entropy::AdaptiveMedians;
@@ -121,37 +121,10 @@ fn read_folded_ones_count(
     OnesCount::Count(raw / 2 + one_if(last_one), next, !odd, odd)
 }
 
-// Whether step 2 reads a run length, from the medians of both channels and what the words before left.
-pub(crate) fn zero_run_eligible(
-    left_set: AdaptiveMedians,
-    right_set: AdaptiveMedians,
-    run_break: bool,
-    last_zero: bool,
-    last_one: bool,
-) -> bool
-    ensures { λ r. ⌜ r ≡ eligible (mediansOf «left_set» .m0) (mediansOf «right_set» .m0) «run_break» «last_zero» «last_one» ⌝ }
-{
-    let left = left_set.values;
-    let right = right_set.values;
-    if left[0] > 1 {
-        return false;
-    }
-    if right[0] > 1 {
-        return false;
-    }
-    if run_break {
-        return false;
-    }
-    if last_zero {
-        return false;
-    }
-    !last_one
-}
-
 // Step 2, where `eligible` tells whether a run length is read.
 fn try_zero_run_path_stereo(payload: &[u8], place: usize, eligible: bool) -> ZeroRun
     requires { ⌜ length (now payload) ≤ 4194304 ⌝ }
-    ensures { λ r. ⌜ RunIs (bitsOf (now (payload .entry))) place eligible r ⌝ }
+    ensures { λ r. ⌜ ZeroRunIs (bitsOf (now (payload .entry))) place eligible r ⌝ }
 {
     if !eligible {
         return ZeroRun::Word(place);

@@ -5,21 +5,11 @@ ghost use Rattle.samples.specs.Word.{zoneOf};
 ghost use Rattle.samples.specs.View.{reportOfZone};
 use answers::Outcome;
 use entropy::AdaptiveMedians;
+use word_state::StereoDecodeState;
 
 mod coded;
 pub mod one_word;
 pub mod reading;
-
-// The state of the words: the medians of both channels, indexed by channel, and what one word leaves to the next.
-pub struct StereoDecodeState {
-    pub medians: [AdaptiveMedians; 2],
-    pub last_zero: bool,
-    pub last_one: bool,
-    pub zero_run_pending: u32,
-    pub run_break: bool,
-    pub ever_took_zero_run: bool,
-    pub next_channel: u32,
-}
 
 // The zone of a count: 0, 1, 2, or above, which carries the count.
 pub enum Zone {

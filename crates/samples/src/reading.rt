@@ -6,19 +6,19 @@ ghost use Prim.Native.Nat.{_≤_, _<_};
 ghost use lib.ListN.{length};
 ghost use Rattle.bits.specs.Bits.{bitsOf};
 ghost use Rattle.entropy.specs.Medians.{pairOf, zeroPair};
-ghost use Rattle.samples.specs.State.{start};
+ghost use Rattle.word_state.specs.State.{start};
 ghost use Rattle.samples.specs.Reading.{reading};
 ghost use Rattle.samples.specs.Parts.{ZerosIs};
 ghost use Rattle.samples.specs.View.{readToldOf, toldReading, readEntry};
 use crate::ReadAnswer;
 use crate::coded::Coded;
 use crate::coded::read_word;
-use crate::coded::zero_run_eligible;
 use answers::Outcome;
 use answers::Refusal;
 use entropy::AdaptiveMedians;
 use entropy::stereo_pair_from_entropy;
 use medians::adaptation::adapt;
+use word_state::zero_run_eligible;
 
 // The answer of a reading that accepted every word.
 fn accepted(bits: usize, medians: [AdaptiveMedians; 2], written: usize) -> ReadAnswer
