@@ -1,4 +1,5 @@
--- Laws of values laid into a list. Those that carry the rest: `overlay-first`, `overlay-on` and `overlay-copied`.
+-- Laws of values laid into a list. Those that carry the rest: `overlay-first`, `overlay-on` and
+-- `overlay-copied`.
 -- Assumes nothing.
 use mathlib.Core.Path.{_≡_, refl, sym, ap, _∙_}
 use mathlib.Core.List.{List, [], _∷_, _++_, append-assoc, append-nil}
