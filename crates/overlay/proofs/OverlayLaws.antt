@@ -53,6 +53,11 @@ module _ {A : Type 0} where
       let all : at + length (v ++ w) ≡ n + length w = rw (length-append v w) (omega arith) in
       rw (all, e, take-at done (drop n list) n long, rest, append-assoc (take at list) v w)
 
+  -- so are those that two calls laid
+  pub overlay-two : (list first after : List A) (at n : ℕ) (v w : List A) → at ≤ length list → at + length v ≡ n
+      → first ≡ overlay list at v → after ≡ overlay first n w → after ≡ overlay list at (v ++ w)
+  overlay-two list first after at n v w h l e f = f ∙ rw e (overlay-on list at n v w h l)
+
   -- laid over twice from the start, the second time at least as far
   pub overlay-again : (list v w : List A) → length v ≤ length w → overlay (overlay list 0 v) 0 w ≡ overlay list 0 w
   overlay-again list v w h =
