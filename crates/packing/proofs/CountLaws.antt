@@ -11,13 +11,8 @@ use lib.Dec.{ltb, leb}
 use Rattle.entropy.specs.Medians.{Medians}
 use Rattle.medians.specs.Interval.{g, base, width, lowOf, highOf}
 use Rattle.medians.specs.Adaptation.{up, down, adapt}
-use Rattle.samples.proofs.PartLaws.{clash}
+use Rattle.word_state.proofs.FlagLaws.{both}
 use Rattle.packing.specs.Counts.{Small, contains, least, count}
-
--- both parts of a true conjunction are true
-pub both : (a b : Bool) → (a && b) ≡ true → (a ≡ true) × (b ≡ true)
-both true b e = (refl, e)
-both false b e = clash e refl
 
 -- a test that is not true is false
 pub untrue : (b : Bool) → (b ≡ true → ⊥) → b ≡ false

@@ -14,17 +14,16 @@ use Rattle.bits.specs.Laid.{put}
 use Rattle.bits.proofs.LaidLaws.{Bytes, put-put, put-nil}
 use Rattle.entropy.specs.declared.AdaptiveMedians.{AdaptiveMedians}
 use Rattle.entropy.specs.Medians.{Medians, MedianPair, mediansOf, pairOf, zeroSet}
-use Rattle.samples.specs.State.{State, start, side, flip, paid, inRun}
-use Rattle.samples.proofs.HeldLaws.{noSet, there, turned, picked}
-use Rattle.samples.proofs.PartLaws.{clash}
+use Rattle.word_state.specs.State.{State, start, side, flip, paid, inRun}
+use Rattle.word_state.proofs.StateLaws.{noSet, there, turned, picked}
+use Rattle.word_state.proofs.FlagLaws.{clash}
 use Rattle.packing.specs.Counts.{Small}
 use Rattle.packing.specs.Packing.{zeros, spanned, Out, behind, silent, wordOut, packed}
-use Rattle.packing.specs.View.{Seen, Next, RunIs, PackedIs}
-use Rattle.packing.specs.declared.packing.Packed.{Packed}
+use Rattle.packing.specs.View.{Seen, Next, RunTakes, PackedIs}
+use Rattle.packing.specs.declared.writing.Packed.{Packed}
 use Rattle.packing.proofs.LongLaws.{word-long}
-use Rattle.packing.proofs.ReadingLaws.{spanned-parts, start-inv}
-use Rattle.packing.proofs.SizeLaws.{kept}
-use Rattle.packing.proofs.StepLaws.{Inv, due-small, other-small, zeros-le, zeros-head, none-small}
+use Rattle.packing.proofs.InStepLaws.{Inv, start-inv, due-small, other-small, zeros-le, zeros-head, none-small, kept}
+use Rattle.packing.proofs.SpanLaws.{spanned-at}
 
 -- ---- the definition, word by word
 
@@ -142,12 +141,6 @@ replaced (a ∷ b ∷ l) x zero e h = record { at-left = refl; at-right = refl }
 replaced (a ∷ b ∷ l) x (suc zero) e h = record { at-left = refl; at-right = refl }
 replaced (a ∷ b ∷ l) x (suc (suc c)) e h = absurd (omega arith)
 
--- a residual of a list in the span is in the span
-pub spanned-at : (vs : List ℤ) (i : ℕ) → spanned vs ≡ true → i < length vs → mag (getD vs i (pos 0)) < 1879048192
-spanned-at [] i h l = absurd (omega arith)
-spanned-at (v ∷ vs) zero h l = spanned-parts v vs h .0
-spanned-at (v ∷ vs) (suc i) h l = spanned-at vs i (spanned-parts v vs h .1) (omega arith)
-
 -- nothing is written yet
 pub loop-start : (before : List ℕ) (vs : List ℤ) (sets : List AdaptiveMedians) → Bytes before → length sets ≡ 2 → Small (pairOf sets .left) → Small (pairOf sets .right)
     → Loop before vs (start (pairOf sets .left) (pairOf sets .right)) before sets 0 false false false 0
@@ -228,7 +221,7 @@ module _ (before : List ℕ) (vs : List ℤ) (s₀ : State) (out : List ℕ) (se
   word-room s n h = word-long (l .state) head tail (due-small (in-step h)) (spanned-at vs i s h) (few n h)
 
   -- a run ends within the residuals
-  pub run-room : (run : ℕ) (z o : Bool) → i < length vs → RunIs (l .state) (wordOut (l .state) head tail .next) (head ∷ tail) run z o → i + run ≤ length vs
+  pub run-room : (run : ℕ) (z o : Bool) → i < length vs → RunTakes (l .state) (wordOut (l .state) head tail .next) (head ∷ tail) run z o → i + run ≤ length vs
   run-room run z o h t = omega (arith, t .length-is, zeros-le (head ∷ tail), length-drop (suc i) vs)
 
   -- a turn that writes a word
@@ -257,12 +250,12 @@ module _ (before : List ℕ) (vs : List ℤ) (s₀ : State) (out : List ℕ) (se
         zero-is = t .zero-is;
         one-is = t .one-is;
         break-is = t .break-is;
-        inv = rw j (kept (l .state) head tail (in-step h) (spanned-at vs i s h) (few n h));
+        inv = rw j (kept (l .state) head tail (in-step h));
       }
 
   -- a turn that writes a run
   pub loop-run : (after : List ℕ) (q run : ℕ) (z o : Bool) → spanned vs ≡ true → length vs ≤ 262144 → i < length vs → 0 < run
-      → RunIs (l .state) (wordOut (l .state) head tail .next) (head ∷ tail) run z o → after ≡ put out place (wordOut (l .state) head tail .bits)
+      → RunTakes (l .state) (wordOut (l .state) head tail .next) (head ∷ tail) run z o → after ≡ put out place (wordOut (l .state) head tail .bits)
       → q ≡ place + length (wordOut (l .state) head tail .bits) → length after ≡ length out → Bytes after
       → Loop before vs s₀ after (zeroSet ∷ zeroSet ∷ []) q z o true (i + run)
   unfolding inRun

@@ -8,7 +8,7 @@ use lib.ListN.{length-drop, drop}
 use Rattle.bits.proofs.LaidLaws.{put-nil}
 use Rattle.packing.proofs.LongLaws.{run-long}
 use Rattle.packing.proofs.TurnLaws.{before-run}
-use Rattle.packing.proofs.StepLaws.{zeros-le}
+use Rattle.packing.proofs.InStepLaws.{zeros-le}
 use borrow.Author.Needs.{needs}
 use Rattle.packing.proofs.word.put_before.Statement.{statement}
 use Rattle.packing.proofs.word.put_before.Tie as tie
@@ -39,7 +39,7 @@ returns c =
     rw (x .before .if1 .taken) (before-run (now (a .out)) _ (a .at) (drop (a .i) (now (a .residuals))) (x .zeros-from .result) _ (x .zeros-from .ensures) (c .before .before .put-run .ensures))
 
 returns-2 : tie.Need-returns-2
-returns-2 c = rw (c .if1 .left) (record { laid = record { bytes = sym (put-nil _ _); place = omega arith }; run-is = refl })
+returns-2 c = rw (c .if1 .left) (record { put-is = record { bytes = sym (put-nil _ _); place = omega arith }; run-is = refl })
 
 pub put-before-spec : {M : Type 1} → statement M
 put-before-spec =

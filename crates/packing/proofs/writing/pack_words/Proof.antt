@@ -1,4 +1,4 @@
--- `packing::packing::pack_words` meets its contract: what is written and what is left, from the state that the locals hold, is the whole.
+-- `packing::writing::pack_words` meets its contract: what is written and what is left, from the state that the locals hold, is the whole.
 -- Assumes nothing.
 use mathlib.Core.Path.{_≡_, refl}
 use Prim.Native.Nat.{ℕ, suc, _+_, _-_, _*_, _/_, _%_, _≤_, _<_}
@@ -11,15 +11,16 @@ use denote.Ref.{now}
 use lib.IntN.{ℤ, pos}
 use lib.ListN.{length, take, drop, getD, length-drop, length-take, length-map}
 use Rattle.entropy.specs.Medians.{pairOf}
-use Rattle.samples.specs.State.{State, start}
+use Rattle.word_state.specs.State.{State, start}
 use Rattle.bits.specs.Laid.{put}
 use Rattle.bits.proofs.WriteLaws.{put-lent}
 use Rattle.packing.specs.Packing.{wordOut}
 use Rattle.packing.specs.View.{Turned}
 use Rattle.packing.specs.declared.word.Turn.{Turn}
-use Rattle.packing.proofs.LoopLaws.{Loop, loop-start, loop-due-small, loop-other-small, spanned-at, loop-seen, word-room, run-room, loop-word, loop-run, loop-end}
-use Rattle.packing.proofs.packing.pack_words.Statement.{statement}
-use Rattle.packing.proofs.packing.pack_words.Tie as tie
+use Rattle.packing.proofs.LoopLaws.{Loop, loop-start, loop-due-small, loop-other-small, loop-seen, word-room, run-room, loop-word, loop-run, loop-end}
+use Rattle.packing.proofs.SpanLaws.{spanned-at}
+use Rattle.packing.proofs.writing.pack_words.Statement.{statement}
+use Rattle.packing.proofs.writing.pack_words.Tie as tie
 
 abbrev Inv-loop : tie.InvT-loop
 Inv-loop residuals out₀ medians₀ bits₀ last-zero₀ last-one₀ run-break₀ i₀ out medians bits last-zero last-one run-break i =
@@ -98,8 +99,8 @@ lent c =
     record {
       turned = t;
       bytes = put-lent (l .out) (c .put-turn .last .0) (l .bits) (l .bits % 8)
-          (wordOut (l .inv .state) (getD (x .args .residuals .now) (l .i) (pos 0)) (drop (suc (l .i)) (x .args .residuals .now)) .bits) (l .inv .low-bytes) (omega arith) refl (t .laid .bytes) (c .put-turn .kept .0);
-      place-is = omega (arith, t .laid .place);
+          (wordOut (l .inv .state) (getD (x .args .residuals .now) (l .i) (pos 0)) (drop (suc (l .i)) (x .args .residuals .now)) .bits) (l .inv .low-bytes) (omega arith) refl (t .put-is .bytes) (c .put-turn .kept .0);
+      place-is = omega (arith, t .put-is .place);
       few = word-room _ _ _ _ _ _ _ _ _ (l .i) (l .inv) (x .pre .1 .0) (f .most) (f .here);
       size = same-len-mid (l .bits / 8) (length (l .out) - l .bits / 8) (l .out) (c .put-turn .last .0) (c .put-turn .kept .0);
       most = λ h. run-room _ _ _ _ _ _ _ _ _ (l .i) (l .inv) _ _ _ (f .here) (t .run h);
