@@ -1,5 +1,5 @@
--- What a reader owns, for the walks of its functions: its payload's part and its place are handed to a covered function, and the reader, which is
--- Copy, is kept whole beside them. Assumes `Given`.
+-- What a reader owns, for the walks of its functions: its payload's part and its place are handed
+-- to a covered function, and the reader, which is Copy, is kept whole beside them. Assumes `Given`.
 use mathlib.Core.Path.{_≡_}
 use mathlib.Core.List.{[], _∷_}
 use lib.Dec.{T as Holds}

@@ -1,6 +1,7 @@
-// `BitReader` (document 01, "Rust forms that need another", F8): a payload that is lent, and a place in it. Its functions are thin: each takes the
-// reader apart and leaves the work to an entry of `bits` on the slice and the place. A function over a struct that holds a reference is proved by a
-// walk by hand; `field_at`, whose parameters are plain, serves callers that are to need none.
+// `BitReader` (document 01, "Rust forms that need another", F8): a payload that is lent, and a
+// place in it. Its functions are thin: each takes the reader apart and leaves the work to an entry
+// of `bits` on the slice and the place. A function over a struct that holds a reference is proved
+// by a walk by hand; `field_at`, whose parameters are plain, serves callers that are to need none.
 ghost use mathlib.Core.Path.{_≡_};
 ghost use Rattle.bits.specs.Checked.{told, bitsRead, unaryRead};
 use bits::BitAnswer;

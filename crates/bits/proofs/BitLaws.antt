@@ -1,4 +1,5 @@
--- Laws of the low bits of a number and of the number of some bits, each for every width, and of the bits of a payload.
+-- Laws of the low bits of a number and of the number of some bits, each for every width, and of the
+-- bits of a payload.
 -- Assumes nothing.
 use mathlib.Core.Path.{_≡_, refl, sym, ap, ap₂, _∙_}
 use mathlib.Core.Bool.{Bool, true, false}

@@ -1,11 +1,13 @@
--- Worked cases, computed from the definitions: the bytes of document 01's two starred programs, the end of a payload, and spare bits.
+-- Worked cases, computed from the definitions: the bytes of document 01's two starred programs, the
+-- end of a payload, and spare bits.
 -- Assumes nothing.
 use mathlib.Core.Path.{_≡_, refl}
 use mathlib.Core.List.{[], _∷_}
+use Rattle.overlay.specs.Overlay.{overlay}
 use Rattle.bits.specs.Bits.{low, num, bitsOf, ones}
 use Rattle.bits.specs.Checked.{bitRead, bitsRead, unaryRead}
 use Rattle.bits.specs.Fields.{getBits, unary, unaryField}
-use Rattle.bits.specs.Laid.{bytesOf, laid, over, put}
+use Rattle.bits.specs.Laid.{bytesOf, bytesHolding, put}
 
 -- 7E 02: a zero first, then six ones up to a zero
 first-zero : unaryRead (0x7e ∷ 0x02 ∷ []) 0 ≡ 0 ∷ 0 ∷ 1 ∷ []
@@ -34,7 +36,8 @@ no-bits : bitsRead (0xff ∷ []) 20 0 ≡ 0 ∷ 0 ∷ 20 ∷ []
 unfolding bitsRead getBits num bitsOf low
 no-bits = refl
 
--- three ones and a zero from place 6 on: the bits before stay, the spare bits become 0, the byte behind stays
+-- three ones and a zero from place 6 on: the bits before stay, the spare bits become 0, the byte
+-- behind stays
 count-laid : put (0x15 ∷ 0xff ∷ 0xaa ∷ []) 6 (unaryField 3) ≡ 0xd5 ∷ 0x01 ∷ 0xaa ∷ []
-unfolding put over laid bytesOf unaryField bitsOf num low
+unfolding put overlay bytesHolding bytesOf unaryField bitsOf num low
 count-laid = refl

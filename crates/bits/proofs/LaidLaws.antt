@@ -1,4 +1,5 @@
--- Laws of bits laid into bytes and into a buffer. The few that carry the rest: `bits-laid`, `put-rest`, `put-byte` and `put-put`.
+-- Laws of bits laid into bytes and into a buffer. Those that carry the rest: `bits-holding`,
+-- `put-rest`, `put-byte` and `put-put`.
 -- Assumes nothing.
 use mathlib.Core.Path.{_≡_, refl, sym, ap, ap₂, _∙_}
 use mathlib.Core.Bool.{Bool, false}
@@ -9,9 +10,11 @@ use lib.Dec.{lit<}
 use native.Mathlib.Decide.{decLe}
 use native.Mathlib.Omega.{arith}
 use lib.ListN.{length, take, drop, getD, set, length-append, length-drop, take-append-drop, drop-of-length-le}
-use lib.Seq.{take-all, take-append-le, take-append-add, take-append-seam, drop-append-add, drop-drop, take-at, drop-at, length-take-le, drop-cons, set-split}
+use lib.Seq.{take-all, take-append-le, take-append-add, take-append-seam, take-at, drop-at, length-take-le, drop-cons, set-split}
+use Rattle.overlay.specs.Overlay.{overlay}
+use Rattle.overlay.proofs.OverlayLaws.{overlay-first, overlay-behind, overlay-again}
 use Rattle.bits.specs.Bits.{low, num, bitsOf}
-use Rattle.bits.specs.Laid.{bytesOf, laid, over, put}
+use Rattle.bits.specs.Laid.{bytesOf, bytesHolding, put}
 use Rattle.bits.proofs.BitLaws.{length-low, length-bits, num-append, num-lt, num-low, low-num, take-low, low-add, low-shifted}
 
 -- ---- bytes of bits
@@ -23,9 +26,9 @@ length-bytes zero w = refl
 length-bytes (suc n) w = ap suc (length-bytes n (drop 8 w))
 
 -- as many bytes as the bits need
-pub length-laid : (w : List Bool) → length (laid w) ≡ (length w + 7) / 8
-unfolding laid
-length-laid w = length-bytes ((length w + 7) / 8) w
+pub length-holding : (w : List Bool) → length (bytesHolding w) ≡ (length w + 7) / 8
+unfolding bytesHolding
+length-holding w = length-bytes ((length w + 7) / 8) w
 
 -- zeros after zeros
 low-zeros : (i j : ℕ) → low i 0 ++ low j 0 ≡ low (i + j) 0
@@ -70,9 +73,9 @@ bits-bytes (suc n) w h =
     rw (bits-bytes n (drop 8 w) (omega (arith, length-drop 8 w)), e) (byte-bits w (8 * n) (omega arith))
 
 -- the bits of the bytes that hold w are w and its spare bits, 0
-pub bits-laid : (w : List Bool) → bitsOf (laid w) ≡ w ++ low (8 * ((length w + 7) / 8) - length w) 0
-unfolding laid
-bits-laid w = bits-bytes ((length w + 7) / 8) w (omega arith)
+pub bits-holding : (w : List Bool) → bitsOf (bytesHolding w) ≡ w ++ low (8 * ((length w + 7) / 8) - length w) 0
+unfolding bytesHolding
+bits-holding w = bits-bytes ((length w + 7) / 8) w (omega arith)
 
 -- ---- bytes that are there already
 
@@ -87,37 +90,21 @@ bits-append [] t = refl
 bits-append (b ∷ s) t = ap (λ (l : List Bool). low 8 b ++ l) (bits-append s t) ∙ sym (append-assoc (low 8 b) (bitsOf s) (bitsOf t))
 
 -- a whole byte in front is laid as itself
-pub laid-byte : (b : ℕ) (w : List Bool) → b < 256 → laid (low 8 b ++ w) ≡ b ∷ laid w
-unfolding laid bytesOf
-laid-byte b w h =
+pub holding-byte : (b : ℕ) (w : List Bool) → b < 256 → bytesHolding (low 8 b ++ w) ≡ b ∷ bytesHolding w
+unfolding bytesHolding bytesOf
+holding-byte b w h =
     let l = length-low 8 b in
     let e : (length (low 8 b ++ w) + 7) / 8 ≡ suc ((length w + 7) / 8) = omega (arith, length-append (low 8 b) w) in
     rw (e, take-at (low 8 b) w 8 l, drop-at (low 8 b) w 8 l, num-low 8 b, mod-eq-of-lt h)
 
 -- so are whole bytes
-pub laid-bytes : (s : List ℕ) (w : List Bool) → Bytes s → laid (bitsOf s ++ w) ≡ s ++ laid w
+pub holding-bytes : (s : List ℕ) (w : List Bool) → Bytes s → bytesHolding (bitsOf s ++ w) ≡ s ++ bytesHolding w
 unfolding bitsOf
-laid-bytes [] w h = refl
-laid-bytes (b ∷ s) w h =
-    rw (append-assoc (low 8 b) (bitsOf s) w) (laid-byte b (bitsOf s ++ w) (h 0) ∙ ap (λ (l : List ℕ). b ∷ l) (laid-bytes s w (λ i. h (suc i))))
+holding-bytes [] w h = refl
+holding-bytes (b ∷ s) w h =
+    rw (append-assoc (low 8 b) (bitsOf s) w) (holding-byte b (bitsOf s ++ w) (h 0) ∙ ap (λ (l : List ℕ). b ∷ l) (holding-bytes s w (λ i. h (suc i))))
 
 -- ---- a buffer
-
--- bytes laid over a buffer whose first a bytes they repeat: only the rest is laid over
-over-behind : (buf x : List ℕ) (a : ℕ) → a ≤ length buf → over (take a buf ++ x) buf ≡ take a buf ++ over x (drop a buf)
-unfolding over
-over-behind buf x a h =
-    let l : length (take a buf ++ x) ≡ a + length x = length-append (take a buf) x ∙ ap (λ (n : ℕ). n + length x) (length-take-le a buf h) in
-    rw (l, drop-drop (length x) a buf) (append-assoc (take a buf) x (drop (a + length x) buf))
-
--- laid over twice, the second time at least as far
-over-over : (x y buf : List ℕ) → length y ≤ length x → over x (over y buf) ≡ over x buf
-unfolding over
-over-over x y buf h =
-    let m = length x - length y in
-    let e : length x ≡ length y + m = omega arith in
-    ap (λ (l : List ℕ). x ++ l)
-    (ap (λ (n : ℕ). drop n (y ++ drop (length y) buf)) e ∙ drop-append-add y (drop (length y) buf) m ∙ drop-drop m (length y) buf ∙ ap (λ (n : ℕ). drop n buf) (sym e))
 
 -- the bits before a place are those of the whole bytes, and some of the byte there
 take-bits : (buf : List ℕ) (a k : ℕ) → a ≤ length buf → take (8 * a + k) (bitsOf buf) ≡ bitsOf (take a buf) ++ take k (bitsOf (drop a buf))
@@ -140,12 +127,12 @@ put-rest buf a k [] h l = sym (take-append-drop a buf)
 put-rest buf a k (b ∷ f) h l =
     let t = take a buf in
     let r = take k (bitsOf (drop a buf)) in
-    rw (take-bits buf a k l, append-assoc (bitsOf t) r (b ∷ f), laid-bytes t (r ++ b ∷ f) (bytes-take buf a h)) (over-behind buf (laid (r ++ b ∷ f)) a l)
+    rw (take-bits buf a k l, append-assoc (bitsOf t) r (b ∷ f), holding-bytes t (r ++ b ∷ f) (bytes-take buf a h)) (overlay-behind buf (bytesHolding (r ++ b ∷ f)) a l)
 
 -- bits that lie within the first byte
 pub put-first : (c : ℕ) (rest : List ℕ) (k : ℕ) (f : List Bool) → 0 < length f → k + length f ≤ 8
     → put (c ∷ rest) k f ≡ (c % 2 ^ k + num f * 2 ^ k) ∷ rest
-unfolding put over laid bytesOf bitsOf
+unfolding put overlay bytesHolding bytesOf bitsOf
 put-first c rest k [] h l = absurd (omega arith)
 put-first c rest k (b ∷ f) h l =
     let t : take k (low 8 c ++ bitsOf rest) ≡ low k c =
@@ -172,23 +159,23 @@ put-byte buf p f h l n w =
     ∙ sym (put-rest buf a k f h (omega arith)) ∙ ap (λ (x : ℕ). put buf x f) (sym e)
 
 -- the bits of a buffer that w has been laid over: w, its spare bits, and those of the bytes behind
-pub bits-over : (w : List Bool) (buf : List ℕ)
-    → bitsOf (over (laid w) buf) ≡ w ++ (low (8 * ((length w + 7) / 8) - length w) 0 ++ bitsOf (drop ((length w + 7) / 8) buf))
-unfolding over
-bits-over w buf =
+pub bits-overlay : (w : List Bool) (buf : List ℕ)
+    → bitsOf (overlay buf 0 (bytesHolding w)) ≡ w ++ (low (8 * ((length w + 7) / 8) - length w) 0 ++ bitsOf (drop ((length w + 7) / 8) buf))
+bits-overlay w buf =
     let z = low (8 * ((length w + 7) / 8) - length w) 0 in
-    bits-append (laid w) (drop (length (laid w)) buf)
-    ∙ ap₂ (λ (x : List Bool) (n : ℕ). x ++ bitsOf (drop n buf)) (bits-laid w) (length-laid w)
+    ap bitsOf (overlay-first buf (bytesHolding w)) ∙ bits-append (bytesHolding w) (drop (length (bytesHolding w)) buf)
+    ∙ ap₂ (λ (x : List Bool) (n : ℕ). x ++ bitsOf (drop n buf)) (bits-holding w) (length-holding w)
     ∙ append-assoc w z (bitsOf (drop ((length w + 7) / 8) buf))
 
 -- so they begin with w
-take-over : (w : List Bool) (buf : List ℕ) → take (length w) (bitsOf (over (laid w) buf)) ≡ w
-take-over w buf = ap (take (length w)) (bits-over w buf) ∙ take-append-seam w _
+take-overlay : (w : List Bool) (buf : List ℕ) → take (length w) (bitsOf (overlay buf 0 (bytesHolding w))) ≡ w
+take-overlay w buf = ap (take (length w)) (bits-overlay w buf) ∙ take-append-seam w _
 
 -- bits laid behind w are laid as if joined to it
-lay-more : (w g : List Bool) (buf : List ℕ) → over (laid (take (length w) (bitsOf (over (laid w) buf)) ++ g)) (over (laid w) buf) ≡ over (laid (w ++ g)) buf
+lay-more : (w g : List Bool) (buf : List ℕ) → overlay (overlay buf 0 (bytesHolding w)) 0 (bytesHolding (take (length w) (bitsOf (overlay buf 0 (bytesHolding w))) ++ g))
+    ≡ overlay buf 0 (bytesHolding (w ++ g))
 lay-more w g buf =
-    rw (take-over w buf) (over-over (laid (w ++ g)) (laid w) buf (omega (arith, length-laid w, length-laid (w ++ g), length-append w g)))
+    rw (take-overlay w buf) (overlay-again buf (bytesHolding w) (bytesHolding (w ++ g)) (omega (arith, length-holding w, length-holding (w ++ g), length-append w g)))
 
 -- bits laid behind bits: both, joined
 pub put-put : (buf : List ℕ) (p : ℕ) (f g : List Bool) → p ≤ 8 * length buf → put (put buf p f) (p + length f) g ≡ put buf p (f ++ g)
@@ -199,19 +186,20 @@ put-put buf p (b ∷ f) (d ∷ g) h =
     let t = take p (bitsOf buf) in
     let e : p + length (b ∷ f) ≡ length (t ++ b ∷ f) =
     omega (arith, length-append t (b ∷ f), length-take-le p (bitsOf buf) (omega (arith, length-bits buf))) in
-    rw e (lay-more (t ++ b ∷ f) (d ∷ g) buf ∙ ap (λ (l : List Bool). over (laid l) buf) (append-assoc t (b ∷ f) (d ∷ g)))
+    rw e (lay-more (t ++ b ∷ f) (d ∷ g) buf ∙ ap (λ (l : List Bool). overlay buf 0 (bytesHolding l)) (append-assoc t (b ∷ f) (d ∷ g)))
 
--- what a field leaves in a buffer: the bits before it, the field, spare bits 0, and the bytes behind
+-- what a field leaves in a buffer: the bits before it, the field, spare bits 0, and the bytes
+-- behind
 pub put-parts : (buf : List ℕ) (p : ℕ) (f : List Bool) → 0 < length f →
     let w = take p (bitsOf buf) ++ f in
     bitsOf (put buf p f) ≡ w ++ (low (8 * ((length w + 7) / 8) - length w) 0 ++ bitsOf (drop ((length w + 7) / 8) buf))
 unfolding put
 put-parts buf p [] h = absurd (omega arith)
-put-parts buf p (b ∷ f) h = bits-over (take p (bitsOf buf) ++ b ∷ f) buf
+put-parts buf p (b ∷ f) h = bits-overlay (take p (bitsOf buf) ++ b ∷ f) buf
 
 -- from the start of a buffer: the bytes that hold the bits, over it
-pub put-start : (buf : List ℕ) (w : List Bool) → put buf 0 w ≡ over (laid w) buf
-unfolding put over laid bytesOf
+pub put-start : (buf : List ℕ) (w : List Bool) → put buf 0 w ≡ overlay buf 0 (bytesHolding w)
+unfolding put overlay bytesHolding bytesOf
 put-start buf [] = refl
 put-start buf (b ∷ w) = refl
 

@@ -1,7 +1,8 @@
--- Laws of the reading definitions: which answer a reader gives, and what stands at a place inside the payload.
+-- Laws of the reading definitions: which answer a reader gives, and what stands at a place inside
+-- the payload.
 -- Assumes nothing.
 use mathlib.Core.Path.{_≡_, refl, sym, ap, _∙_}
-use mathlib.Core.Bool.{Bool, true, false}
+use mathlib.Core.Bool.{Bool, true, false, cond}
 use mathlib.Core.List.{List, _∷_, _++_}
 use Prim.Native.Nat.{ℕ, zero, suc, _+_, _-_, _*_, _/_, _%_, _^_, _≤_, _<_}
 use native.Mathlib.Nat.{lt-of-lt-of-le}
@@ -12,7 +13,7 @@ use lib.ListN.{length, take, drop, getD}
 use lib.Pow.{pow-mono}
 use lib.Seq.{drop-drop, drop-cons, drop-append-le}
 use Rattle.bits.specs.Bits.{bitOf, low, num, bitsOf, ones}
-use Rattle.bits.specs.Fields.{pick, getBits, unary}
+use Rattle.bits.specs.Fields.{getBits, unary}
 use Rattle.bits.specs.declared.Field.the-variants.{Value, Truncated}
 use Rattle.bits.proofs.BitLaws.{val-mod, length-low, drop-low, drop-bytes, num-take-lt}
 
@@ -22,7 +23,7 @@ pub got : (bits : List Bool) (p k v q : ℕ) → getBits bits p k ≡ Value v q
 unfolding getBits
 got bits p k v q e = go (leb k (length (drop p bits))) refl e
   where
-    go : (t : Bool) → leb k (length (drop p bits)) ≡ t → pick t (Value (num (take k (drop p bits))) (p + k)) Truncated ≡ Value v q
+    go : (t : Bool) → leb k (length (drop p bits)) ≡ t → cond t (Value (num (take k (drop p bits))) (p + k)) Truncated ≡ Value v q
         → (k ≤ length (drop p bits)) × (v ≡ num (take k (drop p bits))) × (q ≡ p + k)
     go true h e = (leb-true k (length (drop p bits)) h, cc, cc)
     go false h e = let z : _≡_ {A = ℕ} 0 1 = cc in absurd (omega arith)
@@ -42,7 +43,7 @@ pub bits-missing : (bits : List Bool) (p k : ℕ) → getBits bits p k ≡ Trunc
 unfolding getBits
 bits-missing bits p k e = go (leb k (length (drop p bits))) refl e
   where
-    go : (t : Bool) → leb k (length (drop p bits)) ≡ t → pick t (Value (num (take k (drop p bits))) (p + k)) Truncated ≡ Truncated
+    go : (t : Bool) → leb k (length (drop p bits)) ≡ t → cond t (Value (num (take k (drop p bits))) (p + k)) Truncated ≡ Truncated
         → length (drop p bits) < k
     go true h e = let z : _≡_ {A = ℕ} 0 1 = cc in absurd (omega arith)
     go false h e = leb-false k (length (drop p bits)) h
@@ -73,7 +74,7 @@ unfolding unary
 unary-missing bits p e = go (ltb (ones (drop p bits)) (length (drop p bits))) refl e
   where
     go : (t : Bool) → ltb (ones (drop p bits)) (length (drop p bits)) ≡ t
-        → pick t (Value (ones (drop p bits)) (p + ones (drop p bits) + 1)) Truncated ≡ Truncated → length (drop p bits) ≤ ones (drop p bits)
+        → cond t (Value (ones (drop p bits)) (p + ones (drop p bits) + 1)) Truncated ≡ Truncated → length (drop p bits) ≤ ones (drop p bits)
     go true h e = let z : _≡_ {A = ℕ} 0 1 = cc in absurd (omega arith)
     go false h e = ltb-false (ones (drop p bits)) (length (drop p bits)) h
 

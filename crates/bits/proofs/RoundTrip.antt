@@ -1,5 +1,5 @@
--- A field that stands at a place is read as its value and the place after it. `At` splits where fields are joined, so what is written piece by piece
--- is read piece by piece.
+-- A field that stands at a place is read as its value and the place after it. `At` splits where
+-- fields are joined, so what is written piece by piece is read piece by piece.
 -- Assumes nothing.
 use mathlib.Core.Path.{_≡_, refl, sym, ap, ap₂, _∙_}
 use mathlib.Core.Bool.{Bool, true, false}

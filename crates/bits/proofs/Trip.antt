@@ -1,4 +1,5 @@
--- What has been laid into bytes or into a buffer stands there, so that by RoundTrip it is read back.
+-- What has been laid into bytes or into a buffer stands there, so that by RoundTrip it is read
+-- back.
 -- Assumes nothing.
 use mathlib.Core.Path.{_≡_, refl, sym, ap, ap₂, _∙_}
 use mathlib.Core.Bool.{Bool}
@@ -8,19 +9,19 @@ use native.Mathlib.Omega.{arith}
 use lib.ListN.{length, take, drop}
 use lib.Seq.{drop-append-seam, length-take-le}
 use Rattle.bits.specs.Bits.{low, bitsOf}
-use Rattle.bits.specs.Laid.{laid, put}
+use Rattle.bits.specs.Laid.{bytesHolding, put}
 use Rattle.bits.proofs.BitLaws.{length-bits}
-use Rattle.bits.proofs.LaidLaws.{bits-append, bits-laid, put-parts}
+use Rattle.bits.proofs.LaidLaws.{bits-append, bits-holding, put-parts}
 use Rattle.bits.proofs.RoundTrip.{At}
 
 -- the bytes that hold the bits before, f and after hold f behind before
-pub at-laid : (before f after : List Bool) → At (bitsOf (laid (before ++ (f ++ after)))) (length before) f
-at-laid before f after =
+pub at-holding : (before f after : List Bool) → At (bitsOf (bytesHolding (before ++ (f ++ after)))) (length before) f
+at-holding before f after =
     let w = before ++ (f ++ after) in
     let z = low (8 * ((length w + 7) / 8) - length w) 0 in
     record {
       rest = after ++ z;
-      stands = ap (drop (length before)) (bits-laid w ∙ append-assoc before (f ++ after) z) ∙ drop-append-seam before (f ++ after ++ z) ∙ append-assoc f after z;
+      stands = ap (drop (length before)) (bits-holding w ∙ append-assoc before (f ++ after) z) ∙ drop-append-seam before (f ++ after ++ z) ∙ append-assoc f after z;
     }
 
 -- what has just been put into a buffer stands there
@@ -39,8 +40,8 @@ at-put buf p (b ∷ f) h =
     }
 
 -- the bytes that hold w hold it, whatever bytes follow
-pub at-bytes : (w : List Bool) (s : List ℕ) → At (bitsOf (laid w ++ s)) 0 w
+pub at-bytes : (w : List Bool) (s : List ℕ) → At (bitsOf (bytesHolding w ++ s)) 0 w
 at-bytes w s = record {
   rest = low (8 * ((length w + 7) / 8) - length w) 0 ++ bitsOf s;
-  stands = bits-append (laid w) s ∙ ap (λ (x : List Bool). x ++ bitsOf s) (bits-laid w) ∙ append-assoc w _ (bitsOf s);
+  stands = bits-append (bytesHolding w) s ∙ ap (λ (x : List Bool). x ++ bitsOf s) (bits-holding w) ∙ append-assoc w _ (bitsOf s);
 }

@@ -1,4 +1,5 @@
--- Bits that stand at a place as the low bits of a number: a window of up to eight bytes, without the bits before the place.
+-- Bits that stand at a place as the low bits of a number: a window of up to eight bytes, without
+-- the bits before the place.
 -- Assumes nothing.
 use mathlib.Core.Path.{_≡_, refl, sym, ap, ap₂, subst, _∙_}
 use mathlib.Core.Bool.{Bool}
@@ -77,7 +78,8 @@ bytes-lt x a =
     lt-of-lt-of-le (num-lt (bitsOf (take a x)))
     (pow-mono {i = length (bitsOf (take a x))} {j = 8 * a} (omega (arith, length-bits (take a x), length-take a x)))
 
--- the number lo of a bytes and hi of the a bytes behind them, joined in 64 bits: the shift loses nothing, the sum fits, and it is the number of all
+-- the number lo of a bytes and hi of the a bytes behind them, joined in 64 bits: the shift loses
+-- nothing, the sum fits, and it is the number of all
 pub record Joined (s : List ℕ) (i a lo hi : ℕ) : Type 0 where
   pub exact : hi * 2 ^ (8 * a) % 2 ^ 64 ≡ hi * 2 ^ (8 * a)
   pub small : lo + hi * 2 ^ (8 * a) < 2 ^ 64

@@ -1,4 +1,5 @@
--- What the writers' proofs cite: a field that is written by two calls, and one that is written into the lent rest of a buffer.
+-- What the writers' proofs cite: a field that is written by two calls, and one that is written into
+-- the lent rest of a buffer.
 -- Assumes nothing.
 use mathlib.Core.Path.{_≡_, sym, ap, ap₂, _∙_}
 use mathlib.Core.Bool.{Bool}
@@ -24,7 +25,8 @@ pub unary-parts : (c : ℕ) → c ≤ 32 → unaryField c ≡ low c 4294967295 +
 unfolding unaryField
 unary-parts c h = ap₂ (λ (x y : List Bool). x ++ y) (sym (low-ones c 32 h)) (sym low-zero)
 
--- the rest of a buffer from the byte of place p on, lent to a writer at the bit within that byte and given back, is a put into the buffer
+-- the rest of a buffer from the byte of place p on, lent to a writer at the bit within that byte
+-- and given back, is a put into the buffer
 pub put-lent : (buf part : List ℕ) (p k : ℕ) (f : List Bool) → Bytes buf → p / 8 ≤ length buf → k ≡ p % 8
     → part ≡ put (take (length buf - p / 8) (drop (p / 8) buf)) k f → length part ≡ length (take (length buf - p / 8) (drop (p / 8) buf))
     → putMid (p / 8) (length buf - p / 8) buf part ≡ put buf p f

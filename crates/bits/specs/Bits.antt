@@ -1,5 +1,6 @@
--- Document 01, "Reading" (R3): "Bits come lowest bit of each byte first; numbers are written low bit first." A bit is a Bool, true for 1. A payload is
--- the list of its bits, and a place is how many of them lie before it.
+-- Document 01, "Reading" (R3): "Bits come lowest bit of each byte first; numbers are written low
+-- bit first." A bit is a Bool, true for 1. A payload is the list of its bits, and a place is how
+-- many of them lie before it.
 -- Assumes nothing.
 use mathlib.Core.Bool.{Bool, true, false}
 use mathlib.Core.List.{List, [], _∷_, _++_}

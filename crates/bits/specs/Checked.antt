@@ -1,7 +1,7 @@
--- What the entries tell for any slice, place and width: document 01's number of the answer, 0 for accepted, and then the values of its case.
--- The limit is that of "Why each operation says no" (5): 4,194,304 bytes.
+-- What the entries tell for any slice, place and width: document 01's number of the answer, 0 for
+-- accepted, and then the values of its case. The limit is that of "Why each operation says no" (5).
 -- Assumes nothing.
-use mathlib.Core.Bool.{Bool, true, false}
+use mathlib.Core.Bool.{cond}
 use mathlib.Core.List.{List, [], _∷_}
 use Prim.Native.Nat.{ℕ, _+_, _*_}
 use lib.Dec.{ltb, leb}
@@ -31,30 +31,24 @@ putTold (PutAnswer.Next next) = 0 ∷ next ∷ []
 putTold PutAnswer.OutputTooShort = 11 ∷ []
 putTold PutAnswer.TooLarge = 5 ∷ []
 
--- 5 where the test says too large, else the answer
-abbrev pub unless : Bool → List ℕ → List ℕ
-unless true answer = 5 ∷ []
-unless false answer = answer
+-- the answer to a payload over the limit or a field over 32 bits
+abbrev pub tooLarge : List ℕ
+tooLarge = 5 ∷ []
 
 -- one bit, a field and a count of ones of a payload
 unfoldable pub bitRead : List ℕ → ℕ → List ℕ
-bitRead s p = unless (ltb maxPayloadBytes (length s)) (fieldTold (getBits (bitsOf s) p 1))
+bitRead s p = cond (ltb maxPayloadBytes (length s)) tooLarge (fieldTold (getBits (bitsOf s) p 1))
 
 unfoldable pub bitsRead : List ℕ → ℕ → ℕ → List ℕ
-bitsRead s p count = unless (ltb maxPayloadBytes (length s)) (unless (ltb 32 count) (fieldTold (getBits (bitsOf s) p count)))
+bitsRead s p count = cond (ltb maxPayloadBytes (length s)) tooLarge (cond (ltb 32 count) tooLarge (fieldTold (getBits (bitsOf s) p count)))
 
 unfoldable pub unaryRead : List ℕ → ℕ → List ℕ
-unaryRead s p = unless (ltb maxPayloadBytes (length s)) (fieldTold (unary (bitsOf s) p))
+unaryRead s p = cond (ltb maxPayloadBytes (length s)) tooLarge (fieldTold (unary (bitsOf s) p))
 
 -- what laying a field leaves: what is told, and the buffer
 pub record Written : Type 0 where
   pub answer : List ℕ
   pub buffer : List ℕ
-
--- the first where the test holds, else the second
-abbrev pub either : Bool → Written → Written → Written
-either true a b = a
-either false a b = b
 
 -- a refusal: the buffer keeps its bytes
 abbrev pub kept : ℕ → List ℕ → Written
@@ -63,6 +57,6 @@ kept number buf = record { answer = number ∷ []; buffer = buf }
 -- the count low bits of v, laid into the buffer from p on
 unfoldable pub written : List ℕ → ℕ → ℕ → ℕ → Written
 written buf p v count =
-    either (ltb maxPayloadBytes (length buf)) (kept 5 buf) (
-    either (ltb 32 count) (kept 5 buf) (
-    either (leb (p + count) (8 * length buf)) (record { answer = 0 ∷ (p + count) ∷ []; buffer = put buf p (low count v) }) (kept 11 buf)))
+    cond (ltb maxPayloadBytes (length buf)) (kept 5 buf) (
+    cond (ltb 32 count) (kept 5 buf) (
+    cond (leb (p + count) (8 * length buf)) (record { answer = 0 ∷ (p + count) ∷ []; buffer = put buf p (low count v) }) (kept 11 buf)))

@@ -1,5 +1,6 @@
-// The readers and the writer for any slice, any place and any width: what lies over document 01's limits is refused as too large, and nothing else is
-// asked of the caller. Each answer is told by document 01's number and the case's values.
+// The readers and the writer for any slice, any place and any width: what lies over document 01's
+// limits is refused as too large, and nothing else is asked of the caller. Each answer is told by
+// document 01's number and the case's values.
 ghost use mathlib.Core.Path.{_≡_};
 ghost use Rattle.bits.specs.Checked.{told, putTold, bitRead, bitsRead, unaryRead, written};
 use crate::BitAnswer;
@@ -24,7 +25,8 @@ pub fn checked_get_bit(s: &[u8], at: usize) -> BitAnswer
     BitAnswer::Value(v, next)
 }
 
-// The number of `count` bits at `at`; 3 where one is missing, 5 for a payload over the limit or a field over 32 bits.
+// The number of `count` bits at `at`; 3 where one is missing, 5 for a payload over the limit or a
+// field over 32 bits.
 pub fn checked_get_bits(s: &[u8], at: usize, count: u32) -> BitAnswer
     ensures { λ r. ⌜ told r ≡ bitsRead (now (s .entry)) at count ⌝ }
 {
@@ -53,8 +55,8 @@ pub fn checked_get_unary(s: &[u8], at: usize) -> BitAnswer
     BitAnswer::Value(v, next)
 }
 
-// Lays the `count` low bits of v from `at` on; 11 where the buffer is too short, 5 for a buffer over the limit or a field over 32 bits. Where it
-// refuses, the buffer keeps its bytes.
+// Lays the `count` low bits of v from `at` on; 11 where the buffer is too short, 5 for a buffer
+// over the limit or a field over 32 bits. Where it refuses, the buffer keeps its bytes.
 pub fn checked_put_bits(out: &mut [u8], at: usize, v: u32, count: u32) -> PutAnswer
     ensures answer { λ r. ⌜ putTold r ≡ written (now (out .entry)) at v count .answer ⌝ }
     ensures buffer { λ _. ⌜ now (out .exit) ≡ written (now (out .entry)) at v count .buffer ⌝ }

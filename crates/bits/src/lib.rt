@@ -1,5 +1,6 @@
-// Implements document 01, "Reading" (bits lowest first, numbers low bit first) and the laying of bits in "Packing": the bits of a byte list, the
-// lowest bit of each byte first. `read` and `write` are the core, for payloads within document 01's limit; `checked` takes any slice and any place.
+// Implements document 01, "Reading" (bits lowest first, numbers low bit first) and the laying of
+// bits in "Packing": the bits of a byte list, the lowest bit of each byte first. `read` and `write`
+// are the core, for payloads within document 01's limit; `checked` takes any slice and any place.
 pub mod checked;
 pub mod load;
 pub mod read;

@@ -1,5 +1,5 @@
-// Bytes of a payload as one number, the first byte lowest. The compiler makes `eight` a single load, so a field costs one,
-// except in the last seven bytes of the payload.
+// Bytes of a payload as one number, the first byte lowest. The compiler makes `eight` a single
+// load, so a field costs one, except in the last seven bytes of the payload.
 ghost use mathlib.Core.Path.{_≡_};
 ghost use Prim.Native.Nat.{_+_, _≤_};
 ghost use lib.ListN.{length, take, drop};

@@ -1,6 +1,8 @@
-// Implements document 01, "Reading" (R3) and the counts of ones in "One word": one bit, a field of up to 32 bits and a count of ones at a place of
-// a payload. A place is a bit number, and may lie past the end. A field comes out of one window of up to eight bytes; ones are counted bit by bit.
-// The payload's limit, 4,194,304 bytes, keeps every place and count within the integers that hold them.
+// Implements document 01, "Reading" (R3) and the counts of ones in "One word": one bit, a field of
+// up to 32 bits and a count of ones at a place of a payload. A place is a bit number, and may lie
+// past the end. A field comes out of one window of up to eight bytes; ones are counted bit by bit.
+// The payload's limit, 4,194,304 bytes, keeps every place and count within the integers that hold
+// them.
 ghost use mathlib.Core.Path.{_≡_};
 ghost use Prim.Native.Nat.{_≤_};
 ghost use lib.ListN.{length};

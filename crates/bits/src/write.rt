@@ -1,5 +1,6 @@
-// Implements document 01, "Packing" (K7, K8): fields laid into a lent buffer. The bits before the place stay, the spare bits of the last byte that
-// is touched become 0, the bytes behind stay. `put_bits` and `put_unary` write into the rest of a buffer from its first unfinished byte on, so
+// Implements document 01, "Packing" (K7, K8): fields laid into a lent buffer. The bits before the
+// place stay, the spare bits of the last byte that is touched become 0, the bytes behind stay.
+// `put_bits` and `put_unary` write into the rest of a buffer from its first unfinished byte on, so
 // their places are small; `lay_bits` lends that rest on.
 ghost use mathlib.Core.Path.{_≡_};
 ghost use Prim.Native.Nat.{_+_, _*_, _/_, _%_, _^_, _≤_, _<_, min};
@@ -57,7 +58,7 @@ pub fn put_unary(out: &mut [u8], at: usize, c: u32) -> usize
     requires room { ⌜ at + length (unaryField c) ≤ 8 * length (now out) ⌝ }
     requires place { ⌜ at ≤ 200 ⌝ }
     requires count { ⌜ c ≤ 32 ⌝ }
-    ensures laid { λ _. ⌜ now (out .exit) ≡ put (now (out .entry)) at (unaryField c) ⌝ }
+    ensures buffer { λ _. ⌜ now (out .exit) ≡ put (now (out .entry)) at (unaryField c) ⌝ }
     ensures next { λ r. ⌜ r ≡ at + length (unaryField c) ⌝ }
 {
     put_bits(out, at, 4294967295, c);
@@ -66,13 +67,13 @@ pub fn put_unary(out: &mut [u8], at: usize, c: u32) -> usize
     p + 1
 }
 
-// Lays the `count` low bits of v from any place of a buffer on, and answers the place after them. The rest of the buffer, from the first
-// unfinished byte, is lent on.
+// Lays the `count` low bits of v from any place of a buffer on, and answers the place after them.
+// The rest of the buffer, from the first unfinished byte, is lent on.
 pub fn lay_bits(out: &mut [u8], at: usize, v: u32, count: u32) -> usize
     requires room { ⌜ at + count ≤ 8 * length (now out) ⌝ }
     requires place { ⌜ at ≤ 1073741824 ⌝ }
     requires width { ⌜ count ≤ 32 ⌝ }
-    ensures laid { λ _. ⌜ now (out .exit) ≡ put (now (out .entry)) at (low count v) ⌝ }
+    ensures buffer { λ _. ⌜ now (out .exit) ≡ put (now (out .entry)) at (low count v) ⌝ }
     ensures next { λ r. ⌜ r ≡ at + count ⌝ }
 {
     let a = at / 8;

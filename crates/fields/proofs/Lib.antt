@@ -1,4 +1,5 @@
 pub mod LengthLaws
 pub mod CodeLaws
+pub mod Local
 pub mod LocalLaws
 pub mod RefusalLaws

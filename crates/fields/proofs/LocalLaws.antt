@@ -1,8 +1,8 @@
--- A field that was read depends only on the bits up to the place after it: what stands behind never matters. `Local` says so of any reader; it holds of
--- bits and counts, and of what is read one after another.
+-- A field that was read depends only on the bits up to the place after it: what stands behind never
+-- matters. So it is of bits and counts, and of each field of a word.
 -- Assumes nothing.
 use mathlib.Core.Path.{_≡_, refl, sym, ap, _∙_}
-use mathlib.Core.Bool.{Bool, true, false}
+use mathlib.Core.Bool.{Bool, true, false, cond}
 use mathlib.Core.List.{List, [], _∷_}
 use Prim.Native.Nat.{ℕ, zero, suc, _+_, _-_, _*_, _^_, _≤_, _<_}
 use native.Mathlib.Nat.{zero-add, suc-add}
@@ -10,122 +10,16 @@ use native.Mathlib.Omega.{arith}
 use borrow.Author.Tests.{ltb-true}
 use lib.Dec.{ltb, leb, eqb}
 use lib.ListN.{length, take, drop, length-drop, length-take}
-use lib.Seq.{take-nil, take-take, length-take-le}
+use lib.Seq.{take-nil, length-take-le}
 use Rattle.bits.specs.Bits.{val, num, ones}
-use Rattle.bits.specs.Fields.{pick, getBits, unary, andThen}
+use Rattle.bits.specs.Fields.{getBits, unary, andThen}
 use Rattle.bits.specs.declared.Field.{Field}
 use Rattle.bits.specs.declared.Field.the-variants.{Value, Truncated}
 use Rattle.bits.proofs.ReadLaws.{got, bits-yes, unary-yes}
-use Rattle.fields.specs.Counts.{counted, runLength, pickPrefix, thenPrefix, escaped, prefix}
+use Rattle.fields.specs.Counts.{counted, runLength, thenPrefix, escaped, prefix}
 use Rattle.fields.specs.Code.{bitLength, codeOf, truncatedBinary}
 use Rattle.fields.specs.declared.Prefix.{Prefix}
-
--- where an answer ends: at a place, or nowhere, where it was refused
-pub data Ended : Type 0 where
-  at : ℕ → Ended
-  never : Ended
-
--- the place after a field
-abbrev pub fieldEnd : Field → Ended
-fieldEnd (Value v q) = at q
-fieldEnd Truncated = never
-
--- the place after a prefix
-abbrev pub prefixEnd : Prefix → Ended
-prefixEnd (Prefix.Value v q) = at q
-prefixEnd Prefix.EndOfStream = never
-prefixEnd Prefix.Truncated = never
-
--- a reader from p on: it ends at p or behind, within the payload, and any payload with the same bits up to there gives the same answer
-pub record Local {A : Type 0} (end : A → Ended) (p : ℕ) (r : List Bool → A) : Type 0 where
-  pub on : (a : List Bool) (q : ℕ) → end (r a) ≡ at q → p ≤ q
-  pub inside : (a : List Bool) (q : ℕ) → end (r a) ≡ at q → p ≤ length a → q ≤ length a
-  pub same : (a b : List Bool) (q : ℕ) → end (r a) ≡ at q → take q a ≡ take q b → r b ≡ r a
-
--- ---- readers put together
-
--- an answer that reads nothing
-pub local-still : {A : Type 0} (end : A → Ended) (p : ℕ) (x : A) → ((q : ℕ) → end x ≡ at q → q ≡ p) → Local end p (λ a. x)
-local-still end p x h = record { on = λ a q e. omega (arith, h q e); inside = λ a q e l. omega (arith, h q e); same = λ a b q e t. refl }
-
--- what a part that was read, or was not, makes of the rest
-pub data Split {A B : Type 0} (end-b : B → Ended) (end-a : A → Ended) (then : B → (ℕ → ℕ → A) → A) (x : B) : Type 0 where
-  part : (v q : ℕ) → end-b x ≡ at q → ((k : ℕ → ℕ → A) → then x k ≡ k v q) → Split end-b end-a then x
-  stop : ((k : ℕ → ℕ → A) → end-a (then x k) ≡ never) → Split end-b end-a then x
-
--- an answer does not both end and not end
-clash : {X : Type 0} {e : Ended} {q : ℕ} → e ≡ at q → e ≡ never → X
-clash {e = e} e1 e2 = let z : _≡_ {A = ℕ} 0 1 = cc in absurd (omega arith)
-
--- a part, and then the rest from where it ends
-pub local-then : {A B : Type 0} (end-b : B → Ended) (end-a : A → Ended) (then : B → (ℕ → ℕ → A) → A) → ((x : B) → Split end-b end-a then x)
-    → (p : ℕ) (f : List Bool → B) (k : List Bool → ℕ → ℕ → A) → Local end-b p f → ((v q : ℕ) → Local end-a q (λ a. k a v q)) → Local end-a p (λ a. then (f a) (k a))
-local-then {A} {B} end-b end-a then split p f k lf lk = record { on = on; inside = inside; same = same }
-  where
-    on : (a : List Bool) (q : ℕ) → end-a (then (f a) (k a)) ≡ at q → p ≤ q
-    on a q e = go (split (f a))
-      where
-        go : Split end-b end-a then (f a) → p ≤ q
-        go (part v m h g) = omega (arith, lf .on a m h, lk v m .on a q (sym (ap end-a (g (k a))) ∙ e))
-        go (stop h) = clash e (h (k a))
-
-    inside : (a : List Bool) (q : ℕ) → end-a (then (f a) (k a)) ≡ at q → p ≤ length a → q ≤ length a
-    inside a q e l = go (split (f a))
-      where
-        go : Split end-b end-a then (f a) → q ≤ length a
-        go (part v m h g) = lk v m .inside a q (sym (ap end-a (g (k a))) ∙ e) (lf .inside a m h l)
-        go (stop h) = clash e (h (k a))
-
-    same : (a b : List Bool) (q : ℕ) → end-a (then (f a) (k a)) ≡ at q → take q a ≡ take q b → then (f b) (k b) ≡ then (f a) (k a)
-    same a b q e t = go (split (f a))
-      where
-        go : Split end-b end-a then (f a) → then (f b) (k b) ≡ then (f a) (k a)
-        go (part v m h g) =
-            let i = sym (ap end-a (g (k a))) ∙ e in
-            let le = lk v m .on a q i in
-            let u : take m a ≡ take m b = sym (take-take m q a le) ∙ ap (take m) t ∙ take-take m q b le in
-            ap (λ (x : B). then x (k b)) (lf .same a b m h u) ∙ g (k b) ∙ lk v m .same a b q i t ∙ sym (g (k a))
-        go (stop h) = clash e (h (k a))
-
--- a field before a field
-pub field-field : (x : Field) → Split fieldEnd fieldEnd andThen x
-field-field (Value v q) = part v q refl (λ k. refl)
-field-field Truncated = stop (λ k. refl)
-
--- a field before a prefix
-field-prefix : (x : Field) → Split fieldEnd prefixEnd thenPrefix x
-field-prefix (Value v q) = part v q refl (λ k. refl)
-field-prefix Truncated = stop (λ k. refl)
-
--- the first or the second, by a test on numbers that are known
-local-pick : (t : Bool) (p : ℕ) (f g : List Bool → Field) → Local fieldEnd p f → Local fieldEnd p g → Local fieldEnd p (λ a. pick t (f a) (g a))
-local-pick true p f g x y = x
-local-pick false p f g x y = y
-
--- the same of two prefixes
-local-pick-prefix : (t : Bool) (p : ℕ) (f g : List Bool → Prefix) → Local prefixEnd p f → Local prefixEnd p g → Local prefixEnd p (λ a. pickPrefix t (f a) (g a))
-local-pick-prefix true p f g x y = x
-local-pick-prefix false p f g x y = y
-
--- a value at the place itself, and none
-value-here : (p v : ℕ) → Local fieldEnd p (λ a. Value v p)
-value-here p v = local-still fieldEnd p (Value v p) (λ q e. let z : p ≡ q = cc in sym z)
-
--- no value reads nothing on
-value-none : (p : ℕ) → Local fieldEnd p (λ a. Truncated)
-value-none p = local-still fieldEnd p Truncated (λ q e. clash e refl)
-
--- a prefix that is known at its place
-prefix-here : (p v : ℕ) → Local prefixEnd p (λ a. Prefix.Value v p)
-prefix-here p v = local-still prefixEnd p (Prefix.Value v p) (λ q e. let z : p ≡ q = cc in sym z)
-
--- no prefix
-prefix-truncated : (p : ℕ) → Local prefixEnd p (λ a. Prefix.Truncated)
-prefix-truncated p = local-still prefixEnd p Prefix.Truncated (λ q e. clash e refl)
-
--- the end of the stream
-prefix-ended : (p : ℕ) → Local prefixEnd p (λ a. Prefix.EndOfStream)
-prefix-ended p = local-still prefixEnd p Prefix.EndOfStream (λ q e. clash e refl)
+use Rattle.fields.proofs.Local.{at, fieldEnd, prefixEnd, Local, clash, local-then, field-field, field-prefix, local-cond, value-here, value-none, prefix-here, prefix-truncated, prefix-ended}
 
 -- ---- bits and counts
 
@@ -167,7 +61,7 @@ pub counted-ones : (a : List Bool) (p c q : ℕ) → unary a p ≡ Value c q →
 unfolding unary
 counted-ones a p c q e = go (ltb (ones (drop p a)) (length (drop p a))) refl e
   where
-    go : (t : Bool) → ltb (ones (drop p a)) (length (drop p a)) ≡ t → pick t (Value (ones (drop p a)) (p + ones (drop p a) + 1)) Truncated ≡ Value c q
+    go : (t : Bool) → ltb (ones (drop p a)) (length (drop p a)) ≡ t → cond t (Value (ones (drop p a)) (p + ones (drop p a) + 1)) Truncated ≡ Value c q
         → (c ≡ ones (drop p a)) × (c < length (drop p a)) × (q ≡ p + c + 1)
     go true h e =
         let z : ones (drop p a) ≡ c = cc in
@@ -219,7 +113,7 @@ unary-local p = record { on = on; inside = inside; same = same }
 counted-local : (q c : ℕ) → Local fieldEnd q (λ a. counted a q c)
 unfolding counted
 counted-local q c =
-    local-pick (ltb c 2) q (λ a. Value c q) (λ a. andThen (getBits a q (c - 1)) λ v n. Value (2 ^ (c - 1) + v) n) (value-here q c)
+    local-cond fieldEnd (ltb c 2) q (λ a. Value c q) (λ a. andThen (getBits a q (c - 1)) λ v n. Value (2 ^ (c - 1) + v) n) (value-here q c)
     (local-then fieldEnd fieldEnd andThen field-field q (λ a. getBits a q (c - 1)) (λ a v n. Value (2 ^ (c - 1) + v) n) (bits-local q (c - 1))
     (λ v n. value-here n (2 ^ (c - 1) + v)))
 
@@ -227,27 +121,27 @@ counted-local q c =
 pub run-local : (p : ℕ) → Local fieldEnd p (λ a. runLength a p)
 unfolding runLength
 run-local p =
-    local-then fieldEnd fieldEnd andThen field-field p (λ a. unary a p) (λ a c q. pick (ltb c 33) (counted a q c) Truncated) (unary-local p)
-    (λ c q. local-pick (ltb c 33) q (λ a. counted a q c) (λ a. Truncated) (counted-local q c) (value-none q))
+    local-then fieldEnd fieldEnd andThen field-field p (λ a. unary a p) (λ a c q. cond (ltb c 33) (counted a q c) Truncated) (unary-local p)
+    (λ c q. local-cond fieldEnd (ltb c 33) q (λ a. counted a q c) (λ a. Truncated) (counted-local q c) (value-none q))
 
 -- the value behind a second count
 escaped-local : (c q : ℕ) → Local prefixEnd q (λ a. escaped a c q)
 unfolding escaped
 escaped-local c q =
-    local-pick-prefix (eqb c 33) q (λ a. Prefix.EndOfStream) (λ a. pickPrefix (ltb 33 c) Prefix.Truncated (thenPrefix (counted a q c) within)) (prefix-ended q)
-    (local-pick-prefix (ltb 33 c) q (λ a. Prefix.Truncated) (λ a. thenPrefix (counted a q c) within) (prefix-truncated q)
+    local-cond prefixEnd (eqb c 33) q (λ a. Prefix.EndOfStream) (λ a. cond (ltb 33 c) Prefix.Truncated (thenPrefix (counted a q c) within)) (prefix-ended q)
+    (local-cond prefixEnd (ltb 33 c) q (λ a. Prefix.Truncated) (λ a. thenPrefix (counted a q c) within) (prefix-truncated q)
     (local-then fieldEnd prefixEnd thenPrefix field-prefix q (λ a. counted a q c) (λ a. within) (counted-local q c)
-    (λ v n. local-pick-prefix (leb (16 + v) 4294967295) n (λ a. Prefix.Value (16 + v) n) (λ a. Prefix.Truncated) (prefix-here n (16 + v)) (prefix-truncated n))))
+    (λ v n. local-cond prefixEnd (leb (16 + v) 4294967295) n (λ a. Prefix.Value (16 + v) n) (λ a. Prefix.Truncated) (prefix-here n (16 + v)) (prefix-truncated n))))
   where
     within : ℕ → ℕ → Prefix
-    within v n = pickPrefix (leb (16 + v) 4294967295) (Prefix.Value (16 + v) n) Prefix.Truncated
+    within v n = cond (leb (16 + v) 4294967295) (Prefix.Value (16 + v) n) Prefix.Truncated
 
 -- a prefix
 pub prefix-local : (p : ℕ) → Local prefixEnd p (λ a. prefix a p)
 unfolding prefix
 prefix-local p =
-    local-then fieldEnd prefixEnd thenPrefix field-prefix p (λ a. unary a p) (λ a r q. pickPrefix (ltb r 16) (Prefix.Value r q) (thenPrefix (unary a q) (escaped a))) (unary-local p)
-    (λ r q. local-pick-prefix (ltb r 16) q (λ a. Prefix.Value r q) (λ a. thenPrefix (unary a q) (escaped a)) (prefix-here q r)
+    local-then fieldEnd prefixEnd thenPrefix field-prefix p (λ a. unary a p) (λ a r q. cond (ltb r 16) (Prefix.Value r q) (thenPrefix (unary a q) (escaped a))) (unary-local p)
+    (λ r q. local-cond prefixEnd (ltb r 16) q (λ a. Prefix.Value r q) (λ a. thenPrefix (unary a q) (escaped a)) (prefix-here q r)
     (local-then fieldEnd prefixEnd thenPrefix field-prefix q (λ a. unary a q) (λ a. escaped a) (unary-local q) escaped-local))
 
 -- a code of b bits or one less
@@ -255,14 +149,14 @@ code-local : (p b x : ℕ) → Local fieldEnd p (λ a. codeOf a p b x)
 unfolding codeOf
 code-local p b x =
     local-then fieldEnd fieldEnd andThen field-field p (λ a. getBits a p (b - 1)) rest (bits-local p (b - 1))
-    (λ s q. local-pick (ltb s x) q (λ a. Value s q) (λ a. andThen (getBits a q 1) λ t n. Value (2 * s - x + t) n) (value-here q s)
+    (λ s q. local-cond fieldEnd (ltb s x) q (λ a. Value s q) (λ a. andThen (getBits a q 1) λ t n. Value (2 * s - x + t) n) (value-here q s)
     (local-then fieldEnd fieldEnd andThen field-field q (λ a. getBits a q 1) (λ a t n. Value (2 * s - x + t) n) (bits-local q 1) (λ t n. value-here n (2 * s - x + t))))
   where
     rest : List Bool → ℕ → ℕ → Field
-    rest a s q = pick (ltb s x) (Value s q) (andThen (getBits a q 1) λ t n. Value (2 * s - x + t) n)
+    rest a s q = cond (ltb s x) (Value s q) (andThen (getBits a q 1) λ t n. Value (2 * s - x + t) n)
 
 -- a code in an interval
 pub truncated-binary-local : (p M : ℕ) → Local fieldEnd p (λ a. truncatedBinary a p M)
 unfolding truncatedBinary
 truncated-binary-local p M =
-    local-pick (eqb M 0) p (λ a. Value 0 p) (λ a. codeOf a p (bitLength M) (2 ^ bitLength M - M - 1)) (value-here p 0) (code-local p (bitLength M) (2 ^ bitLength M - M - 1))
+    local-cond fieldEnd (eqb M 0) p (λ a. Value 0 p) (λ a. codeOf a p (bitLength M) (2 ^ bitLength M - M - 1)) (value-here p 0) (code-local p (bitLength M) (2 ^ bitLength M - M - 1))

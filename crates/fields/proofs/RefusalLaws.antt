@@ -1,50 +1,32 @@
--- A field is refused only for a missing bit, or for a count or a value over its cap; a stream ends only at a second count of 33.
+-- A field is refused only for a missing bit, or for a count or a value over its cap; a stream ends
+-- only at a second count of 33.
 -- Assumes nothing.
 use mathlib.Core.Path.{_≡_, refl, sym}
-use mathlib.Core.Bool.{Bool, true, false}
+use mathlib.Core.Bool.{Bool, true, false, cond}
 use mathlib.Core.List.{List}
 use Prim.Native.Nat.{ℕ, _+_, _-_, _*_, _^_, _≤_}
 use native.Mathlib.Omega.{arith}
 use borrow.Author.Tests.{leb-false, ltb-true, ltb-false, eqb-true}
 use lib.Dec.{ltb, leb, eqb}
-use lib.ListN.{length, take, drop}
-use Rattle.bits.specs.Bits.{num, ones}
-use Rattle.bits.specs.Fields.{pick, getBits, unary, andThen}
+use Rattle.bits.specs.Fields.{getBits, unary, andThen}
 use Rattle.bits.specs.declared.Field.{Field}
 use Rattle.bits.specs.declared.Field.the-variants.{Value, Truncated}
-use Rattle.fields.specs.Counts.{counted, runLength, pickPrefix, thenPrefix, escaped, prefix}
+use Rattle.bits.proofs.ReadLaws.{bits-missing, unary-missing}
+use Rattle.fields.specs.Counts.{counted, runLength, thenPrefix, escaped, prefix}
 use Rattle.fields.specs.Code.{bitLength, codeOf, truncatedBinary}
-use Rattle.fields.specs.Refused.{Missing, NoZero, NoRun, Second, NoPrefix, Ends, NoCode}
+use Rattle.fields.specs.Refused.{Missing, NoRun, Second, NoPrefix, Ends, NoCode}
 use Rattle.fields.specs.declared.Prefix.{Prefix}
 
 -- a value is not missing
 value-clash : {X : Type 0} {v q : ℕ} → Value v q ≡ Truncated → X
 value-clash e = let z : _≡_ {A = ℕ} 0 1 = cc in absurd (omega arith)
 
--- bits and counts
-pub bits-missing : (bits : List Bool) (q n : ℕ) → getBits bits q n ≡ Truncated → Missing bits q n
-unfolding getBits
-bits-missing bits q n e = go (leb n (length (drop q bits))) refl e
-  where
-    go : (t : Bool) → leb n (length (drop q bits)) ≡ t → pick t (Value (num (take n (drop q bits))) (q + n)) Truncated ≡ Truncated → Missing bits q n
-    go true h e = value-clash e
-    go false h e = leb-false n (length (drop q bits)) h
-
--- a count that is missing has no zero
-pub zero-missing : (bits : List Bool) (q : ℕ) → unary bits q ≡ Truncated → NoZero bits q
-unfolding unary
-zero-missing bits q e = go (ltb (ones (drop q bits)) (length (drop q bits))) refl e
-  where
-    go : (t : Bool) → ltb (ones (drop q bits)) (length (drop q bits)) ≡ t → pick t (Value (ones (drop q bits)) (q + ones (drop q bits) + 1)) Truncated ≡ Truncated → NoZero bits q
-    go true h e = value-clash e
-    go false h e = ltb-false (ones (drop q bits)) (length (drop q bits)) h
-
 -- the number behind a count misses a bit
 counted-missing : (bits : List Bool) (q c : ℕ) → counted bits q c ≡ Truncated → Missing bits q (c - 1)
 unfolding counted
 counted-missing bits q c e = go (ltb c 2) (getBits bits q (c - 1)) refl e
   where
-    go : (t : Bool) (f : Field) → getBits bits q (c - 1) ≡ f → pick t (Value c q) (andThen f λ v n. Value (2 ^ (c - 1) + v) n) ≡ Truncated → Missing bits q (c - 1)
+    go : (t : Bool) (f : Field) → getBits bits q (c - 1) ≡ f → cond t (Value c q) (andThen f λ v n. Value (2 ^ (c - 1) + v) n) ≡ Truncated → Missing bits q (c - 1)
     go true f h e = value-clash e
     go false (Field.Value v n) h e = value-clash e
     go false Field.Truncated h e = bits-missing bits q (c - 1) h
@@ -54,13 +36,13 @@ pub run-refused : (bits : List Bool) (p : ℕ) → runLength bits p ≡ Truncate
 unfolding runLength
 run-refused bits p e = go (unary bits p) refl e
   where
-    test : (c q : ℕ) (t : Bool) → ltb c 33 ≡ t → unary bits p ≡ Value c q → pick t (counted bits q c) Truncated ≡ Truncated → NoRun bits p
+    test : (c q : ℕ) (t : Bool) → ltb c 33 ≡ t → unary bits p ≡ Value c q → cond t (counted bits q c) Truncated ≡ Truncated → NoRun bits p
     test c q true h f e = NoRun.missing c q f (counted-missing bits q c e)
     test c q false h f e = NoRun.over c q f (ltb-false c 33 h)
 
-    go : (f : Field) → unary bits p ≡ f → andThen f (λ c q. pick (ltb c 33) (counted bits q c) Truncated) ≡ Truncated → NoRun bits p
+    go : (f : Field) → unary bits p ≡ f → andThen f (λ c q. cond (ltb c 33) (counted bits q c) Truncated) ≡ Truncated → NoRun bits p
     go (Field.Value c q) f e = test c q (ltb c 33) refl f e
-    go Field.Truncated f e = NoRun.no-zero (zero-missing bits p f)
+    go Field.Truncated f e = NoRun.no-zero (unary-missing bits p f)
 
 -- the prefix
 prefix-clash : {X : Type 0} {a b : Prefix} → a ≡ b → (a ≡ Prefix.Truncated) × (b ≡ Prefix.EndOfStream) → X
@@ -80,22 +62,22 @@ module _ (bits : List Bool) (p : ℕ) where
   unfolding escaped
   escaped-refused c n s e = first (eqb c 33) e
     where
-      last : (v m : ℕ) (t : Bool) → leb (16 + v) 4294967295 ≡ t → counted bits n c ≡ Value v m → pickPrefix t (Prefix.Value (16 + v) m) Prefix.Truncated ≡ Prefix.Truncated → NoPrefix bits p
+      last : (v m : ℕ) (t : Bool) → leb (16 + v) 4294967295 ≡ t → counted bits n c ≡ Value v m → cond t (Prefix.Value (16 + v) m) Prefix.Truncated ≡ Prefix.Truncated → NoPrefix bits p
       last v m true h f e = value-truncated e
       last v m false h f e = NoPrefix.value-over c n v m s f (leb-false (16 + v) 4294967295 h)
 
-      third : (f : Field) → counted bits n c ≡ f → thenPrefix f (λ v m. pickPrefix (leb (16 + v) 4294967295) (Prefix.Value (16 + v) m) Prefix.Truncated) ≡ Prefix.Truncated → NoPrefix bits p
+      third : (f : Field) → counted bits n c ≡ f → thenPrefix f (λ v m. cond (leb (16 + v) 4294967295) (Prefix.Value (16 + v) m) Prefix.Truncated) ≡ Prefix.Truncated → NoPrefix bits p
       third (Field.Value v m) f e = last v m (leb (16 + v) 4294967295) refl f e
       third Field.Truncated f e = NoPrefix.missing c n s (counted-missing bits n c f)
 
       rest : Prefix
-      rest = thenPrefix (counted bits n c) λ v m. pickPrefix (leb (16 + v) 4294967295) (Prefix.Value (16 + v) m) Prefix.Truncated
+      rest = thenPrefix (counted bits n c) λ v m. cond (leb (16 + v) 4294967295) (Prefix.Value (16 + v) m) Prefix.Truncated
 
-      second : (t : Bool) → ltb 33 c ≡ t → pickPrefix t Prefix.Truncated rest ≡ Prefix.Truncated → NoPrefix bits p
+      second : (t : Bool) → ltb 33 c ≡ t → cond t Prefix.Truncated rest ≡ Prefix.Truncated → NoPrefix bits p
       second true h e = NoPrefix.over c n s (ltb-true 33 c h)
       second false h e = third (counted bits n c) refl e
 
-      first : (t : Bool) → pickPrefix t Prefix.EndOfStream (pickPrefix (ltb 33 c) Prefix.Truncated rest) ≡ Prefix.Truncated → NoPrefix bits p
+      first : (t : Bool) → cond t Prefix.EndOfStream (cond (ltb 33 c) Prefix.Truncated rest) ≡ Prefix.Truncated → NoPrefix bits p
       first true e = prefix-clash (sym e) (refl, refl)
       first false e = second (ltb 33 c) refl e
 
@@ -104,22 +86,22 @@ module _ (bits : List Bool) (p : ℕ) where
   unfolding escaped
   escaped-ended c n s e = first (eqb c 33) refl e
     where
-      last : (v m : ℕ) (t : Bool) → pickPrefix t (Prefix.Value (16 + v) m) Prefix.Truncated ≡ Prefix.EndOfStream → Ends bits p
+      last : (v m : ℕ) (t : Bool) → cond t (Prefix.Value (16 + v) m) Prefix.Truncated ≡ Prefix.EndOfStream → Ends bits p
       last v m true e = value-ended e
       last v m false e = prefix-clash e (refl, refl)
 
-      third : (f : Field) → thenPrefix f (λ v m. pickPrefix (leb (16 + v) 4294967295) (Prefix.Value (16 + v) m) Prefix.Truncated) ≡ Prefix.EndOfStream → Ends bits p
+      third : (f : Field) → thenPrefix f (λ v m. cond (leb (16 + v) 4294967295) (Prefix.Value (16 + v) m) Prefix.Truncated) ≡ Prefix.EndOfStream → Ends bits p
       third (Field.Value v m) e = last v m (leb (16 + v) 4294967295) e
       third Field.Truncated e = prefix-clash e (refl, refl)
 
       rest : Prefix
-      rest = thenPrefix (counted bits n c) λ v m. pickPrefix (leb (16 + v) 4294967295) (Prefix.Value (16 + v) m) Prefix.Truncated
+      rest = thenPrefix (counted bits n c) λ v m. cond (leb (16 + v) 4294967295) (Prefix.Value (16 + v) m) Prefix.Truncated
 
-      second : (t : Bool) → pickPrefix t Prefix.Truncated rest ≡ Prefix.EndOfStream → Ends bits p
+      second : (t : Bool) → cond t Prefix.Truncated rest ≡ Prefix.EndOfStream → Ends bits p
       second true e = prefix-clash e (refl, refl)
       second false e = third (counted bits n c) e
 
-      first : (t : Bool) → eqb c 33 ≡ t → pickPrefix t Prefix.EndOfStream (pickPrefix (ltb 33 c) Prefix.Truncated rest) ≡ Prefix.EndOfStream → Ends bits p
+      first : (t : Bool) → eqb c 33 ≡ t → cond t Prefix.EndOfStream (cond (ltb 33 c) Prefix.Truncated rest) ≡ Prefix.EndOfStream → Ends bits p
       first true h e = record { behind = n; second = rw (eqb-true c 33 h) at s }
       first false h e = second (ltb 33 c) e
 
@@ -130,15 +112,15 @@ module _ (bits : List Bool) (p : ℕ) where
     where
       behind : (r q : ℕ) (f : Field) → unary bits p ≡ Value r q → 16 ≤ r → unary bits q ≡ f → thenPrefix f (escaped bits) ≡ Prefix.Truncated → NoPrefix bits p
       behind r q (Field.Value c n) a h f e = escaped-refused c n (record { first = r; behind = q; read = a; many = h; second = f }) e
-      behind r q Field.Truncated a h f e = NoPrefix.no-second-zero r q a h (zero-missing bits q f)
+      behind r q Field.Truncated a h f e = NoPrefix.no-second-zero r q a h (unary-missing bits q f)
 
-      test : (r q : ℕ) (t : Bool) → ltb r 16 ≡ t → unary bits p ≡ Value r q → pickPrefix t (Prefix.Value r q) (thenPrefix (unary bits q) (escaped bits)) ≡ Prefix.Truncated → NoPrefix bits p
+      test : (r q : ℕ) (t : Bool) → ltb r 16 ≡ t → unary bits p ≡ Value r q → cond t (Prefix.Value r q) (thenPrefix (unary bits q) (escaped bits)) ≡ Prefix.Truncated → NoPrefix bits p
       test r q true h f e = value-truncated e
       test r q false h f e = behind r q (unary bits q) f (ltb-false r 16 h) refl e
 
-      go : (f : Field) → unary bits p ≡ f → thenPrefix f (λ r q. pickPrefix (ltb r 16) (Prefix.Value r q) (thenPrefix (unary bits q) (escaped bits))) ≡ Prefix.Truncated → NoPrefix bits p
+      go : (f : Field) → unary bits p ≡ f → thenPrefix f (λ r q. cond (ltb r 16) (Prefix.Value r q) (thenPrefix (unary bits q) (escaped bits))) ≡ Prefix.Truncated → NoPrefix bits p
       go (Field.Value r q) f e = test r q (ltb r 16) refl f e
-      go Field.Truncated f e = NoPrefix.no-zero (zero-missing bits p f)
+      go Field.Truncated f e = NoPrefix.no-zero (unary-missing bits p f)
 
   -- a prefix that ends the stream
   pub prefix-ended : prefix bits p ≡ Prefix.EndOfStream → Ends bits p
@@ -149,11 +131,11 @@ module _ (bits : List Bool) (p : ℕ) where
       behind r q (Field.Value c n) a h f e = escaped-ended c n (record { first = r; behind = q; read = a; many = h; second = f }) e
       behind r q Field.Truncated a h f e = prefix-clash e (refl, refl)
 
-      test : (r q : ℕ) (t : Bool) → ltb r 16 ≡ t → unary bits p ≡ Value r q → pickPrefix t (Prefix.Value r q) (thenPrefix (unary bits q) (escaped bits)) ≡ Prefix.EndOfStream → Ends bits p
+      test : (r q : ℕ) (t : Bool) → ltb r 16 ≡ t → unary bits p ≡ Value r q → cond t (Prefix.Value r q) (thenPrefix (unary bits q) (escaped bits)) ≡ Prefix.EndOfStream → Ends bits p
       test r q true h f e = value-ended e
       test r q false h f e = behind r q (unary bits q) f (ltb-false r 16 h) refl e
 
-      go : (f : Field) → unary bits p ≡ f → thenPrefix f (λ r q. pickPrefix (ltb r 16) (Prefix.Value r q) (thenPrefix (unary bits q) (escaped bits))) ≡ Prefix.EndOfStream → Ends bits p
+      go : (f : Field) → unary bits p ≡ f → thenPrefix f (λ r q. cond (ltb r 16) (Prefix.Value r q) (thenPrefix (unary bits q) (escaped bits))) ≡ Prefix.EndOfStream → Ends bits p
       go (Field.Value r q) f e = test r q (ltb r 16) refl f e
       go Field.Truncated f e = prefix-clash e (refl, refl)
 
@@ -172,14 +154,14 @@ code-refused bits p M e = go (eqb M 0) e
     last s n (Field.Value t m) f h e = value-clash e
     last s n Field.Truncated f h e = NoCode.no-extra s n h (bits-missing bits n 1 f)
 
-    test : (s n : ℕ) (t : Bool) → getBits bits p (b - 1) ≡ Value s n → pick t (Value s n) (andThen (getBits bits n 1) λ t m. Value (2 * s - x + t) m) ≡ Truncated → NoCode bits p M
+    test : (s n : ℕ) (t : Bool) → getBits bits p (b - 1) ≡ Value s n → cond t (Value s n) (andThen (getBits bits n 1) λ t m. Value (2 * s - x + t) m) ≡ Truncated → NoCode bits p M
     test s n true h e = value-clash e
     test s n false h e = last s n (getBits bits n 1) refl h e
 
-    head : (f : Field) → getBits bits p (b - 1) ≡ f → andThen f (λ s n. pick (ltb s x) (Value s n) (andThen (getBits bits n 1) λ t m. Value (2 * s - x + t) m)) ≡ Truncated → NoCode bits p M
+    head : (f : Field) → getBits bits p (b - 1) ≡ f → andThen f (λ s n. cond (ltb s x) (Value s n) (andThen (getBits bits n 1) λ t m. Value (2 * s - x + t) m)) ≡ Truncated → NoCode bits p M
     head (Field.Value s n) h e = test s n (ltb s x) h e
     head Field.Truncated h e = NoCode.missing (bits-missing bits p (b - 1) h)
 
-    go : (t : Bool) → pick t (Value 0 p) (codeOf bits p b x) ≡ Truncated → NoCode bits p M
+    go : (t : Bool) → cond t (Value 0 p) (codeOf bits p b x) ≡ Truncated → NoCode bits p M
     go true e = value-clash e
     go false e = head (getBits bits p (b - 1)) refl e

@@ -1,5 +1,6 @@
--- Document 01, "Why each operation says no" and "Say Truncated before a bit is read" (H8): what a field that is refused runs into. Refusal 3 needs a
--- missing bit, or a count or a prefix value over its cap; refusal 4 a second count of 33.
+-- Document 01, "Why each operation says no" and "Say Truncated before a bit is read" (H8): what a
+-- field that is refused runs into. Refusal 3 needs a missing bit, or a count or a prefix value over
+-- its cap; refusal 4 a second count of 33.
 -- Assumes nothing.
 use mathlib.Core.Path.{_≡_}
 use mathlib.Core.Bool.{Bool}
@@ -34,7 +35,8 @@ pub record Second (bits : List Bool) (p c n : ℕ) : Type 0 where
   pub many : 16 ≤ first
   pub second : unary bits behind ≡ Value c n
 
--- no prefix at p: the zero of a count or a bit behind the second one is missing, the second count is above 33, or the value is above 4,294,967,295
+-- no prefix at p: the zero of a count or a bit behind the second one is missing, the second count
+-- is above 33, or the value is above 4,294,967,295
 pub data NoPrefix (bits : List Bool) (p : ℕ) : Type 0 where
   no-zero : NoZero bits p → NoPrefix bits p
   no-second-zero : (r q : ℕ) → unary bits p ≡ Value r q → 16 ≤ r → NoZero bits q → NoPrefix bits p

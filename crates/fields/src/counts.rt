@@ -1,7 +1,9 @@
-// Implements document 01, "One word", run length and prefix: a count of ones up to a zero, and for a count of 2 or more a number behind it.
+// Implements document 01, "One word", run length and prefix: a count of ones up to a zero, and for
+// a count of 2 or more a number behind it.
 ghost use mathlib.Core.Path.{_≡_};
 ghost use Prim.Native.Nat.{_≤_};
 ghost use lib.ListN.{length};
+ghost use Rattle.answers.specs.Limits.{maxPayloadBytes};
 ghost use Rattle.bits.specs.Bits.{bitsOf};
 ghost use Rattle.fields.specs.Counts.{counted, runLength, prefix};
 use crate::Prefix;
@@ -11,7 +13,8 @@ use bits::read::get_unary;
 
 // The number behind a count of ones.
 fn read_counted(payload: &[u8], place: usize, ones: u32) -> Field
-    requires { ⌜ (length (now payload) ≤ 4194304) × (ones ≤ 32) ⌝ }
+    requires limit { ⌜ length (now payload) ≤ maxPayloadBytes ⌝ }
+    requires count { ⌜ ones ≤ 32 ⌝ }
     ensures { λ r. ⌜ r ≡ counted (bitsOf (now (payload .entry))) place ones ⌝ }
 {
     if ones < 2 {
@@ -25,7 +28,7 @@ fn read_counted(payload: &[u8], place: usize, ones: u32) -> Field
 
 // The run length at a place. Truncated where a bit is missing or 33 ones or more stand there.
 pub fn read_zero_run_length(payload: &[u8], place: usize) -> Field
-    requires { ⌜ length (now payload) ≤ 4194304 ⌝ }
+    requires limit { ⌜ length (now payload) ≤ maxPayloadBytes ⌝ }
     ensures { λ r. ⌜ r ≡ runLength (bitsOf (now (payload .entry))) place ⌝ }
 {
     let Field::Value(ones, next) = get_unary(payload, place) else {
@@ -37,10 +40,10 @@ pub fn read_zero_run_length(payload: &[u8], place: usize) -> Field
     read_counted(payload, next, ones)
 }
 
-// The prefix at a place. EndOfStream at a second count of 33. Truncated where a bit is missing, the second count is above 33, or the value is
-// above 4,294,967,295.
+// The prefix at a place. EndOfStream at a second count of 33. Truncated where a bit is missing, the
+// second count is above 33, or the value is above 4,294,967,295.
 pub fn read_raw_prefix(payload: &[u8], place: usize) -> Prefix
-    requires { ⌜ length (now payload) ≤ 4194304 ⌝ }
+    requires limit { ⌜ length (now payload) ≤ maxPayloadBytes ⌝ }
     ensures { λ r. ⌜ r ≡ prefix (bitsOf (now (payload .entry))) place ⌝ }
 {
     let Field::Value(first, behind) = get_unary(payload, place) else {

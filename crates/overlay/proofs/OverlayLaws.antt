@@ -1,4 +1,5 @@
--- Laws of values laid into a list. Those that carry the rest: `overlay-first`, `overlay-on` and `overlay-copied`.
+-- Laws of values laid into a list. Those that carry the rest: `overlay-first`, `overlay-on` and
+-- `overlay-copied`.
 -- Assumes nothing.
 use mathlib.Core.Path.{_≡_, refl, sym, ap, _∙_}
 use mathlib.Core.List.{List, [], _∷_, _++_, append-assoc, append-nil}
@@ -51,6 +52,11 @@ module _ {A : Type 0} where
       sym (drop-drop (length w) n (done ++ drop n list)) ∙ ap (drop (length w)) (drop-at done (drop n list) n long) ∙ drop-drop (length w) n list in
       let all : at + length (v ++ w) ≡ n + length w = rw (length-append v w) (omega arith) in
       rw (all, e, take-at done (drop n list) n long, rest, append-assoc (take at list) v w)
+
+  -- so are those that two calls laid
+  pub overlay-two : (list first after : List A) (at n : ℕ) (v w : List A) → at ≤ length list → at + length v ≡ n
+      → first ≡ overlay list at v → after ≡ overlay first n w → after ≡ overlay list at (v ++ w)
+  overlay-two list first after at n v w h l e f = f ∙ rw e (overlay-on list at n v w h l)
 
   -- laid over twice from the start, the second time at least as far
   pub overlay-again : (list v w : List A) → length v ≤ length w → overlay (overlay list 0 v) 0 w ≡ overlay list 0 w

@@ -1,4 +1,5 @@
--- Values laid into a lent list: what every entry that writes promises of the list's other elements (K8, G1).
+-- Values laid into a lent list: what every entry that writes promises of the list's other elements
+-- (K8, G1).
 -- Assumes nothing.
 use mathlib.Core.List.{List, _++_}
 use Prim.Native.Nat.{ℕ, _+_}

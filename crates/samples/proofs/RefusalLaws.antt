@@ -14,7 +14,8 @@ use Rattle.bits.specs.declared.Field.the-variants.{Value, Truncated}
 use Rattle.fields.specs.Code.{truncatedBinary}
 use Rattle.fields.specs.Counts.{runLength, prefix}
 use Rattle.fields.specs.declared.Prefix.{Prefix}
-use Rattle.fields.proofs.RefusalLaws.{bits-missing, run-refused, prefix-refused, prefix-ended, code-refused}
+use Rattle.bits.proofs.ReadLaws.{bits-missing}
+use Rattle.fields.proofs.RefusalLaws.{run-refused, prefix-refused, prefix-ended, code-refused}
 use Rattle.medians.specs.Interval.{lowOf}
 use Rattle.word_state.specs.State.{State, due, paid, inRun, unbroken, cleared, flagged, after, runHere, onZeros}
 use Rattle.samples.specs.Word.{none, zoneOf, Word, given, refused, onField, onPrefix, signed, value, plain, fresh, word}

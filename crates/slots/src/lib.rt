@@ -2,12 +2,12 @@
 ghost use mathlib.Core.Path.{_≡_};
 ghost use Prim.Native.Nat.{_+_, _≤_};
 ghost use lib.ListN.{length};
-ghost use Rattle.slots.specs.Slots.{laidAt};
+ghost use Rattle.overlay.specs.Overlay.{overlay};
 
 // Lays values into the slots of a list from a place on.
 pub fn lay(values: &[i32], at: usize, slots: &mut [i32])
     requires { ⌜ at + length (now values) ≤ length (now slots) ⌝ }
-    ensures { λ _. ⌜ now (slots .exit) ≡ laidAt at (now (values .entry)) (now (slots .entry)) ⌝ }
+    ensures { λ _. ⌜ now (slots .exit) ≡ overlay (now (slots .entry)) at (now (values .entry)) ⌝ }
 {
     let mut i = 0;
     while i < values.len() {
@@ -19,7 +19,7 @@ pub fn lay(values: &[i32], at: usize, slots: &mut [i32])
 // The same, of unsigned numbers.
 pub fn lay_words(values: &[u32], at: usize, slots: &mut [u32])
     requires { ⌜ at + length (now values) ≤ length (now slots) ⌝ }
-    ensures { λ _. ⌜ now (slots .exit) ≡ laidAt at (now (values .entry)) (now (slots .entry)) ⌝ }
+    ensures { λ _. ⌜ now (slots .exit) ≡ overlay (now (slots .entry)) at (now (values .entry)) ⌝ }
 {
     let mut i = 0;
     while i < values.len() {

@@ -1,5 +1,6 @@
--- `bit_reader::field_at` meets its contract: a walk by hand. A reader is made of the payload, moved to the place and asked for the field; of the three
--- functions only their contracts are known. A local holds a reader at an erased lifetime, which what the reader owns does not say.
+-- `bit_reader::field_at` meets its contract: a walk by hand. A reader is made of the payload, moved
+-- to the place and asked for the field; of the three functions only their contracts are known. A
+-- local holds a reader at an erased lifetime, which what the reader owns does not say.
 -- Assumes nothing.
 use mathlib.Core.Path.{_≡_, refl}
 use Prim.Native.Nat.{ℕ, _<_, _^_}
@@ -162,7 +163,8 @@ module _ {M : Type 1} (𝓤 : URA M) (H : Heap 𝓤) (A : Atoms 𝓤) (W : Given
         use1 W (later (some (λ (d : BitReader). ((‵ (flft κ q) ⊛ ‵ ftrue) ⊛ ‵ (Row (κ, tt) .own d (u₀ ∷ []))) ⊛ raw (ensured 𝓤 H A new.ended (new.clauses 𝓤 H A mem run) (κ, tt) (s, tt) tt d)))) (id⊢ 𝓤 _) $ await ! tt $ pick ! (λ d₀.
         split ! $ move ! (1 ∷ []) $ use1 W (raw (fact 𝓤 ((d₀ .payload ≡ s) × (d₀ .place ≡ 0)))) (new-said d₀) $ heard ! ((d₀ .payload ≡ s) × (d₀ .place ≡ 0)) (λ e₀. split ! $ move ! (1 ∷ []) $
         rewrite ! 0 (λ (d : BitReader). ‵ (Row (κ, tt) .own d (u₀ ∷ []))) (known-reader d₀ 0 e₀) refl $
-        -- [what the reader owns; the token; what the payload owns; room for _5; …; room for _4; …; _3; …; _2; …; _1; …; room for _0; …]
+        -- [what the reader owns; the token; what the payload owns; room for _5; …; room for _4; …;
+        -- _3; …; _2; …; _1; …; room for _0; …]
         peeks ! (Row (κ, tt)) (Is (Row (κ, tt))) (shows 𝓤 H A (Row (κ, tt))) (reader 0) (u₀ ∷ []) (λ is₀. land ! (from ! (stop !)) (init ! 3 refl (typed (reader 0) u₀ is₀)) $
         use2 W (raw (MovedTo 𝓤 H A mem run .pre (to-moved u₀))) (goes-moved u₀) $
         calls-at ! fm (MovedTo 𝓤 H A mem run) known-moved (to-moved u₀) (and-then ! (load ! (from ! (stop !)) (look ! 2 refl)) (and-then ! (load ! (from ! (stop !)) (look ! 8 refl)) (no-more !))) (λ u₁.
@@ -174,7 +176,8 @@ module _ {M : Type 1} (𝓤 : URA M) (H : Heap 𝓤) (A : Atoms 𝓤) (W : Given
         calls-at ! fm (GetBits 𝓤 H A mem run) known-bits (to-bits u₁) (and-then ! (load ! (from ! (stop !)) (look ! 4 refl)) (and-then ! (load ! (from ! (stop !)) (look ! 6 refl)) (no-more !))) (λ u.
         use1 W (later (some (λ (r : BitAnswer). ((‵ (flft κ q) ⊛ ‵ ftrue) ⊛ ‵ (S.the-row .own r (u ∷ []))) ⊛ raw (ensured 𝓤 H A get-bits.ended (get-bits.clauses 𝓤 H A mem run) (κ, tt) (reader at, (n, tt)) tt r)))) (id⊢ 𝓤 _) $ await ! tt $ pick ! (λ r.
         split ! $ move ! (1 ∷ []) $ use1 W (raw (fact 𝓤 (Told r))) (bits-said r) $ heard ! (Told r) (λ e. split ! $ move ! (1 ∷ []) $
-        -- [the answer; the token; what the payload owns; _5; …; _4; …; _3; …; _2; …; _1; …; room for _0; …]
+        -- [the answer; the token; what the payload owns; _5; …; _4; …; _3; …; _2; …; _1; …; room
+        -- for _0; …]
         peeks ! S.the-row (Is S.the-row) (shows 𝓤 H A S.the-row) r (u ∷ []) (λ is. land ! (from ! (stop !)) (init ! 13 refl (EL.lawful S.the-type S′.the-laws 𝓤 H A W tt .typed r _ is .0)) $
         returns ! (look ! 13 refl) $ forget ! 3 refl $ forget ! 5 refl $ forget ! 7 refl $ forget ! 9 refl $ forget ! 11 refl $ forget ! 13 refl $
         move ! (13 ∷ 14 ∷ []) $ free1 ! $ move ! (11 ∷ 12 ∷ []) $ free1 ! $ move ! (9 ∷ 10 ∷ []) $ free1 ! $ move ! (7 ∷ 8 ∷ []) $ free1 ! $ move ! (5 ∷ 6 ∷ []) $ free1 ! $ move ! (3 ∷ 4 ∷ []) $ free1 ! $ free0 ! $

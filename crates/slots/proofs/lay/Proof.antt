@@ -1,4 +1,5 @@
--- `slots::lay` meets its contract. The loop's invariant: the first i values are copied, and the list has its length. The measure is what is left of the values.
+-- `slots::lay` meets its contract. The loop's invariant: the first i values are copied, and the
+-- list has its length. The measure is what is left of the values.
 -- Assumes nothing.
 use mathlib.Core.Path.{_≡_, refl, _∙_}
 use Prim.Native.Nat.{_≤_, _-_}
@@ -10,7 +11,7 @@ use lib.Seq.{paste, paste-zero, paste-suc}
 use mir.Syntax.{w32}
 use mir.ValLaws.{toZ-ofZ}
 use borrow.Author.Needs.{needs}
-use Rattle.slots.proofs.SlotLaws.{copied}
+use Rattle.overlay.proofs.OverlayLaws.{overlay-copied}
 use Rattle.slots.proofs.lay.Statement.{statement}
 use Rattle.slots.proofs.lay.Tie as tie
 
@@ -58,7 +59,7 @@ returns : tie.Need-returns Inv-loop μ-loop
 returns c =
     let a = c .before .before .args in
     let t = c .before .loop in
-    t .inv .2 ∙ copied (a .slots .now) (a .values .now) (a .at) (t .i) (omega arith) (omega arith)
+    t .inv .2 ∙ overlay-copied (a .slots .now) (a .values .now) (a .at) (t .i) (omega arith)
 
 pub lay-spec : {M : Type 1} → statement M
 lay-spec =

@@ -1,5 +1,6 @@
--- `bit_reader::BitReader::get_bits` meets its contract: a walk by hand. The reader is taken apart, and `checked_get_bits` is called on the payload,
--- the place and the width; all that is known of it is that it meets its contract.
+-- `bit_reader::BitReader::get_bits` meets its contract: a walk by hand. The reader is taken apart,
+-- and `checked_get_bits` is called on the payload, the place and the width; all that is known of it
+-- is that it meets its contract.
 -- Assumes nothing.
 use mathlib.Core.Path.{_≡_, refl}
 use Prim.Native.Nat.{ℕ, _<_, _^_}

@@ -1,5 +1,6 @@
--- `bit_reader::BitReader::get_unary` meets its contract: a walk by hand. The reader is taken apart, and `checked_get_unary` is called on the payload
--- and the place; all that is known of it is that it meets its contract.
+-- `bit_reader::BitReader::get_unary` meets its contract: a walk by hand. The reader is taken apart,
+-- and `checked_get_unary` is called on the payload and the place; all that is known of it is that
+-- it meets its contract.
 -- Assumes nothing.
 use mathlib.Core.Path.{_≡_, refl}
 use Prim.Native.Nat.{_<_, _^_}

@@ -1,5 +1,6 @@
--- `bit_reader::BitReader::moved_to` meets its contract: a walk by hand. The reader that is handed back has the payload of the one passed, and the
--- place passed. Assumes nothing.
+-- `bit_reader::BitReader::moved_to` meets its contract: a walk by hand. The reader that is handed
+-- back has the payload of the one passed, and the place passed.
+-- Assumes nothing.
 use mathlib.Core.Path.{refl}
 use Prim.Native.Nat.{ℕ, _<_, _^_}
 use mathlib.Core.List.{[], _∷_}

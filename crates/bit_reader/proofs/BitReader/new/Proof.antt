@@ -1,5 +1,6 @@
--- `bit_reader::BitReader::new` meets its contract: a walk by hand. The reader is made of the payload that is passed and the place 0. A `&[u8]` is
--- Copy, so what the payload owns is had twice: inside the reader, and for the caller.
+-- `bit_reader::BitReader::new` meets its contract: a walk by hand. The reader is made of the
+-- payload that is passed and the place 0. A `&[u8]` is Copy, so what the payload owns is had twice:
+-- inside the reader, and for the caller.
 -- Assumes nothing.
 use mathlib.Core.Path.{refl}
 use Prim.Native.Nat.{ℕ}

@@ -1,11 +1,13 @@
--- `checked_put_bits` meets its contract: each test as it was met on the way, and what `lay_bits` leaves. Assumes nothing.
+-- `checked_put_bits` meets its contract: each test as it was met on the way, and what `lay_bits`
+-- leaves.
+-- Assumes nothing.
 use borrow.Author.Needs.{needs}
 use native.Mathlib.Omega.{arith}
 use mathlib.Core.Path.{ap}
 use mathlib.Core.List.{[], _∷_}
 use Prim.Native.Nat.{ℕ}
 use denote.Ref.{now}
-use Rattle.bits.proofs.CheckedLaws.{written-large, written-wide, written-short, written-laid}
+use Rattle.bits.proofs.CheckedLaws.{written-large, written-wide, written-short, written-accepted}
 use Rattle.bits.proofs.checked.checked_put_bits.Statement.{statement}
 use Rattle.bits.proofs.checked.checked_put_bits.Tie as tie
 
@@ -46,7 +48,7 @@ returns-5 : tie.Need-returns-5
 returns-5 c =
     let a = c .before .before .before .before .before .before .before .before .before .args in
     let l = c .before .before .lay-bits in
-    let e = written-laid (now (a .out)) (a .at) (a .v) (a .count) (omega arith) (omega arith) (omega arith) in
+    let e = written-accepted (now (a .out)) (a .at) (a .v) (a .count) (omega arith) (omega arith) (omega arith) in
     (rw e (ap (λ (n : ℕ). 0 ∷ n ∷ []) (l .ensures .1)), rw e (l .ensures .0))
 
 pub checked-put-bits-spec : {M : Type 1} → statement M

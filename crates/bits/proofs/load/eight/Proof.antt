@@ -1,4 +1,5 @@
--- `eight` meets its contract: eight bytes make their number out of four and four, by `joined`. Assumes nothing.
+-- `eight` meets its contract: eight bytes make their number out of four and four, by `joined`.
+-- Assumes nothing.
 use borrow.Author.Needs.{needs}
 use native.Mathlib.Omega.{arith}
 use denote.Ref.{now}

@@ -1,4 +1,5 @@
--- `four` meets its contract: four bytes make their number out of two and two, by `joined`. Assumes nothing.
+-- `four` meets its contract: four bytes make their number out of two and two, by `joined`.
+-- Assumes nothing.
 use borrow.Author.Needs.{needs}
 use native.Mathlib.Omega.{arith}
 use denote.Ref.{now}

@@ -1,4 +1,6 @@
--- `window` meets its contract: near the end the loop holds the number of the first j bytes, and `more` adds one. Assumes nothing.
+-- `window` meets its contract: near the end the loop holds the number of the first j bytes, and
+-- `more` adds one.
+-- Assumes nothing.
 use borrow.Author.Needs.{needs}
 use native.Mathlib.Omega.{arith}
 use mathlib.Core.Path.{_≡_, refl, sym, ap, _∙_}

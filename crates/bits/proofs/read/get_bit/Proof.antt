@@ -1,4 +1,5 @@
--- `get_bit` meets its contract: inside the payload by `bit-read`, past its end by `bits-no`. Assumes nothing.
+-- `get_bit` meets its contract: inside the payload by `bit-read`, past its end by `bits-no`.
+-- Assumes nothing.
 use borrow.Author.Needs.{needs}
 use native.Mathlib.Omega.{arith}
 use mathlib.Core.Path.{sym}

@@ -1,4 +1,6 @@
--- `get_bits` meets its contract: the bits come out of the window at the place, by `tail-window` and `window-bits`. Assumes nothing.
+-- `get_bits` meets its contract: the bits come out of the window at the place, by `tail-window` and
+-- `window-bits`.
+-- Assumes nothing.
 use borrow.Author.Needs.{needs}
 use native.Mathlib.Omega.{arith}
 use mathlib.Core.Path.{_≡_, sym}

@@ -1,4 +1,6 @@
--- `get_unary` meets its contract: the loop has passed ones only, and the bit at p ends it or is passed too. Assumes nothing.
+-- `get_unary` meets its contract: the loop has passed ones only, and the bit at p ends it or is
+-- passed too.
+-- Assumes nothing.
 use native.Mathlib.Omega.{arith}
 use mathlib.Core.Path.{_≡_, sym, ap₂, _∙_}
 use Prim.Native.Nat.{_+_, _/_, _%_, _^_, _≤_}

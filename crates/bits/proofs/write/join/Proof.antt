@@ -1,4 +1,5 @@
--- `join` meets its contract: the two parts do not overlap, so that their sum is the byte and fits. Assumes nothing.
+-- `join` meets its contract: the two parts do not overlap, so that their sum is the byte and fits.
+-- Assumes nothing.
 use borrow.Author.Needs.{needs}
 use native.Mathlib.Omega.{arith}
 use native.Mathlib.Nat.{mod-lt}

@@ -1,4 +1,5 @@
--- `lay_bits` meets its contract: a put into the lent rest is one into the buffer, by `put-lent`. Assumes nothing.
+-- `lay_bits` meets its contract: a put into the lent rest is one into the buffer, by `put-lent`.
+-- Assumes nothing.
 use borrow.Author.Needs.{needs}
 use native.Mathlib.Omega.{arith}
 use mathlib.Core.Path.{refl}

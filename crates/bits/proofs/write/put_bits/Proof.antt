@@ -1,4 +1,6 @@
--- `put_bits` meets its contract: the loop has put the i low bits, and `put-low` adds those of one byte. Assumes nothing.
+-- `put_bits` meets its contract: the loop has put the i low bits, and `put-low` adds those of one
+-- byte.
+-- Assumes nothing.
 use borrow.Author.Needs.{needs}
 use native.Mathlib.Omega.{arith}
 use mathlib.Core.Path.{_≡_, refl, sym, _∙_}

@@ -1,4 +1,6 @@
--- `put_chunk` meets its contract: a store to one byte is a put of bits that lie within it, by `put-byte`. Assumes nothing.
+-- `put_chunk` meets its contract: a store to one byte is a put of bits that lie within it, by
+-- `put-byte`.
+-- Assumes nothing.
 use borrow.Author.Needs.{needs}
 use native.Mathlib.Omega.{arith}
 use denote.Ref.{now}

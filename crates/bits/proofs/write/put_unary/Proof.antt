@@ -1,4 +1,5 @@
--- `put_unary` meets its contract: two puts are one of both fields joined, by `put-two`. Assumes nothing.
+-- `put_unary` meets its contract: two puts are one of both fields joined, by `put-two`.
+-- Assumes nothing.
 use borrow.Author.Needs.{needs}
 use native.Mathlib.Omega.{arith}
 use mathlib.Core.Path.{sym, ap, _∙_}

@@ -1,4 +1,5 @@
--- `fields::code::read_code` meets its contract: each way out is the definition, rewritten with the parts that were read on the way.
+-- `fields::code::read_code` meets its contract: each way out is the definition, rewritten with the
+-- parts that were read on the way.
 -- Assumes nothing.
 use borrow.Author.Needs.{needs}
 use native.Mathlib.Omega.{arith}

@@ -1,4 +1,5 @@
--- `fields::code::read_truncated_binary` meets its contract: what is known of the bit length makes the shift and the differences fit.
+-- `fields::code::read_truncated_binary` meets its contract: what is known of the bit length makes
+-- the shift and the differences fit.
 -- Assumes nothing.
 use borrow.Author.Needs.{needs}
 use native.Mathlib.Omega.{arith}

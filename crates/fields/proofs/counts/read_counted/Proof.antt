@@ -1,4 +1,5 @@
--- `fields::counts::read_counted` meets its contract: each way out is the definition, rewritten with the tests and the field on the way.
+-- `fields::counts::read_counted` meets its contract: each way out is the definition, rewritten with
+-- the tests and the field on the way.
 -- Assumes nothing.
 use borrow.Author.Needs.{needs}
 use native.Mathlib.Omega.{arith}

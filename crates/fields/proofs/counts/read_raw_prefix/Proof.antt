@@ -1,15 +1,17 @@
--- `fields::counts::read_raw_prefix` meets its contract: each way out is the definition, rewritten with the tests and the parts on the way.
+-- `fields::counts::read_raw_prefix` meets its contract: each way out is the definition, rewritten
+-- with the tests and the parts on the way.
 -- Assumes nothing.
 use borrow.Author.Needs.{needs}
 use native.Mathlib.Omega.{arith}
 use mathlib.Core.Path.{_≡_, sym, _∙_}
+use mathlib.Core.Bool.{cond}
 use Prim.Native.Nat.{_+_}
 use lib.Dec.{leb}
 use denote.Ref.{now}
 use borrow.Author.Tests.{lt-ltb, le-ltb, le-leb, lt-leb, eq-eqb, ne-eqb}
 use Rattle.bits.specs.Bits.{bitsOf}
 use Rattle.bits.specs.Fields.{unary}
-use Rattle.fields.specs.Counts.{escaped, prefix, pickPrefix}
+use Rattle.fields.specs.Counts.{escaped, prefix}
 use Rattle.fields.specs.declared.Prefix.{Prefix}
 use Rattle.bits.specs.declared.Field.the-variants.{Value}
 use Rattle.fields.proofs.counts.read_raw_prefix.Statement.{statement}
@@ -83,7 +85,7 @@ returns-6 c =
 third : (c : tie.After-known-told3) →
     let a = c .before .before .before .before .before .before .before .before .before .before .before .before .before .before .before .before .args in
     let v = c .before .rest .given .0 in
-    prefix (bitsOf (now (a .payload))) (a .place) ≡ pickPrefix (leb (16 + v .0) 4294967295) (Prefix.Value (16 + v .0) (v .1 .0)) Prefix.Truncated
+    prefix (bitsOf (now (a .payload))) (a .place) ≡ cond (leb (16 + v .0) 4294967295) (Prefix.Value (16 + v .0) (v .1 .0)) Prefix.Truncated
 unfolding escaped
 third c = rw (past (c .before .before .before .before .before .before), ne-eqb _ _ (c .before .before .before .before .before .if2 .left), le-ltb _ _ (c .before .before .before .before .if3 .left), sym (c .before .before .before .read-counted .ensures) ∙ c .before .rest .given .1)
 

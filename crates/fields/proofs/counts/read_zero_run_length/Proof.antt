@@ -1,4 +1,5 @@
--- `fields::counts::read_zero_run_length` meets its contract: each way out is the definition, rewritten with the tests and the count on the way.
+-- `fields::counts::read_zero_run_length` meets its contract: each way out is the definition,
+-- rewritten with the tests and the count on the way.
 -- Assumes nothing.
 use borrow.Author.Needs.{needs}
 use mathlib.Core.Path.{sym, _∙_}
