@@ -1,4 +1,5 @@
--- An accepted word, and an accepted reading, depend only on the bits up to the place after them: bytes behind never matter.
+-- An accepted word, and an accepted reading, depend only on the bits up to the place after them:
+-- bytes behind never matter.
 -- Assumes nothing.
 use mathlib.Core.Path.{_≡_, refl, sym, ap, _∙_}
 use mathlib.Core.Bool.{Bool, cond}
@@ -93,7 +94,8 @@ word-local p s = local-zeros (s .debt) p (λ d. given (pos 0) p (paid d s) none)
 
 -- ---- the laws
 
--- an accepted word: any payload with the same bits up to its place after gives the same sample, place, state and report
+-- an accepted word: any payload with the same bits up to its place after gives the same sample,
+-- place, state and report
 pub word-upto : (a b : List Bool) (p q : ℕ) (s t : State) (v : ℤ) (z : Report) → word a p s ≡ given v q t z → take q a ≡ take q b → word b p s ≡ given v q t z
 word-upto a b p q s t v z e h = word-local p s .same a b q (ap wordEnd e) h ∙ e
 

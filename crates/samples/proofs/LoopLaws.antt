@@ -25,8 +25,8 @@ use Rattle.samples.proofs.HeldLaws.{Held, held-start, held-due, held-pa
 use Rattle.samples.proofs.WordLaws.{word-paid, word-fresh}
 use Rattle.samples.proofs.ZeroLaws.{zeroed-length, zeroed-first}
 
--- before word i: the locals hold a state, the first i elements are written, the others are as they were, and what is written joined to the reading of
--- the words that are left is the whole reading
+-- before word i: the locals hold a state, the first i elements are written, the others are as they
+-- were, and what is written joined to the reading of the words that are left is the whole reading
 pub record Words (payload : List ℕ) (out₀ : List ℤ) (s₀ : State) (out : List ℤ) (ms : List AdaptiveMedians) (owed : ℕ) (b z o : Bool) (p i : ℕ) : Type 0 where
   pub state : State
   pub held : Held state ms owed b z o i

@@ -1,5 +1,6 @@
--- A word is refused with 3 only where a bit is missing or a count or a prefix value is over its cap, with 4 only at a second count of 33, and with no
--- other number; a reading is refused with what its first refused word says.
+-- A word is refused with 3 only where a bit is missing or a count or a prefix value is over its
+-- cap, with 4 only at a second count of 33, and with no other number; a reading is refused with
+-- what its first refused word says.
 -- Assumes nothing.
 use mathlib.Core.Path.{_≡_, refl, sym, _∙_}
 use mathlib.Core.Bool.{Bool, true, false, cond}

@@ -1,5 +1,5 @@
--- What words give is small: each sample is a 32-bit number, a refusal is 3 or 4, and there are no more samples than words. A refusal before any word is
--- at most 6.
+-- What words give is small: each sample is a 32-bit number, a refusal is 3 or 4, and there are no
+-- more samples than words. A refusal before any word is at most 6.
 -- Assumes nothing.
 use mathlib.Core.Path.{_≡_, refl}
 use mathlib.Core.Bool.{Bool, true, false, cond, _||_}

@@ -1,4 +1,5 @@
--- What the parts of a word that the code reads one after another stand for: each is right for every state that holds the numbers it was given.
+-- What the parts of a word that the code reads one after another stand for: each is right for every
+-- state that holds the numbers it was given.
 -- Assumes nothing.
 use mathlib.Core.Path.{_≡_}
 use mathlib.Core.Bool.{Bool}
@@ -76,7 +77,8 @@ abbrev pub zeroed : List ℤ → ℕ → ℕ → List ℤ
 zeroed l i zero = l
 zeroed l i (suc n) = set (zeroed l i n) (i + n) (pos 0)
 
--- the zeros of a run from `first` on, the first and `behind` more, as far as the list goes; r is the index after them
+-- the zeros of a run from `first` on, the first and `behind` more, as far as the list goes; r is
+-- the index after them
 pub record ZerosIs (before after : List ℤ) (first behind r : ℕ) : Type 0 where
   pub list-is : after ≡ zeroed before first (r - first)
   pub some : first < r

@@ -57,7 +57,8 @@ oneWord payload p s =
 
 -- ---- reading
 
--- what reading answers: the refusal's number (0: accepted), bits used, medians after, samples written; and what the lent list then holds
+-- what reading answers: the refusal's number (0: accepted), bits used, medians after, samples
+-- written; and what the lent list then holds
 pub record ReadTold : Type 0 where
   pub refusal : ℕ
   pub bits : ℕ
@@ -79,17 +80,20 @@ toldReading list r = record {
   list = r .samples ++ drop (length (r .samples)) list;
 }
 
--- document 01 (X2): "Reading: 5, over 131,072 frames or 4,194,304 payload bytes; 6, list length; 1; 2, mono or a negative median"; 0: words follow
+-- document 01 (X2): "Reading: 5, over 131,072 frames or 4,194,304 payload bytes; 6, list length; 1;
+-- 2, mono or a negative median"; 0: words follow
 unfoldable pub readRefusal : List ℕ → List ℕ → ℕ → List ℤ → ℕ
 readRefusal entropy payload frames list =
     cond (ltb 131072 frames || ltb 4194304 (length payload)) 5 (cond (eqb (length list) (2 * frames)) (seedRefusal entropy) 6)
 
--- document 01 (R6): "One that comes before any word is tried tells 0 for bits and medians"; else what follows
+-- document 01 (R6): "One that comes before any word is tried tells 0 for bits and medians"; else
+-- what follows
 abbrev pub unlessRefused : List ℤ → ℕ → ReadTold → ReadTold
 unlessRefused list zero told = told
 unlessRefused list (suc c) told = record { refusal = suc c; bits = 0; medians = zeroPair; written = 0; list = list }
 
--- document 01, "Reading, from the entry down" (R1 to R6): 2 times frames words from the seed medians on
+-- document 01, "Reading, from the entry down" (R1 to R6): 2 times frames words from the seed
+-- medians on
 unfoldable pub readEntry : List ℕ → List ℕ → ℕ → List ℤ → ReadTold
 readEntry entropy payload frames list =
     unlessRefused list (readRefusal entropy payload frames list)

@@ -1,5 +1,6 @@
-// Implements document 01, "One word", steps 2 to 4, from numbers alone: the payload, the place, the medians due and the two flags.
-// No part hands a whole state on, which would cost more than the reading itself; and each part is called at one place of the next.
+// Implements document 01, "One word", steps 2 to 4, from numbers alone: the payload, the place, the
+// medians due and the two flags. No part hands a whole state on, which would cost more than the
+// reading itself; and each part is called at one place of the next.
 ghost use mathlib.Core.Path.{_≡_};
 ghost use Prim.Native.Nat.{_%_, _≤_, _<_};
 ghost use lib.ListN.{length};
@@ -100,7 +101,8 @@ fn not_counted(prefix: Prefix) -> OnesCount
     }
 }
 
-// Step 3: the count of a word, folded with the flags that the word before it left, and the flags after it.
+// Step 3: the count of a word, folded with the flags that the word before it left, and the flags
+// after it.
 fn read_folded_ones_count(
     payload: &[u8],
     place: usize,

@@ -1,4 +1,5 @@
-// Implements document 01, "One word", as an entry of its own: for a caller that holds the state from word to word.
+// Implements document 01, "One word", as an entry of its own: for a caller that holds the state
+// from word to word.
 ghost use mathlib.Core.Path.{_≡_};
 ghost use Prim.Native.Nat.{_<_};
 ghost use lib.IntN.{pos};
@@ -114,8 +115,9 @@ fn adapted(
     next
 }
 
-// The word at a place of the payload, in any state. Refuses with 5 a payload of over 4,194,304 bytes, with 12 a channel above 1, then with 3 or 4
-// what the word runs into; a refusal gives sample 0, the old place, the old state and no report.
+// The word at a place of the payload, in any state. Refuses with 5 a payload of over 4,194,304
+// bytes, with 12 a channel above 1, then with 3 or 4 what the word runs into; a refusal gives
+// sample 0, the old place, the old state and no report.
 pub fn decode_sample_stateful_stereo(
     payload: &[u8],
     place: usize,

@@ -1,4 +1,5 @@
--- `samples::one_word::decode_sample_stateful_stereo` meets its contract: each way out is a law of the entry.
+-- `samples::one_word::decode_sample_stateful_stereo` meets its contract: each way out is a law of
+-- the entry.
 -- Assumes nothing.
 use borrow.Author.Needs.{needs}
 use native.Mathlib.Omega.{arith}
