@@ -1,4 +1,5 @@
--- Worked cases of document 01, over the definitions: the two starred inputs of `wvpair`, and the fields at their caps.
+-- Worked cases of document 01, over the definitions: the two starred inputs of `wvpair`, and the
+-- fields at their caps.
 -- Assumes nothing.
 use mathlib.Core.Path.{_≡_, refl}
 use mathlib.Core.Bool.{Bool, true, false}
@@ -19,7 +20,7 @@ use Rattle.logpack.specs.Exp2Table.{exp2Table}
 use Rattle.logpack.specs.LogWord.{mantissa, magnitude, logWord}
 use Rattle.medians.specs.Interval.{lowOf, highOf}
 use Rattle.medians.specs.Adaptation.{up, down, adapt}
-use Rattle.samples.specs.State.{paid, inRun, unbroken, cleared, flagged, after, runDue}
+use Rattle.word_state.specs.State.{paid, inRun, unbroken, cleared, flagged, after, runDue}
 use Rattle.samples.specs.Word.{value, plain, fresh, word}
 use Rattle.samples.specs.Reading.{reading}
 use Rattle.samples.specs.View.{ReadTold, readRefusal, readEntry}
@@ -46,7 +47,8 @@ pub starred-second : told (readEntry seeds (7 ∷ []) 2 (blank 4)) ≡ (0, 6, 4,
 unfolding readEntry readRefusal seedRefusal seedMedians entropyRefusal entropyInfo wordSet isMono anyNegative notStereo logWord magnitude mantissa exp2Table reading word fresh plain value paid inRun unbroken cleared flagged after runDue adapt up down lowOf highOf prefix escaped runLength counted truncatedBinary codeOf bitLength leadingZeros getBits unary low num bitsOf ones
 starred-second = refl
 
--- document 01 (R5): a refusal "in the first word .. tells bits 0 and the seed medians"; here its sign is missing
+-- document 01 (R5): a refusal "in the first word .. tells bits 0 and the seed medians"; here its
+-- sign is missing
 pub refused-first : let r = readEntry seeds (126 ∷ []) 1 (blank 2) in (told r ≡ (3, 0, 0, blank 2)) × (r .medians ≡ seedMedians seeds)
 unfolding readEntry readRefusal seedRefusal seedMedians entropyRefusal entropyInfo wordSet isMono anyNegative notStereo logWord magnitude mantissa exp2Table reading word fresh plain value paid inRun unbroken cleared flagged after runDue adapt up down lowOf highOf prefix escaped runLength counted truncatedBinary codeOf bitLength leadingZeros getBits unary low num bitsOf ones
 refused-first = (refl, refl)

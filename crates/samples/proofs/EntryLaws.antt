@@ -16,7 +16,7 @@ use Rattle.answers.proofs.NumberLaws.{number-positive}
 use Rattle.bits.specs.Bits.{bitsOf}
 use Rattle.entropy.specs.Medians.{MedianPair, pairOf, zeroPair}
 use Rattle.entropy.specs.Seed.{seedRefusal, seedMedians}
-use Rattle.samples.specs.State.{start}
+use Rattle.word_state.specs.State.{start}
 use Rattle.samples.specs.Reading.{reading}
 use Rattle.samples.specs.View.{ReadTold, readToldOf, toldReading, readRefusal, unlessRefused, readEntry}
 use Rattle.samples.specs.declared.ReadAnswer.{ReadAnswer}

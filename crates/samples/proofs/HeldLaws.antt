@@ -1,31 +1,17 @@
--- What the reading loop's locals hold of a state, and that each kind of word keeps them in step with it.
+-- What the reading loop's locals hold of a state, and that each kind of word keeps them in step
+-- with it.
 -- Assumes nothing.
 use mathlib.Core.Path.{_≡_, refl, sym, ap, _∙_}
 use mathlib.Core.Bool.{Bool, true, false}
-use mathlib.Core.List.{List, [], _∷_, map}
+use mathlib.Core.List.{List, [], _∷_}
 use Prim.Native.Nat.{ℕ, zero, suc, _+_, _%_, _<_}
 use native.Mathlib.Omega.{arith}
-use lib.ListN.{length, getD, set, length-set, length-map}
+use lib.ListN.{length, getD, set, length-set}
 use Rattle.entropy.specs.declared.AdaptiveMedians.{AdaptiveMedians}
 use Rattle.entropy.specs.Medians.{mediansOf, pairOf, zeroSet}
 use Rattle.medians.specs.Adaptation.{adapt}
-use Rattle.samples.specs.State.{State, start, side, flip, due, withFlags, paid, inRun, unbroken, after}
-
--- an array of structs has the length of its values
-pub length-mapped : (X Y : Type 0) (f : X → Y) (l : List X) (n : ℕ) → length (map f l) ≡ n → length l ≡ n
-length-mapped X Y f l n e = sym (length-map l f) ∙ e
-
--- the set that the code's array would give past its end
-abbrev pub noSet : AdaptiveMedians
-noSet = record { values = [] }
-
--- of two sets, each is there
-pub there : (ms : List AdaptiveMedians) (c : ℕ) → length ms ≡ 2 → c < 2 → getD ms c noSet ≡ getD ms c zeroSet
-there [] c l h = absurd (omega arith)
-there (a ∷ []) c l h = absurd (omega arith)
-there (a ∷ b ∷ ms) zero l h = refl
-there (a ∷ b ∷ ms) (suc zero) l h = refl
-there (a ∷ b ∷ ms) (suc (suc c)) l h = absurd (omega arith)
+use Rattle.word_state.proofs.StateLaws.{turned, noSet, there, picked}
+use Rattle.word_state.specs.State.{State, start, side, flip, due, withFlags, paid, inRun, unbroken, after}
 
 -- the array of medians and the other locals hold the state before word i
 pub record Held (s : State) (medians : List AdaptiveMedians) (owed : ℕ) (broken zero one : Bool) (i : ℕ) : Type 0 where
@@ -37,21 +23,6 @@ pub record Held (s : State) (medians : List AdaptiveMedians) (owed : ℕ) (broke
   pub zero-is : s .lastZero ≡ zero
   pub one-is : s .lastOne ≡ one
   pub channel-is : s .channel ≡ i % 2
-
--- the channel of the next word
-pub turned : (i : ℕ) → flip (i % 2) ≡ (i + 1) % 2
-turned i = go (i % 2) refl
-  where
-    go : (x : ℕ) → i % 2 ≡ x → flip x ≡ (i + 1) % 2
-    go zero e = omega arith
-    go (suc zero) e = omega arith
-    go (suc (suc x)) e = absurd (omega arith)
-
--- a set of the two by its channel
-pub picked : (ms : List AdaptiveMedians) (c : ℕ) → c < 2 → side c (pairOf ms .left) (pairOf ms .right) ≡ mediansOf (getD ms c zeroSet)
-picked ms zero h = refl
-picked ms (suc zero) h = refl
-picked ms (suc (suc c)) h = absurd (omega arith)
 
 -- both sets, where the one of a channel is replaced by its adaptation
 pub record Replaced (ms : List AdaptiveMedians) (x : AdaptiveMedians) (c k : ℕ) : Type 0 where

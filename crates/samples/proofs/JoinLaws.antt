@@ -8,8 +8,8 @@ use denote.Enum.Declared.{tagOf}
 use lib.IntN.{ℤ}
 use types.Run.{OneOf, miss}
 use Rattle.entropy.specs.Medians.{Medians}
-use Rattle.samples.specs.State.{withFlags, unbroken}
-use Rattle.samples.specs.Parts.{ValueIs, CountIs, notCoded, PlainIs, RunIs, CodedIs}
+use Rattle.word_state.specs.State.{withFlags, unbroken}
+use Rattle.samples.specs.Parts.{ValueIs, CountIs, notCoded, PlainIs, ZeroRunIs, CodedIs}
 use Rattle.samples.specs.declared.coded.OnesCount.{OnesCount}
 use Rattle.samples.specs.declared.coded.SignedValue.{SignedValue}
 use Rattle.samples.specs.declared.coded.ZeroRun.{ZeroRun}
@@ -36,11 +36,11 @@ module _ (bits : List Bool) (p : ℕ) (m : Medians) (z o : Bool) where
     plain-sample x n v = record { is = λ s d e f. v .is (withFlags a b (unbroken s)) d ∙ h .is (unbroken s) e f }
 
   module _ (read : Bool) where
-    pub coded-run : (d q : ℕ) → RunIs bits p read (ZeroRun.Run d q) → CodedIs bits p read m z o (Coded.Run d q)
+    pub coded-run : (d q : ℕ) → ZeroRunIs bits p read (ZeroRun.Run d q) → CodedIs bits p read m z o (Coded.Run d q)
     coded-run d q h = record { is = λ s r d e f. h .is s r }
 
-    pub coded-missing : RunIs bits p read ZeroRun.Truncated → CodedIs bits p read m z o Coded.Truncated
+    pub coded-missing : ZeroRunIs bits p read ZeroRun.Truncated → CodedIs bits p read m z o Coded.Truncated
     coded-missing h = record { is = λ s r d e f. h .is s r }
 
-    pub coded-word : (q : ℕ) (x : Coded) → RunIs bits p read (ZeroRun.Word q) → PlainIs bits q m z o x → CodedIs bits p read m z o x
+    pub coded-word : (q : ℕ) (x : Coded) → ZeroRunIs bits p read (ZeroRun.Word q) → PlainIs bits q m z o x → CodedIs bits p read m z o x
     coded-word q x h g = record { is = λ s r d e f. g .is s d e f ∙ h .is s r }

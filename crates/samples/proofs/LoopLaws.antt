@@ -1,7 +1,7 @@
 -- The reading loop: its invariant, and what a turn and each way out make of it.
 -- Assumes nothing.
 use mathlib.Core.Path.{_≡_, refl, sym, ap, ap₂, _∙_}
-use mathlib.Core.Bool.{Bool, true, false}
+use mathlib.Core.Bool.{Bool, true, false, not, _&&_}
 use mathlib.Core.List.{List, [], _∷_, _++_}
 use Prim.Native.Nat.{ℕ, zero, suc, _+_, _-_, _%_, _≤_, _<_}
 use native.Mathlib.Numerals.{add-one}
@@ -13,19 +13,20 @@ use Rattle.bits.specs.Bits.{bitsOf}
 use Rattle.entropy.specs.declared.AdaptiveMedians.{AdaptiveMedians}
 use Rattle.entropy.specs.Medians.{Medians, mediansOf, pairOf, zeroSet}
 use Rattle.medians.specs.Adaptation.{adapt}
-use Rattle.samples.specs.State.{State, start, paid}
+use Rattle.word_state.specs.State.{State, start, paid, runDue}
+use Rattle.word_state.proofs.StateLaws.{noSet, there}
 use Rattle.samples.specs.Word.{Report, given, refused, word}
 use Rattle.samples.specs.Reading.{reading}
-use Rattle.samples.specs.Parts.{eligible, codedWord, CodedIs, zeroed, ZerosIs}
+use Rattle.samples.specs.Parts.{codedWord, CodedIs, zeroed, ZerosIs}
 use Rattle.samples.specs.View.{toldReading}
 use Rattle.samples.specs.declared.coded.Coded.{Coded}
 use Rattle.samples.proofs.ReadingLaws.{prepend, reading-on, reading-stop, reading-end}
-use Rattle.samples.proofs.HeldLaws.{noSet, there, Held, held-start, held-due, held-paid, held-run, held-sample}
+use Rattle.samples.proofs.HeldLaws.{Held, held-start, held-due, held-paid, held-run, held-sample}
 use Rattle.samples.proofs.WordLaws.{word-paid, word-fresh}
 use Rattle.samples.proofs.ZeroLaws.{zeroed-length, zeroed-first}
 
--- before word i: the locals hold a state, the first i elements are written, the others are as they were, and what is written joined to the reading of
--- the words that are left is the whole reading
+-- before word i: the locals hold a state, the first i elements are written, the others are as they
+-- were, and what is written joined to the reading of the words that are left is the whole reading
 pub record Words (payload : List ℕ) (out₀ : List ℤ) (s₀ : State) (out : List ℤ) (ms : List AdaptiveMedians) (owed : ℕ) (b z o : Bool) (p i : ℕ) : Type 0 where
   pub state : State
   pub held : Held state ms owed b z o i
@@ -79,7 +80,7 @@ module _ (payload : List ℕ) (out₀ : List ℤ) (s₀ : State) (out : List ℤ
       let d : l .state .debt - 1 ≡ owed - 1 = omega (arith, l .held .debt-is) in
       step (pos 0) p (paid (owed - 1) (l .state)) _ ms (owed - 1) b z o h (rw d at e) (held-paid (l .state) ms owed b z o i (l .held) (owed - 1))
 
-  module _ (r : Coded) (run : Bool) (n : owed ≡ 0) (h : i < length out) (f : run ≡ eligible (mediansOf (getD ms 0 noSet) .m0) (mediansOf (getD ms 1 noSet) .m0) b z o)
+  module _ (r : Coded) (run : Bool) (n : owed ≡ 0) (h : i < length out) (f : run ≡ (not b && runDue (mediansOf (getD ms 0 noSet)) (mediansOf (getD ms 1 noSet)) z o))
       (c : CodedIs (bitsOf payload) p run (mediansOf (getD ms (i % 2) noSet)) z o r) where
     -- where none is owed, the word is what was read
     coded : codedWord (l .state) r ≡ word (bitsOf payload) p (l .state)
@@ -144,7 +145,7 @@ module _ (payload : List ℕ) (out₀ : List ℤ) (s₀ : State) (out : List ℤ
   pub loop-end : length out ≤ i → record { refusal = 0; bits = p; medians = pairOf ms; written = i; list = out } ≡ toldReading out₀ (reading (bitsOf payload) (length out₀) 0 s₀)
   loop-end h = words-end payload out₀ s₀ out ms (l .owed) b z o p i (l .words) h
 
-  module _ (r : Coded) (run : Bool) (h : i < length out) (f : run ≡ eligible (mediansOf (getD ms 0 noSet) .m0) (mediansOf (getD ms 1 noSet) .m0) b z o)
+  module _ (r : Coded) (run : Bool) (h : i < length out) (f : run ≡ (not b && runDue (mediansOf (getD ms 0 noSet)) (mediansOf (getD ms 1 noSet)) z o))
       (c : CodedIs (bitsOf payload) p run (mediansOf (getD ms (i % 2) noSet)) z o r) where
     -- the zeros of a run, as far as the list goes
     pub loop-run : (d q j : ℕ) (after : List ℤ) → r ≡ Coded.Run d q → ZerosIs out after i d j → Loop payload out₀ s₀ after (zeroSet ∷ zeroSet ∷ []) true z o q j

@@ -1,13 +1,12 @@
--- The ways out of each part of a word: what was read on the way makes the part right for every state that holds the numbers it was given.
+-- The ways out of each part of a word: what was read on the way makes the part right for every
+-- state that holds the numbers it was given.
 -- Assumes nothing.
 use mathlib.Core.Path.{_≡_, refl, sym, ap, _∙_}
-use mathlib.Core.Bool.{Bool, true, false, not, cond, _&&_, and-false}
+use mathlib.Core.Bool.{Bool, true, false, not, cond, _&&_}
 use mathlib.Core.List.{List, [], _∷_}
 use Prim.Native.Nat.{ℕ, zero, suc, _+_, _-_, _/_, _%_, _≤_, _<_}
 use native.Mathlib.Omega.{arith}
-use borrow.Author.Tests.{le-leb, lt-leb}
 use denote.Enum.Declared.{tagOf}
-use lib.Dec.{leb}
 use lib.IntN.{pos}
 use types.Run.{OneOf, miss}
 use Rattle.bits.specs.Bits.{val, bitOf}
@@ -19,9 +18,11 @@ use Rattle.fields.specs.Counts.{runLength, prefix}
 use Rattle.fields.specs.declared.Prefix.{Prefix}
 use Rattle.fields.proofs.Prefix.{the-type}
 use Rattle.medians.specs.Interval.{lowOf, highOf}
-use Rattle.samples.specs.State.{State, withRun, inRun, unbroken, cleared, flagged, runDue}
-use Rattle.samples.specs.Word.{Word, given, none, over, zoneOf, onField, onZeros, signed, value, plain, fresh}
-use Rattle.samples.specs.Parts.{ValueIs, CountIs, notCounted, eligible, runRead, RunIs}
+use Rattle.word_state.specs.State.{State, inRun, unbroken, cleared, flagged, runDue, runHere, onZeros}
+use Rattle.word_state.proofs.FlagLaws.{clash}
+use Rattle.word_state.proofs.StateLaws.{zeros-some, same-unbroken}
+use Rattle.samples.specs.Word.{Word, given, none, over, zoneOf, onField, signed, value, plain, fresh}
+use Rattle.samples.specs.Parts.{ValueIs, CountIs, notCounted, ZeroRunIs}
 use Rattle.samples.specs.declared.coded.OnesCount.{OnesCount}
 use Rattle.samples.specs.declared.coded.SignedValue.{SignedValue}
 use Rattle.samples.specs.declared.coded.ZeroRun.{ZeroRun}
@@ -67,19 +68,10 @@ count-none bits p o Prefix.Truncated h t = record { is = λ s z e. rw (z, h) }
 
 -- ---- the run length
 
--- a flag is not both set and clear
-pub clash : {A : Type 0} {b : Bool} → b ≡ true → b ≡ false → A
-clash {b = b} e f = let z : _≡_ {A = ℕ} 0 1 = ap val (sym f ∙ e) in absurd (omega arith)
-
--- where run_break is not set, clearing it changes nothing
-same-unbroken : (s : State) → s .runBreak ≡ false → s ≡ unbroken s
-unfolding unbroken
-same-unbroken s e = ap (λ (b : Bool). withRun b (s .everRun) s) e
-
 -- no run length is read: step 3 follows at the same place
-pub fresh-word : (bits : List Bool) (p : ℕ) (s : State) → runRead s ≡ false → fresh bits p s ≡ plain bits p (unbroken s)
-unfolding fresh runDue
-fresh-word bits p s e = go (s .runBreak) (runDue s) refl e
+pub fresh-word : (bits : List Bool) (p : ℕ) (s : State) → runHere s ≡ false → fresh bits p s ≡ plain bits p (unbroken s)
+unfolding fresh
+fresh-word bits p s e = go (s .runBreak) (runDue (s .left) (s .right) (s .lastZero) (s .lastOne)) refl e
   where
     read : Word
     read = onField (runLength bits p) λ n q. onZeros n (λ d. given (pos 0) q (inRun d s) none) (plain bits q s)
@@ -90,10 +82,10 @@ fresh-word bits p s e = go (s .runBreak) (runDue s) refl e
     go false false f h = ap (plain bits p) (same-unbroken s f)
 
 -- a run length is read
-pub fresh-run : (bits : List Bool) (p : ℕ) (s : State) → runRead s ≡ true
+pub fresh-run : (bits : List Bool) (p : ℕ) (s : State) → runHere s ≡ true
     → fresh bits p s ≡ onField (runLength bits p) (λ n q. onZeros n (λ d. given (pos 0) q (inRun d s) none) (plain bits q (unbroken s)))
-unfolding fresh runDue
-fresh-run bits p s e = go (s .runBreak) (runDue s) refl e
+unfolding fresh
+fresh-run bits p s e = go (s .runBreak) (runDue (s .left) (s .right) (s .lastZero) (s .lastOne)) refl e
   where
     read : State → Word
     read t = onField (runLength bits p) λ n q. onZeros n (λ d. given (pos 0) q (inRun d s) none) (plain bits q t)
@@ -104,44 +96,20 @@ fresh-run bits p s e = go (s .runBreak) (runDue s) refl e
     go false false f h = clash h refl
 
 -- no run length is read
-pub run-skipped : (bits : List Bool) (p : ℕ) → RunIs bits p false (ZeroRun.Word p)
+pub run-skipped : (bits : List Bool) (p : ℕ) → ZeroRunIs bits p false (ZeroRun.Word p)
 run-skipped bits p = record { is = λ s e. sym (fresh-word bits p s e) }
 
 -- a run length that is missing
-pub run-missing : (bits : List Bool) (p : ℕ) → runLength bits p ≡ Truncated → RunIs bits p true ZeroRun.Truncated
+pub run-missing : (bits : List Bool) (p : ℕ) → runLength bits p ≡ Truncated → ZeroRunIs bits p true ZeroRun.Truncated
 run-missing bits p h = record { is = λ s e. rw (fresh-run bits p s e, h) }
 
 -- a run length of 0
-pub run-zero : (bits : List Bool) (p n q : ℕ) → runLength bits p ≡ Value n q → n ≡ 0 → RunIs bits p true (ZeroRun.Word q)
+pub run-zero : (bits : List Bool) (p n q : ℕ) → runLength bits p ≡ Value n q → n ≡ 0 → ZeroRunIs bits p true (ZeroRun.Word q)
 run-zero bits p n q h z = record { is = λ s e. rw (fresh-run bits p s e, h, z) }
 
--- a number of zeros above 0
-pub zeros-some : {A : Type 0} (n : ℕ) (f : ℕ → A) (a : A) → 0 < n → f (n - 1) ≡ onZeros n f a
-zeros-some zero f a h = absurd (omega arith)
-zeros-some (suc d) f a h = ap f (omega arith)
-
 -- a run length above 0
-pub run-some : (bits : List Bool) (p n q : ℕ) → runLength bits p ≡ Value n q → 0 < n → RunIs bits p true (ZeroRun.Run (n - 1) q)
+pub run-some : (bits : List Bool) (p n q : ℕ) → runLength bits p ≡ Value n q → 0 < n → ZeroRunIs bits p true (ZeroRun.Run (n - 1) q)
 run-some bits p n q h l = record { is = λ s e. rw (fresh-run bits p s e, h) (zeros-some n (λ d. given (pos 0) q (inRun d s) none) (plain bits q (unbroken s)) l) }
-
--- ---- whether a run length is read, test by test
-
-module _ (l r : ℕ) (b z o : Bool) where
-  -- a left median above 1
-  pub eligible-left : 1 < l → false ≡ eligible l r b z o
-  eligible-left h = rw (lt-leb l 1 h, and-false (not b))
-
-  -- a right median above 1
-  pub eligible-right : 1 < r → false ≡ eligible l r b z o
-  eligible-right h = rw (lt-leb r 1 h, and-false (leb l 1), and-false (not b))
-
-  -- last_zero is set
-  pub eligible-zero : z ≡ true → false ≡ eligible l r b z o
-  eligible-zero h = rw (h, and-false (leb l 1 && leb r 1), and-false (not b))
-
-  -- nothing is in the way but last_one
-  pub eligible-one : l ≤ 1 → r ≤ 1 → b ≡ false → z ≡ false → not o ≡ eligible l r b z o
-  eligible-one h k f g = rw (le-leb l 1 h, le-leb r 1 k, f, g)
 
 -- the zone of a count of 3 or more, at a count that is known only by its order
 pub zone-many : (k : ℕ) → 3 ≤ k → over k ≡ zoneOf k

@@ -5,7 +5,7 @@ use mathlib.Core.Bool.{Bool}
 use mathlib.Core.List.{List, [], _∷_, _++_, append-assoc, append-nil}
 use Prim.Native.Nat.{ℕ, suc}
 use lib.IntN.{ℤ}
-use Rattle.samples.specs.State.{State}
+use Rattle.word_state.specs.State.{State}
 use Rattle.samples.specs.Word.{Report, given, refused, word}
 use Rattle.samples.specs.Reading.{Reading, reading}
 

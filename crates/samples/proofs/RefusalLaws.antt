@@ -1,5 +1,6 @@
--- A word is refused with 3 only where a bit is missing or a count or a prefix value is over its cap, with 4 only at a second count of 33, and with no
--- other number; a reading is refused with what its first refused word says.
+-- A word is refused with 3 only where a bit is missing or a count or a prefix value is over its
+-- cap, with 4 only at a second count of 33, and with no other number; a reading is refused with
+-- what its first refused word says.
 -- Assumes nothing.
 use mathlib.Core.Path.{_≡_, refl, sym, _∙_}
 use mathlib.Core.Bool.{Bool, true, false, cond}
@@ -14,12 +15,12 @@ use Rattle.bits.specs.declared.Field.the-variants.{Value, Truncated}
 use Rattle.fields.specs.Code.{truncatedBinary}
 use Rattle.fields.specs.Counts.{runLength, prefix}
 use Rattle.fields.specs.declared.Prefix.{Prefix}
-use Rattle.fields.proofs.RefusalLaws.{bits-missing, run-refused, prefix-refused, prefix-ended, code-refused}
+use Rattle.bits.proofs.ReadLaws.{bits-missing}
+use Rattle.fields.proofs.RefusalLaws.{run-refused, prefix-refused, prefix-ended, code-refused}
 use Rattle.medians.specs.Interval.{lowOf}
-use Rattle.samples.specs.State.{State, due, paid, inRun, unbroken, cleared, flagged, after}
-use Rattle.samples.specs.Word.{none, zoneOf, Word, given, refused, onField, onPrefix, onZeros, signed, value, plain, fresh, word}
+use Rattle.word_state.specs.State.{State, due, paid, inRun, unbroken, cleared, flagged, after, runHere, onZeros}
+use Rattle.samples.specs.Word.{none, zoneOf, Word, given, refused, onField, onPrefix, signed, value, plain, fresh, word}
 use Rattle.samples.specs.Reading.{Reading, onWord, more, reading}
-use Rattle.samples.specs.Parts.{runRead}
 use Rattle.samples.specs.Refused.{lastCode, Starts, Counts, Why}
 use Rattle.samples.proofs.PartLaws.{fresh-word, fresh-run}
 
@@ -62,20 +63,20 @@ module _ (bits : List Bool) (p : ℕ) (s : State) (c : ℕ) where
 
   -- the run length
   fresh-why : s .debt ≡ 0 → fresh bits p s ≡ refused c → Why bits p s c
-  fresh-why d e = go (runRead s) refl
+  fresh-why d e = go (runHere s) refl
     where
       next : ℕ → ℕ → Word
       next n q = onZeros n (λ d. given (pos 0) q (inRun d s) none) (plain bits q (unbroken s))
 
-      zeros : (n q : ℕ) → runRead s ≡ true → runLength bits p ≡ Value n q → next n q ≡ refused c → Why bits p s c
+      zeros : (n q : ℕ) → runHere s ≡ true → runLength bits p ≡ Value n q → next n q ≡ refused c → Why bits p s c
       zeros zero q r f e = plain-why q (Starts.behind q d r f) e
       zeros (suc n) q r f e = let z : _≡_ {A = ℕ} 0 1 = cc in absurd (omega arith)
 
-      run : (f : Field) → runRead s ≡ true → runLength bits p ≡ f → onField f next ≡ refused c → Why bits p s c
+      run : (f : Field) → runHere s ≡ true → runLength bits p ≡ f → onField f next ≡ refused c → Why bits p s c
       run (Field.Value n q) r f e = zeros n q r f e
       run Field.Truncated r f e = number 3 (Why.no-run d r (run-refused bits p f)) e
 
-      go : (t : Bool) → runRead s ≡ t → Why bits p s c
+      go : (t : Bool) → runHere s ≡ t → Why bits p s c
       go true r = run (runLength bits p) r refl (sym (fresh-run bits p s r) ∙ e)
       go false r = plain-why p (Starts.here d r) (sym (fresh-word bits p s r) ∙ e)
 

@@ -1,5 +1,5 @@
--- What words give is small: each sample is a 32-bit number, a refusal is 3 or 4, and there are no more samples than words. A refusal before any word is
--- at most 6.
+-- What words give is small: each sample is a 32-bit number, a refusal is 3 or 4, and there are no
+-- more samples than words. A refusal before any word is at most 6.
 -- Assumes nothing.
 use mathlib.Core.Path.{_≡_, refl}
 use mathlib.Core.Bool.{Bool, true, false, cond, _||_}
@@ -22,8 +22,8 @@ use Rattle.fields.specs.declared.Prefix.{Prefix}
 use Rattle.fields.proofs.CodeLaws.{code-most}
 use Rattle.medians.specs.Interval.{lowOf, highOf}
 use Rattle.medians.proofs.IntervalLaws.{ends}
-use Rattle.samples.specs.State.{State, due, paid, inRun, unbroken, cleared, flagged, after, runDue}
-use Rattle.samples.specs.Word.{Word, given, refused, none, zoneOf, signed, onField, onPrefix, onZeros, value, plain, fresh, word}
+use Rattle.word_state.specs.State.{State, due, paid, inRun, unbroken, cleared, flagged, after, runDue, onZeros}
+use Rattle.samples.specs.Word.{Word, given, refused, none, zoneOf, signed, onField, onPrefix, value, plain, fresh, word}
 use Rattle.samples.specs.Reading.{Reading, onWord, more, reading}
 use Rattle.samples.specs.View.{readRefusal}
 
@@ -83,8 +83,8 @@ small-fresh : (bits : List Bool) (p : ℕ) (s : State) → SmallWord (fresh bits
 unfolding fresh
 small-fresh bits p s =
     let run : ℕ → ℕ → Word = λ m q. onZeros m (λ d. given (pos 0) q (inRun d s) none) (plain bits q s) in
-    small-cond (s .runBreak) (plain bits p (unbroken s)) (cond (runDue s) (onField (runLength bits p) run) (plain bits p s)) (small-plain bits p (unbroken s))
-    (small-cond (runDue s) (onField (runLength bits p) run) (plain bits p s)
+    small-cond (s .runBreak) (plain bits p (unbroken s)) (cond (runDue (s .left) (s .right) (s .lastZero) (s .lastOne)) (onField (runLength bits p) run) (plain bits p s)) (small-plain bits p (unbroken s))
+    (small-cond (runDue (s .left) (s .right) (s .lastZero) (s .lastOne)) (onField (runLength bits p) run) (plain bits p s)
     (small-field (runLength bits p) run λ m q e. small-zeros m (λ d. given (pos 0) q (inRun d s) none) (plain bits q s) (λ d. omega arith) (small-plain bits q s))
     (small-plain bits p s))
 

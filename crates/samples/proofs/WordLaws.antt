@@ -1,28 +1,23 @@
 -- A word by its first step, and the one-word entry by its refusals.
 -- Assumes nothing.
 use mathlib.Core.Path.{_≡_, refl, sym, ap, _∙_}
-use mathlib.Core.Bool.{Bool}
+use mathlib.Core.Bool.{Bool, not, _&&_}
 use mathlib.Core.List.{List}
-use Prim.Native.Nat.{ℕ, zero, suc, _-_, _≤_, _<_}
+use Prim.Native.Nat.{ℕ, _-_, _≤_, _<_}
 use native.Mathlib.Omega.{arith}
 use borrow.Author.Tests.{lt-ltb, le-ltb}
 use lib.IntN.{pos}
 use lib.ListN.{length, getD}
 use Rattle.bits.specs.Bits.{bitsOf}
 use Rattle.entropy.specs.Medians.{mediansOf}
-use Rattle.samples.specs.State.{State, flip, paid}
-use Rattle.samples.specs.Word.{Word, given, refused, none, onZeros, fresh, word}
-use Rattle.samples.specs.Parts.{eligible, codedWord, CodedIs}
-use Rattle.samples.specs.View.{stateOf, toldWord, oneWord}
-use Rattle.samples.specs.declared.StereoDecodeState.{StereoDecodeState}
+use Rattle.word_state.specs.State.{State, paid, runDue}
+use Rattle.word_state.specs.View.{stateOf}
+use Rattle.word_state.specs.declared.StereoDecodeState.{StereoDecodeState}
+use Rattle.word_state.proofs.StateLaws.{noSet, there, picked, zeros-some, zeros-none}
+use Rattle.samples.specs.Word.{Word, given, refused, none, fresh, word}
+use Rattle.samples.specs.Parts.{codedWord, CodedIs}
+use Rattle.samples.specs.View.{toldWord, oneWord}
 use Rattle.samples.specs.declared.coded.Coded.{Coded}
-use Rattle.samples.proofs.PartLaws.{zeros-some}
-use Rattle.samples.proofs.HeldLaws.{noSet, there, picked}
-
--- no zeros
-zeros-none : {A : Type 0} (n : ℕ) (f : ℕ → A) (a : A) → n ≡ 0 → onZeros n f a ≡ a
-zeros-none zero f a h = refl
-zeros-none (suc d) f a h = absurd (omega arith)
 
 -- a zero is owed
 pub word-paid : (bits : List Bool) (p : ℕ) (s : State) → 0 < s .debt → word bits p s ≡ given (pos 0) p (paid (s .debt - 1) s) none
@@ -51,16 +46,10 @@ pub one-word : (payload : List ℕ) (p : ℕ) (s : State) (w : Word) → length 
 unfolding oneWord
 one-word payload p s w h l e = rw (le-ltb 4194304 (length payload) h, le-ltb 1 (s .channel) l) (ap (toldWord p s) e)
 
--- the channel that the code flips to
-pub flip-is : (c : ℕ) → c < 2 → 1 - c ≡ flip c
-flip-is zero h = refl
-flip-is (suc zero) h = refl
-flip-is (suc (suc c)) h = absurd (omega arith)
-
 -- the entry, where no zero is owed: the word is what was read
 pub one-coded : (payload : List ℕ) (p : ℕ) (st : StereoDecodeState) (run : Bool) (r : Coded)
     → length payload ≤ 4194304 → st .«next_channel» ≤ 1 → st .«zero_run_pending» ≡ 0 → length (st .medians) ≡ 2
-    → run ≡ eligible (mediansOf (getD (st .medians) 0 noSet) .m0) (mediansOf (getD (st .medians) 1 noSet) .m0) (st .«run_break») (st .«last_zero») (st .«last_one»)
+    → run ≡ (not (st .«run_break») && runDue (mediansOf (getD (st .medians) 0 noSet)) (mediansOf (getD (st .medians) 1 noSet)) (st .«last_zero») (st .«last_one»))
     → CodedIs (bitsOf payload) p run (mediansOf (getD (st .medians) (st .«next_channel») noSet)) (st .«last_zero») (st .«last_one») r
     → toldWord p (stateOf st) (codedWord (stateOf st) r) ≡ oneWord payload p (stateOf st)
 one-coded payload p st run r h l n m e c =

@@ -1,4 +1,3 @@
-pub mod State
 pub mod Word
 pub mod Reading
 pub mod Parts

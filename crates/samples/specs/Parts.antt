@@ -1,15 +1,15 @@
--- What the parts of a word that the code reads one after another stand for: each is right for every state that holds the numbers it was given.
+-- What the parts of a word that the code reads one after another stand for: each is right for every
+-- state that holds the numbers it was given.
 -- Assumes nothing.
 use mathlib.Core.Path.{_≡_}
-use mathlib.Core.Bool.{Bool, not, _&&_}
+use mathlib.Core.Bool.{Bool}
 use mathlib.Core.List.{List}
 use Prim.Native.Nat.{ℕ, zero, suc, _+_, _-_, _≤_, _<_}
-use lib.Dec.{leb}
 use lib.IntN.{ℤ, pos}
 use lib.ListN.{length, set}
 use Rattle.entropy.specs.Medians.{Medians}
 use Rattle.fields.specs.declared.Prefix.{Prefix}
-use Rattle.samples.specs.State.{State, due, withFlags, inRun, unbroken, after}
+use Rattle.word_state.specs.State.{State, due, withFlags, inRun, unbroken, after, runHere}
 use Rattle.samples.specs.Word.{Word, given, refused, none, zoneOf, value, plain, fresh}
 use Rattle.samples.specs.declared.coded.OnesCount.{OnesCount}
 use Rattle.samples.specs.declared.coded.SignedValue.{SignedValue}
@@ -41,14 +41,6 @@ notCounted (Prefix.Value r q) = OnesCount.Truncated
 notCounted Prefix.EndOfStream = OnesCount.EndOfStream
 notCounted Prefix.Truncated = OnesCount.Truncated
 
--- step 2: whether a run length is read
-abbrev pub eligible : ℕ → ℕ → Bool → Bool → Bool → Bool
-eligible l r broken z o = not broken && (leb l 1 && leb r 1 && not z && not o)
-
--- the same of a state
-abbrev pub runRead : State → Bool
-runRead s = eligible (s .left .m0) (s .right .m0) (s .runBreak) (s .lastZero) (s .lastOne)
-
 -- a run that starts here, or the place of steps 3 and 4
 abbrev pub runWord : List Bool → State → ZeroRun → Word
 runWord bits s (ZeroRun.Run d q) = given (pos 0) q (inRun d s) none
@@ -56,8 +48,8 @@ runWord bits s (ZeroRun.Word q) = plain bits q (unbroken s)
 runWord bits s ZeroRun.Truncated = refused 3
 
 -- the run length at p, where it is read or not
-pub record RunIs (bits : List Bool) (p : ℕ) (read : Bool) (r : ZeroRun) : Type 0 where
-  pub is : (s : State) → runRead s ≡ read → runWord bits s r ≡ fresh bits p s
+pub record ZeroRunIs (bits : List Bool) (p : ℕ) (read : Bool) (r : ZeroRun) : Type 0 where
+  pub is : (s : State) → runHere s ≡ read → runWord bits s r ≡ fresh bits p s
 
 -- a count without a value, as a word without a sample
 abbrev pub notCoded : OnesCount → Coded
@@ -78,14 +70,15 @@ pub record PlainIs (bits : List Bool) (p : ℕ) (medians : Medians) (lastZero la
 
 -- steps 2 to 4
 pub record CodedIs (bits : List Bool) (p : ℕ) (read : Bool) (medians : Medians) (lastZero lastOne : Bool) (r : Coded) : Type 0 where
-  pub is : (s : State) → runRead s ≡ read → due s ≡ medians → s .lastZero ≡ lastZero → s .lastOne ≡ lastOne → codedWord s r ≡ fresh bits p s
+  pub is : (s : State) → runHere s ≡ read → due s ≡ medians → s .lastZero ≡ lastZero → s .lastOne ≡ lastOne → codedWord s r ≡ fresh bits p s
 
 -- the n elements of a list from i on are 0
 abbrev pub zeroed : List ℤ → ℕ → ℕ → List ℤ
 zeroed l i zero = l
 zeroed l i (suc n) = set (zeroed l i n) (i + n) (pos 0)
 
--- the zeros of a run from `first` on, the first and `behind` more, as far as the list goes; r is the index after them
+-- the zeros of a run from `first` on, the first and `behind` more, as far as the list goes; r is
+-- the index after them
 pub record ZerosIs (before after : List ℤ) (first behind r : ℕ) : Type 0 where
   pub list-is : after ≡ zeroed before first (r - first)
   pub some : first < r

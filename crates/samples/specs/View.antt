@@ -10,29 +10,16 @@ use Rattle.answers.specs.Numbers.{outcomeNumber}
 use Rattle.bits.specs.Bits.{bitsOf}
 use Rattle.entropy.specs.Medians.{MedianPair, pairOf, zeroPair}
 use Rattle.entropy.specs.Seed.{seedRefusal, seedMedians}
-use Rattle.samples.specs.State.{State, start}
+use Rattle.word_state.specs.State.{State, start}
+use Rattle.word_state.specs.View.{stateOf}
 use Rattle.samples.specs.Word.{Report, none, zone0, zone1, zone2, over, Word, given, refused, word}
 use Rattle.samples.specs.Reading.{Reading, reading}
-use Rattle.samples.specs.declared.StereoDecodeState.{StereoDecodeState}
 use Rattle.samples.specs.declared.Zone.{Zone}
 use Rattle.samples.specs.declared.MaybeZone.{MaybeZone}
 use Rattle.samples.specs.declared.WordAnswer.{WordAnswer}
 use Rattle.samples.specs.declared.ReadAnswer.{ReadAnswer}
 
 -- ---- one word
-
--- the state that the struct holds
-abbrev pub stateOf : StereoDecodeState → State
-stateOf s = record {
-  left = pairOf (s .medians) .left;
-  right = pairOf (s .medians) .right;
-  lastZero = s .«last_zero»;
-  lastOne = s .«last_one»;
-  debt = s .«zero_run_pending»;
-  runBreak = s .«run_break»;
-  everRun = s .«ever_took_zero_run»;
-  channel = s .«next_channel»;
-}
 
 -- the report that an enum of zones is
 abbrev pub reportOfZone : Zone → Report
@@ -70,7 +57,8 @@ oneWord payload p s =
 
 -- ---- reading
 
--- what reading answers: the refusal's number (0: accepted), bits used, medians after, samples written; and what the lent list then holds
+-- what reading answers: the refusal's number (0: accepted), bits used, medians after, samples
+-- written; and what the lent list then holds
 pub record ReadTold : Type 0 where
   pub refusal : ℕ
   pub bits : ℕ
@@ -92,17 +80,20 @@ toldReading list r = record {
   list = r .samples ++ drop (length (r .samples)) list;
 }
 
--- document 01 (X2): "Reading: 5, over 131,072 frames or 4,194,304 payload bytes; 6, list length; 1; 2, mono or a negative median"; 0: words follow
+-- document 01 (X2): "Reading: 5, over 131,072 frames or 4,194,304 payload bytes; 6, list length; 1;
+-- 2, mono or a negative median"; 0: words follow
 unfoldable pub readRefusal : List ℕ → List ℕ → ℕ → List ℤ → ℕ
 readRefusal entropy payload frames list =
     cond (ltb 131072 frames || ltb 4194304 (length payload)) 5 (cond (eqb (length list) (2 * frames)) (seedRefusal entropy) 6)
 
--- document 01 (R6): "One that comes before any word is tried tells 0 for bits and medians"; else what follows
+-- document 01 (R6): "One that comes before any word is tried tells 0 for bits and medians"; else
+-- what follows
 abbrev pub unlessRefused : List ℤ → ℕ → ReadTold → ReadTold
 unlessRefused list zero told = told
 unlessRefused list (suc c) told = record { refusal = suc c; bits = 0; medians = zeroPair; written = 0; list = list }
 
--- document 01, "Reading, from the entry down" (R1 to R6): 2 times frames words from the seed medians on
+-- document 01, "Reading, from the entry down" (R1 to R6): 2 times frames words from the seed
+-- medians on
 unfoldable pub readEntry : List ℕ → List ℕ → ℕ → List ℤ → ReadTold
 readEntry entropy payload frames list =
     unlessRefused list (readRefusal entropy payload frames list)

@@ -1,12 +1,13 @@
-// Implements document 01, "One word", steps 2 to 4, from numbers alone: the payload, the place, the medians due and the two flags.
-// No part hands a whole state on, which would cost more than the reading itself; and each part is called at one place of the next.
+// Implements document 01, "One word", steps 2 to 4, from numbers alone: the payload, the place, the
+// medians due and the two flags. No part hands a whole state on, which would cost more than the
+// reading itself; and each part is called at one place of the next.
 ghost use mathlib.Core.Path.{_≡_};
 ghost use Prim.Native.Nat.{_%_, _≤_, _<_};
 ghost use lib.ListN.{length};
 ghost use Rattle.bits.specs.Bits.{bitsOf, val, bitOf};
 ghost use Rattle.entropy.specs.Medians.{mediansOf};
 ghost use Rattle.samples.specs.Word.{signed};
-ghost use Rattle.samples.specs.Parts.{ValueIs, notCounted, CountIs, notCoded, PlainIs, eligible, RunIs, CodedIs};
+ghost use Rattle.samples.specs.Parts.{ValueIs, notCounted, CountIs, notCoded, PlainIs, ZeroRunIs, CodedIs};
 use bits::Field;
 use bits::read::get_bit;
 use entropy::AdaptiveMedians;
@@ -100,7 +101,8 @@ fn not_counted(prefix: Prefix) -> OnesCount
     }
 }
 
-// Step 3: the count of a word, folded with the flags that the word before it left, and the flags after it.
+// Step 3: the count of a word, folded with the flags that the word before it left, and the flags
+// after it.
 fn read_folded_ones_count(
     payload: &[u8],
     place: usize,
@@ -121,37 +123,10 @@ fn read_folded_ones_count(
     OnesCount::Count(raw / 2 + one_if(last_one), next, !odd, odd)
 }
 
-// Whether step 2 reads a run length, from the medians of both channels and what the words before left.
-pub(crate) fn zero_run_eligible(
-    left_set: AdaptiveMedians,
-    right_set: AdaptiveMedians,
-    run_break: bool,
-    last_zero: bool,
-    last_one: bool,
-) -> bool
-    ensures { λ r. ⌜ r ≡ eligible (mediansOf «left_set» .m0) (mediansOf «right_set» .m0) «run_break» «last_zero» «last_one» ⌝ }
-{
-    let left = left_set.values;
-    let right = right_set.values;
-    if left[0] > 1 {
-        return false;
-    }
-    if right[0] > 1 {
-        return false;
-    }
-    if run_break {
-        return false;
-    }
-    if last_zero {
-        return false;
-    }
-    !last_one
-}
-
 // Step 2, where `eligible` tells whether a run length is read.
 fn try_zero_run_path_stereo(payload: &[u8], place: usize, eligible: bool) -> ZeroRun
     requires { ⌜ length (now payload) ≤ 4194304 ⌝ }
-    ensures { λ r. ⌜ RunIs (bitsOf (now (payload .entry))) place eligible r ⌝ }
+    ensures { λ r. ⌜ ZeroRunIs (bitsOf (now (payload .entry))) place eligible r ⌝ }
 {
     if !eligible {
         return ZeroRun::Word(place);

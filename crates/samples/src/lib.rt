@@ -1,25 +1,16 @@
-// Implements document 01, "One word" and "Reading". `coded` reads a word where no zero is owed, from numbers alone; the one-word entry and the
-// reading loop both call it and keep the state: the entry in a struct by value, the loop in locals, which is what makes it fast.
+// Implements document 01, "One word" and "Reading". `coded` reads a word where no zero is owed,
+// from numbers alone; the one-word entry and the reading loop both call it and keep the state: the
+// entry in a struct by value, the loop in locals, which is what makes it fast.
 ghost use mathlib.Core.Path.{_≡_};
 ghost use Rattle.samples.specs.Word.{zoneOf};
 ghost use Rattle.samples.specs.View.{reportOfZone};
 use answers::Outcome;
 use entropy::AdaptiveMedians;
+use word_state::StereoDecodeState;
 
 mod coded;
 pub mod one_word;
 pub mod reading;
-
-// The state of the words: the medians of both channels, indexed by channel, and what one word leaves to the next.
-pub struct StereoDecodeState {
-    pub medians: [AdaptiveMedians; 2],
-    pub last_zero: bool,
-    pub last_one: bool,
-    pub zero_run_pending: u32,
-    pub run_break: bool,
-    pub ever_took_zero_run: bool,
-    pub next_channel: u32,
-}
 
 // The zone of a count: 0, 1, 2, or above, which carries the count.
 pub enum Zone {
@@ -67,7 +58,8 @@ pub struct WordAnswer {
     pub report: WordReport,
 }
 
-// What reading answers: the outcome, the bits used, the medians after, and how many samples were written.
+// What reading answers: the outcome, the bits used, the medians after, and how many samples were
+// written.
 pub struct ReadAnswer {
     pub outcome: Outcome,
     pub bits: usize,

@@ -1,23 +1,25 @@
-// Implements document 01, "One word", as an entry of its own: for a caller that holds the state from word to word.
+// Implements document 01, "One word", as an entry of its own: for a caller that holds the state
+// from word to word.
 ghost use mathlib.Core.Path.{_≡_};
 ghost use Prim.Native.Nat.{_<_};
 ghost use lib.IntN.{pos};
 ghost use Rattle.answers.specs.Numbers.{numberOf};
-ghost use Rattle.samples.specs.State.{withFlags, paid, inRun, unbroken, after};
+ghost use Rattle.word_state.specs.State.{withFlags, paid, inRun, unbroken, after};
 ghost use Rattle.samples.specs.Word.{none, zoneOf, given, refused};
-ghost use Rattle.samples.specs.View.{stateOf, wordToldOf, toldWord, oneWord};
+ghost use Rattle.word_state.specs.View.{stateOf};
+ghost use Rattle.samples.specs.View.{wordToldOf, toldWord, oneWord};
 use crate::MaybeZone;
-use crate::StereoDecodeState;
 use crate::WordAnswer;
 use crate::WordReport;
 use crate::Zone;
 use crate::coded::Coded;
 use crate::coded::read_word;
-use crate::coded::zero_run_eligible;
 use answers::Outcome;
 use answers::Refusal;
 use entropy::AdaptiveMedians;
 use medians::adaptation::adapt;
+use word_state::StereoDecodeState;
+use word_state::zero_run_eligible;
 
 // A refused word: sample 0, the old place and state, no report.
 fn refused(refusal: Refusal, place: usize, state: StereoDecodeState) -> WordAnswer
@@ -113,8 +115,9 @@ fn adapted(
     next
 }
 
-// The word at a place of the payload, in any state. Refuses with 5 a payload of over 4,194,304 bytes, with 12 a channel above 1, then with 3 or 4
-// what the word runs into; a refusal gives sample 0, the old place, the old state and no report.
+// The word at a place of the payload, in any state. Refuses with 5 a payload of over 4,194,304
+// bytes, with 12 a channel above 1, then with 3 or 4 what the word runs into; a refusal gives
+// sample 0, the old place, the old state and no report.
 pub fn decode_sample_stateful_stereo(
     payload: &[u8],
     place: usize,

@@ -1,24 +1,26 @@
-// Implements document 01, "Reading": the refusals that come before any word, then word after word into a lent list. The medians are a local array that is indexed by
-// channel, and the rest of the state is in locals, so that the compiler keeps it in registers; a run is one turn, so that no debt is held.
-// The zero set stands outside the loop: made inside it, it cost loud payloads a twentieth.
+// Implements document 01, "Reading": the refusals that come before any word, then word after word
+// into a lent list. The medians are a local array that is indexed by channel, and the rest of the
+// state is in locals, so that the compiler keeps it in registers; a run is one turn, so that no
+// debt is held. The zero set stands outside the loop: made inside it, it cost loud payloads a
+// twentieth.
 ghost use mathlib.Core.Path.{_≡_};
 ghost use Prim.Native.Nat.{_≤_, _<_};
 ghost use lib.ListN.{length};
 ghost use Rattle.bits.specs.Bits.{bitsOf};
 ghost use Rattle.entropy.specs.Medians.{pairOf, zeroPair};
-ghost use Rattle.samples.specs.State.{start};
+ghost use Rattle.word_state.specs.State.{start};
 ghost use Rattle.samples.specs.Reading.{reading};
 ghost use Rattle.samples.specs.Parts.{ZerosIs};
 ghost use Rattle.samples.specs.View.{readToldOf, toldReading, readEntry};
 use crate::ReadAnswer;
 use crate::coded::Coded;
 use crate::coded::read_word;
-use crate::coded::zero_run_eligible;
 use answers::Outcome;
 use answers::Refusal;
 use entropy::AdaptiveMedians;
 use entropy::stereo_pair_from_entropy;
 use medians::adaptation::adapt;
+use word_state::zero_run_eligible;
 
 // The answer of a reading that accepted every word.
 fn accepted(bits: usize, medians: [AdaptiveMedians; 2], written: usize) -> ReadAnswer
@@ -49,7 +51,8 @@ fn stopped(
     }
 }
 
-// The first zero of a run and `behind` more into `out` from `first` on, as far as `out` goes. The index after them.
+// The first zero of a run and `behind` more into `out` from `first` on, as far as `out` goes. The
+// index after them.
 fn put_zeros(out: &mut [i32], first: usize, behind: u32) -> usize
     requires { ⌜ first < length (now out) ⌝ }
     ensures { λ r. ⌜ ZerosIs (now (out .entry)) (now (out .exit)) first behind r ⌝ }
@@ -67,7 +70,8 @@ fn put_zeros(out: &mut [i32], first: usize, behind: u32) -> usize
     i
 }
 
-// Words into all of `out`, the first of them for the left channel. What it holds behind a refused word stays.
+// Words into all of `out`, the first of them for the left channel. What it holds behind a refused
+// word stays.
 fn decode_packed_samples_stereo(
     payload: &[u8],
     seeds: [AdaptiveMedians; 2],
@@ -122,9 +126,10 @@ fn not_read(outcome: Outcome) -> ReadAnswer
     }
 }
 
-// The samples of `frames` frames, left then right, into `out`. Refuses with 5 over 131,072 frames or 4,194,304 payload bytes, with 6 where `out`
-// has not two elements a frame, with 1 or 2 what is wrong with the entropy payload, then with 3 or 4 what a word runs into. Only a refusal in a
-// word leaves samples in `out`, those before it.
+// The samples of `frames` frames, left then right, into `out`. Refuses with 5 over 131,072 frames
+// or 4,194,304 payload bytes, with 6 where `out` has not two elements a frame, with 1 or 2 what is
+// wrong with the entropy payload, then with 3 or 4 what a word runs into. Only a refusal in a word
+// leaves samples in `out`, those before it.
 pub fn decode_packed_samples_stereo_from_entropy(
     entropy: &[u8],
     payload: &[u8],

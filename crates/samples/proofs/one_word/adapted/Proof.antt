@@ -4,9 +4,9 @@ use borrow.Author.Needs.{needs}
 use native.Mathlib.Omega.{arith}
 use mathlib.Core.Path.{_≡_}
 use lib.ListN.{length}
-use Rattle.samples.specs.State.{unbroken, after}
-use Rattle.samples.proofs.HeldLaws.{length-mapped, there, replaced}
-use Rattle.samples.proofs.WordLaws.{flip-is}
+use Rattle.word_state.specs.State.{unbroken, after}
+use Rattle.word_state.proofs.StateLaws.{flip-is, length-mapped, there}
+use Rattle.samples.proofs.HeldLaws.{replaced}
 use Rattle.samples.proofs.one_word.adapted.Statement.{statement}
 use Rattle.samples.proofs.one_word.adapted.Tie as tie
 

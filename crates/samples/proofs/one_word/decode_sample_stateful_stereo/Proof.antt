@@ -1,4 +1,5 @@
--- `samples::one_word::decode_sample_stateful_stereo` meets its contract: each way out is a law of the entry.
+-- `samples::one_word::decode_sample_stateful_stereo` meets its contract: each way out is a law of
+-- the entry.
 -- Assumes nothing.
 use borrow.Author.Needs.{needs}
 use native.Mathlib.Omega.{arith}
@@ -10,12 +11,13 @@ use mir.Facts.{toZ-ofZ}
 use mir.Syntax.{w32}
 use mir.Val.{SFits}
 use Rattle.bits.specs.Bits.{bitsOf}
-use Rattle.samples.specs.State.{State}
+use Rattle.word_state.specs.State.{State}
+use Rattle.word_state.specs.View.{stateOf}
 use Rattle.samples.specs.Word.{given, none, zoneOf}
 use Rattle.samples.specs.Parts.{codedWord}
-use Rattle.samples.specs.View.{stateOf, toldWord, oneWord}
+use Rattle.samples.specs.View.{toldWord, oneWord}
 use Rattle.samples.specs.declared.coded.Coded.{Coded}
-use Rattle.samples.proofs.HeldLaws.{length-mapped}
+use Rattle.word_state.proofs.StateLaws.{length-mapped}
 use Rattle.samples.proofs.WordLaws.{one-large, one-channel, one-word, word-paid, one-coded}
 use Rattle.samples.proofs.one_word.decode_sample_stateful_stereo.Statement.{statement}
 use Rattle.samples.proofs.one_word.decode_sample_stateful_stereo.Tie as tie

@@ -1,4 +1,5 @@
--- `samples::reading::decode_packed_samples_stereo` meets its contract. The loop's invariant is `Loop`; a turn is a run or a sample.
+-- `samples::reading::decode_packed_samples_stereo` meets its contract. The loop's invariant is
+-- `Loop`; a turn is a run or a sample.
 -- Assumes nothing.
 use borrow.Author.Needs.{needs}
 use native.Mathlib.Omega.{arith}
@@ -10,9 +11,9 @@ use mir.Facts.{toZ-ofZ}
 use mir.Syntax.{w32}
 use mir.Val.{SFits}
 use Rattle.entropy.specs.Medians.{pairOf}
-use Rattle.samples.specs.State.{start}
+use Rattle.word_state.specs.State.{start}
 use Rattle.samples.specs.Parts.{codedWord}
-use Rattle.samples.proofs.HeldLaws.{length-mapped}
+use Rattle.word_state.proofs.StateLaws.{length-mapped}
 use Rattle.samples.proofs.LoopLaws.{Loop, loop-start, loop-end, loop-run, loop-sample, loop-stop}
 use Rattle.samples.proofs.reading.decode_packed_samples_stereo.Statement.{statement}
 use Rattle.samples.proofs.reading.decode_packed_samples_stereo.Tie as tie

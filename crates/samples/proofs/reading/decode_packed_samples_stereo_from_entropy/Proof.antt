@@ -1,4 +1,5 @@
--- `samples::reading::decode_packed_samples_stereo_from_entropy` meets its contract: each way out is a law of the entry.
+-- `samples::reading::decode_packed_samples_stereo_from_entropy` meets its contract: each way out is
+-- a law of the entry.
 -- Assumes nothing.
 use borrow.Author.Needs.{needs}
 use native.Mathlib.Omega.{arith}

@@ -1,4 +1,5 @@
--- Document 01, "One word", the state (W0), and what a word does to it. Reader and packer walk the same state by the same named steps.
+-- Document 01, "One word", the state (W0), and what a word does to it. Reader and packer walk the
+-- same state by the same named steps.
 -- Assumes nothing.
 use mathlib.Core.Bool.{Bool, true, false, not, _&&_}
 use Prim.Native.Nat.{ℕ, zero, suc}
@@ -6,7 +7,8 @@ use lib.Dec.{leb}
 use Rattle.entropy.specs.Medians.{Medians, zeroSet, mediansOf}
 use Rattle.medians.specs.Adaptation.{adapt}
 
--- document 01 (W0): two sets of three medians, last_zero, last_one, zero_run_pending (the debt), run_break, ever_took_zero_run, next_channel
+-- document 01 (W0): two sets of three medians, last_zero, last_one, zero_run_pending (the debt),
+-- run_break, ever_took_zero_run, next_channel
 pub record State : Type 0 where
   pub left : Medians
   pub right : Medians
@@ -26,7 +28,7 @@ abbrev pub side : {A : Type 0} → ℕ → A → A → A
 side zero a b = a
 side (suc n) a b = b
 
--- document 01 (W0): the medians "picked by the channel due", and those of the other channel
+-- document 01 (W0): the medians "picked by the channel due"
 abbrev pub due : State → Medians
 due s = side (s .channel) (s .left) (s .right)
 
@@ -67,7 +69,8 @@ flip (suc n) = 0
 unfoldable pub paid : ℕ → State → State
 paid d s = withChannel (flip (s .channel)) (withDebt d s)
 
--- document 01 (W2): "zero all six medians, set ever_took_zero_run and run_break, debt n - 1, give 0"; d is n - 1
+-- document 01 (W2): "zero all six medians, set ever_took_zero_run and run_break, debt n - 1, give
+-- 0"; d is n - 1
 unfoldable pub inRun : ℕ → State → State
 inRun d s = withChannel (flip (s .channel)) (withDebt d (withRun true true (withMedians (mediansOf zeroSet) (mediansOf zeroSet) s)))
 
@@ -87,6 +90,18 @@ flagged b s = withFlags (not b) b s
 unfoldable pub after : ℕ → State → State
 after k s = withChannel (flip (s .channel)) (withMedians (side (s .channel) (adapt (s .left) k) (s .left)) (side (s .channel) (s .right) (adapt (s .right) k)) s)
 
--- document 01 (W2): "if both first medians are at most 1 and neither flag is set, read a run length"
-unfoldable pub runDue : State → Bool
-runDue s = leb (s .left .m0) 1 && leb (s .right .m0) 1 && not (s .lastZero) && not (s .lastOne)
+-- ---- run lengths
+
+-- document 01 (W2): "if both first medians are at most 1 and neither flag is set, read a run
+-- length". It does not matter which channel's medians come first
+unfoldable pub runDue : Medians → Medians → Bool → Bool → Bool
+runDue m n lastZero lastOne = leb (m .m0) 1 && leb (n .m0) 1 && not lastZero && not lastOne
+
+-- a run length stands before the word: run_break is not set, and one is due
+abbrev pub runHere : State → Bool
+runHere s = not (s .runBreak) && runDue (s .left) (s .right) (s .lastZero) (s .lastOne)
+
+-- by a number of zeros: at d + 1 the first, at 0 the second
+abbrev pub onZeros : {A : Type 0} → ℕ → (ℕ → A) → A → A
+onZeros zero f a = a
+onZeros (suc d) f a = f d

@@ -1,0 +1,4 @@
+-- What the crates above cite.
+pub mod FlagLaws
+pub mod StateLaws
+pub mod SignLaws
