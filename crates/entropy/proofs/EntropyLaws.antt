@@ -11,14 +11,14 @@ use lib.ListN.{length, take, drop, length-drop}
 use lib.Seq.{take-all}
 use borrow.Author.Tests.{ne-eqb}
 use Rattle.entropy.specs.declared.EntropyInfo.{EntropyInfo}
-use Rattle.entropy.specs.Entropy.{wordSet, noSet, monoInfo, stereoInfo, noInfo, entropyInfo, entropyRefusal}
+use Rattle.entropy.specs.Entropy.{wordSet, zeroWords, monoInfo, stereoInfo, noInfo, entropyInfo, entropyRefusal}
 
 -- the answer that a payload calls for
 abbrev pub Answers : List ℕ → ℕ → EntropyInfo → Type 0
 Answers payload n info = (n ≡ entropyRefusal payload) × (info ≡ entropyInfo payload)
 
 -- 6 bytes
-pub mono-answer : (p : List ℕ) (l : List ℤ) → length p ≡ 6 → l ≡ wordSet p → Answers p 0 (record { «medians_left» = l; «medians_right» = noSet })
+pub mono-answer : (p : List ℕ) (l : List ℤ) → length p ≡ 6 → l ≡ wordSet p → Answers p 0 (record { «medians_left» = l; «medians_right» = zeroWords })
 unfolding entropyInfo entropyRefusal
 mono-answer p l h e = rw (h, e) (refl, refl)
 

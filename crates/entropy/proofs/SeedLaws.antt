@@ -1,4 +1,5 @@
--- Laws of the seed medians: the three answers that a payload can call for, and what a stereo payload has none of.
+-- Laws of the seed medians: the three answers that a payload can call for, and what a stereo
+-- payload has none of.
 -- Assumes nothing.
 use mathlib.Core.Path.{_≡_, refl}
 use mathlib.Core.Bool.{Bool, true, false, _||_}
@@ -83,7 +84,8 @@ pub natural : (z : ℤ) → SFits w32 z → isNegative z ≡ false → T (nonNeg
 natural (pos n) f e = rw (toZ-ofZ w32 (pos n) f) (tt, record { fits = omega (arith, f .sfits) })
 natural (negsuc n) f e = absurd (let z : _≡_ {A = ℕ} 0 1 = cc in omega arith)
 
--- The three answers again, as the code comes by them: the expanded payload has outcome o and sets i, the answer outcome q and medians m.
+-- The three answers again, as the code comes by them: the expanded payload has outcome o and sets
+-- i, the answer outcome q and medians m.
 pub length-refused-raw : (p : List ℕ) (o q : Outcome) (r : Refusal) (m : MedianPair) → q ≡ o → o ≡ Outcome.Refused r → outcomeNumber o ≡ entropyRefusal p → m ≡ zeroPair → Seeds p (outcomeNumber q) m
 length-refused-raw p o q r m e f g h =
     rw (e, h) (length-refused p (outcomeNumber o) (rw f (number-positive r)) g)

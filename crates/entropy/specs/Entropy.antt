@@ -17,12 +17,13 @@ wordAt bytes i = logWord (littleEndian (getD bytes i 0) (getD bytes (suc i) 0))
 unfoldable pub wordSet : List ℕ → List ℤ
 wordSet bytes = wordAt bytes 0 ∷ wordAt bytes 2 ∷ wordAt bytes 4 ∷ []
 
-abbrev pub noSet : List ℤ
-noSet = pos 0 ∷ pos 0 ∷ pos 0 ∷ []
+-- a set of zeros
+abbrev pub zeroWords : List ℤ
+zeroWords = pos 0 ∷ pos 0 ∷ pos 0 ∷ []
 
 -- "6 bytes are mono": there is no right set
 abbrev pub monoInfo : List ℕ → EntropyInfo
-monoInfo payload = record { «medians_left» = wordSet payload; «medians_right» = noSet }
+monoInfo payload = record { «medians_left» = wordSet payload; «medians_right» = zeroWords }
 
 -- "12 stereo": "the right set is the part from byte 6" (E2)
 abbrev pub stereoInfo : List ℕ → EntropyInfo
@@ -30,9 +31,9 @@ stereoInfo payload = record { «medians_left» = wordSet payload; «medians_righ
 
 -- a payload of another length holds no set
 abbrev pub noInfo : EntropyInfo
-noInfo = record { «medians_left» = noSet; «medians_right» = noSet }
+noInfo = record { «medians_left» = zeroWords; «medians_right» = zeroWords }
 
--- document 01, "Entropy" (E1): by the length
+-- document 01, "Entropy" (E1): "6 bytes are mono, 12 stereo"
 unfoldable pub entropyInfo : List ℕ → EntropyInfo
 entropyInfo payload =
     cond (eqb (length payload) 6) (monoInfo payload) (cond (eqb (length payload) 12) (stereoInfo payload) noInfo)
@@ -41,6 +42,7 @@ entropyInfo payload =
 unfoldable pub entropyRefusal : List ℕ → ℕ
 entropyRefusal payload = cond (eqb (length payload) 6 || eqb (length payload) 12) 0 1
 
+-- a signed number that is 0
 abbrev pub isZero : ℤ → Bool
 isZero (pos zero) = true
 isZero (pos (suc n)) = false

@@ -1,20 +1,24 @@
--- Document 01, "Why each operation says no": which entropy payloads reading and packing accept, and the medians that an accepted one seeds.
+-- Document 01, "Why each operation says no": which entropy payloads reading and packing accept, and
+-- the medians that an accepted one seeds.
 -- Assumes nothing.
-use Prim.Native.Nat.{ℕ, zero, suc}
+use Prim.Native.Nat.{ℕ}
 use mathlib.Core.Path.{_≡_}
 use mathlib.Core.Bool.{Bool, true, false, cond, _||_}
 use mathlib.Core.List.{List}
 use lib.Dec.{eqb}
 use lib.IntN.{ℤ, pos, negsuc, natAbs}
 use lib.ListN.{getD}
+use Rattle.answers.specs.Guard.{orElse}
 use Rattle.entropy.specs.declared.EntropyInfo.{EntropyInfo}
 use Rattle.entropy.specs.Medians.{Medians, MedianPair, zeroPair}
 use Rattle.entropy.specs.Entropy.{entropyInfo, entropyRefusal, isMono}
 
+-- a signed number below 0
 abbrev pub isNegative : ℤ → Bool
 isNegative (pos n) = false
 isNegative (negsuc n) = true
 
+-- one of a set's three is negative
 unfoldable pub anyNegative : List ℤ → Bool
 anyNegative set = isNegative (getD set 0 (pos 0)) || isNegative (getD set 1 (pos 0)) || isNegative (getD set 2 (pos 0))
 
@@ -22,16 +26,12 @@ anyNegative set = isNegative (getD set 0 (pos 0)) || isNegative (getD set 1 (pos
 unfoldable pub notStereo : EntropyInfo → Bool
 notStereo info = isMono info || anyNegative (info .«medians_left») || anyNegative (info .«medians_right»)
 
--- the first of two refusals that applies: a later test is asked only where the earlier one found nothing
-abbrev pub orElse : ℕ → ℕ → ℕ
-orElse zero later = later
-orElse (suc earlier) later = suc earlier
-
 -- document 01 (X2): the refusals about the entropy payload, 1 before 2; 0 means accepted
 unfoldable pub seedRefusal : List ℕ → ℕ
 seedRefusal payload = orElse (entropyRefusal payload) (cond (notStereo (entropyInfo payload)) 2 0)
 
--- document 01, "The words of demand 3" (M4): reading accepts an entropy payload when none of the refusals about it applies
+-- document 01, "The words of demand 3" (M4): reading accepts an entropy payload when none of the
+-- refusals about it applies
 abbrev pub acceptsEntropy : List ℕ → Type 0
 acceptsEntropy payload = seedRefusal payload ≡ 0
 
@@ -44,6 +44,7 @@ seedSet set =
 abbrev pub seedPair : EntropyInfo → MedianPair
 seedPair info = record { left = seedSet (info .«medians_left»); right = seedSet (info .«medians_right») }
 
--- document 01, "Reading, from the entry down" (R6): the medians that an accepted payload seeds; a refused one gives 0 for all six
+-- document 01, "Reading, from the entry down" (R6): the medians that an accepted payload seeds; a
+-- refused one gives 0 for all six
 unfoldable pub seedMedians : List ℕ → MedianPair
 seedMedians payload = cond (eqb (seedRefusal payload) 0) (seedPair (entropyInfo payload)) zeroPair

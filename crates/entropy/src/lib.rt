@@ -1,5 +1,6 @@
-// Implements document 01, "Entropy": the entropy payload, and the two sets of medians that it seeds a word state with.
-// Log words are expanded in one place, `read_median_set`; refusal 2 is decided in one place, `is_not_stereo`.
+// Implements document 01, "Entropy": the entropy payload, and the two sets of medians that it seeds
+// a word state with. Log words are expanded in one place, `read_median_set`; refusal 2 is decided
+// in one place, `is_not_stereo`.
 use answers::Outcome;
 use answers::Refusal;
 ghost use mathlib.Core.Path.{_≡_};
@@ -16,7 +17,8 @@ pub struct AdaptiveMedians {
     pub values: [u32; 3],
 }
 
-// The two sets of signed medians of an entropy payload. A mono payload has no right set; its right medians are 0.
+// The two sets of signed medians of an entropy payload. A mono payload has no right set; its right
+// medians are 0.
 pub struct EntropyInfo {
     pub medians_left: [i32; 3],
     pub medians_right: [i32; 3],
@@ -29,7 +31,7 @@ pub struct EntropyAnswer {
 }
 
 // The medians of both channels, left first, that an entropy payload seeds; on refusal all are 0.
-pub struct SeedAnswer {
+pub struct MedianAnswer {
     pub outcome: Outcome,
     pub medians: [AdaptiveMedians; 2],
 }
@@ -138,19 +140,20 @@ fn seed_set(set: [i32; 3]) -> AdaptiveMedians
 }
 
 // A refused seed: all medians 0.
-fn no_seed(outcome: Outcome) -> SeedAnswer
-    ensures { λ r. ⌜ (r .outcome ≡ outcome) × (pairOf (r .medians) ≡ zeroPair) ⌝ }
+fn no_seed(outcome: Outcome) -> MedianAnswer
+    ensures outcome { λ r. ⌜ r .outcome ≡ outcome ⌝ }
+    ensures medians { λ r. ⌜ pairOf (r .medians) ≡ zeroPair ⌝ }
 {
     let none = AdaptiveMedians { values: [0, 0, 0] };
-    SeedAnswer {
+    MedianAnswer {
         outcome: outcome,
         medians: [none, none],
     }
 }
 
-// Answers the medians that an entropy payload seeds. Refuses with 1 where its length is neither 6 nor 12, then with 2 where it
-// is mono or holds a negative median.
-pub fn stereo_pair_from_entropy(payload: &[u8]) -> SeedAnswer
+// Answers the medians that an entropy payload seeds. Refuses with 1 where its length is neither 6
+// nor 12, then with 2 where it is mono or holds a negative median.
+pub fn stereo_pair_from_entropy(payload: &[u8]) -> MedianAnswer
     ensures outcome { λ r. ⌜ outcomeNumber (r .outcome) ≡ seedRefusal (now (payload .entry)) ⌝ }
     ensures medians { λ r. ⌜ pairOf (r .medians) ≡ seedMedians (now (payload .entry)) ⌝ }
 {
@@ -165,7 +168,7 @@ pub fn stereo_pair_from_entropy(payload: &[u8]) -> SeedAnswer
     }
     let left = info.medians_left;
     let right = info.medians_right;
-    SeedAnswer {
+    MedianAnswer {
         outcome: Outcome::Accepted,
         medians: [seed_set(left), seed_set(right)],
     }

@@ -1,4 +1,5 @@
--- What holds of mantissas and log words: their ranges, and the two ways in which a mantissa is shifted.
+-- What holds of mantissas and log words: their ranges, and the two ways in which a mantissa is
+-- shifted.
 -- Assumes nothing.
 use mathlib.Core.Path.{_≡_}
 use Prim.Native.Nat.{ℕ, _-_, _*_, _/_, _%_, _^_, _<_, _≤_}

@@ -1,4 +1,5 @@
--- A negative word is worked out from its negation: the negation is at hand at 32 bits, is a word's size, and is not negative.
+-- A negative word is worked out from its negation: the negation is at hand at 32 bits, is a word's
+-- size, and is not negative.
 -- Assumes nothing.
 use mathlib.Core.Path.{_≡_, ap, _∙_}
 use mathlib.Core.Bool.{Bool, true, false}

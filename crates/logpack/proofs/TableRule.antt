@@ -1,4 +1,5 @@
--- `EXP2_TABLE` meets its rule at all 256 entries, by one test that is computed over the whole table.
+-- `EXP2_TABLE` meets its rule at all 256 entries, by one test that is computed over the whole
+-- table.
 -- Assumes nothing.
 use mathlib.Core.Path.{_≡_, refl}
 use mathlib.Core.Bool.{Bool, true, false, _&&_}

@@ -1,9 +1,11 @@
--- Document 01, "Log word" (L1): the table of mantissas, and the rule of an entry. That the table meets its rule is `table-rule` in proofs/TableRule.antt.
+-- Document 01, "Log word" (L1): the table of mantissas, and the rule of an entry. That the table
+-- meets its rule is `table-rule` in proofs/TableRule.antt.
 -- Assumes nothing.
 use Prim.Native.Nat.{ℕ, _+_, _-_, _*_, _^_, _<_}
 use mathlib.Core.List.{List, [], _∷_}
 
--- t is round(256 · 2^(i/256)) - 256. With m = 256 + t that is m - 1/2 < 256 · 2^(i/256) < m + 1/2; doubled, and raised to the power of 256, each is whole.
+-- t is round(256 · 2^(i/256)) - 256. With m = 256 + t that is m - 1/2 < 256 · 2^(i/256) < m + 1/2;
+-- doubled, and raised to the power of 256, each is whole.
 pub record Rounded (i t : ℕ) : Type 0 where
   pub above : (2 * (256 + t) - 1) ^ 256 < 512 ^ 256 * 2 ^ i
   pub below : 512 ^ 256 * 2 ^ i < (2 * (256 + t) + 1) ^ 256

@@ -14,7 +14,8 @@ use Rattle.logpack.specs.Exp2Table.{exp2Table}
 unfoldable pub mantissa : ℕ → ℕ
 mantissa w = 256 + getD exp2Table (w % 256) 0
 
--- if e is at most 9, m shifted right by 9 - e; else m shifted left by (e - 9) mod 32, kept to 32 bits, read as signed
+-- if e is at most 9, m shifted right by 9 - e; else m shifted left by (e - 9) mod 32, kept to 32
+-- bits, read as signed
 abbrev pub shifted : Bool → ℕ → ℕ → ℤ
 shifted true m e = pos (m / 2 ^ (9 - e))
 shifted false m e = wrap32 (pos (m * 2 ^ ((e - 9) % 32)))
@@ -23,7 +24,8 @@ shifted false m e = wrap32 (pos (m * 2 ^ ((e - 9) % 32)))
 unfoldable pub magnitude : ℕ → ℤ
 magnitude w = shifted (leb (w / 256) 9) (mantissa w) (w / 256)
 
--- document 01, "Log word" (L1, L2): a negative word is worked out from its negation by the same rule, then negated with wrapping
+-- document 01, "Log word" (L1, L2): a negative word is worked out from its negation by the same
+-- rule, then negated with wrapping
 unfoldable pub logWord : ℤ → ℤ
 logWord (pos w) = magnitude w
 logWord (negsuc w) = wrap32 (negℤ (magnitude (suc w)))

@@ -262,7 +262,8 @@ const EXP2_TABLE: [u8; 256] = [
     255,
 ];
 
-// The mantissa of a word that is not negative: its ninth bit is always set, so the table leaves it out.
+// The mantissa of a word that is not negative: its ninth bit is always set, so the table leaves it
+// out.
 pub fn mantissa(word: u32) -> u32
     ensures { λ r. ⌜ r ≡ mantissa word ⌝ }
 {

@@ -1,5 +1,6 @@
-// Implements document 01, "Log word": a signed 16-bit log word, expanded to the signed 32-bit value that it stands for.
-// A word is an exponent above eight bits that pick a mantissa. Both signs go by the rule for words that are not negative.
+// Implements document 01, "Log word": a signed 16-bit log word, expanded to the signed 32-bit value
+// that it stands for. A word is an exponent above eight bits that pick a mantissa. Both signs go by
+// the rule for words that are not negative.
 mod exp2_table;
 
 use exp2_table::mantissa;
@@ -22,7 +23,8 @@ fn expand_magnitude(word: u32) -> i32
     }
 }
 
-// The value of a word or of its negation, at 32 bits because -32768 has no negation at 16. A negative word calls once more.
+// The value of a word or of its negation, at 32 bits because -32768 has no negation at 16. A
+// negative word calls once more.
 fn expand(word: i32) -> i32
     requires { ⌜ natAbs word ≤ 32768 ⌝ }
     ensures { λ r. ⌜ r ≡ logWord word ⌝ }
@@ -51,7 +53,8 @@ fn signed(bits: u16) -> i16
     }
 }
 
-// Answers the value of the log word whose low byte is `lo` and whose high byte is `hi`. Refuses nothing.
+// Answers the value of the log word whose low byte is `lo` and whose high byte is `hi`. Refuses
+// nothing.
 pub fn expand_log_word(lo: u8, hi: u8) -> i32
     ensures { λ r. ⌜ r ≡ logWord (littleEndian lo hi) ⌝ }
 {

@@ -1,10 +1,10 @@
--- Laws of adaptation that the code's proofs cite.
+-- Adaptation as the code works it out, and that it keeps medians within 32 bits.
 -- Assumes nothing.
 use mathlib.Core.Path.{_≡_, refl, sym}
 use Prim.Native.Nat.{ℕ, zero, suc, _+_, _-_, _*_, _/_, _≤_, _<_}
 use native.Mathlib.Nat.{div-mul-le-self, mul-le-mul-left}
 use native.Mathlib.Omega.{arith}
-use Rattle.entropy.specs.Medians.{Medians}
+use Rattle.entropy.specs.Medians.{Medians, Small}
 use Rattle.medians.specs.Adaptation.{hold, up, down, adapt}
 
 -- the clause for a count of 3 or more, at a count that is known only by its order
@@ -33,3 +33,23 @@ down-low d m a h e l = rw (sym e) (omega (arith, div-small a d h))
 pub down-high : (d m a : ℕ) → 32 ≤ d → a ≡ hold (m + (d - 2)) → a / d * 2 ≤ m → m - a / d * 2 ≡ down d m
 unfolding down
 down-high d m a h e l = rw (sym e) (omega (arith, div-small a d h))
+
+-- ---- adaptation stays within 32 bits
+
+-- up is held within 32 bits
+up-small : (d m : ℕ) → up d m ≤ 4294967295
+unfolding up
+up-small d m = omega arith
+
+-- down makes no median larger
+down-small : (d m : ℕ) → m ≤ 4294967295 → down d m ≤ 4294967295
+unfolding down
+down-small d m h = omega arith
+
+-- medians of 32 bits adapt to medians of 32 bits
+pub adapt-small : (m : Medians) (k : ℕ) → Small m → Small (adapt m k)
+unfolding adapt
+adapt-small m zero s = record { small0 = down-small 128 (m .m0) (s .small0); small1 = s .small1; small2 = s .small2 }
+adapt-small m (suc zero) s = record { small0 = up-small 128 (m .m0); small1 = down-small 64 (m .m1) (s .small1); small2 = s .small2 }
+adapt-small m (suc (suc zero)) s = record { small0 = up-small 128 (m .m0); small1 = up-small 64 (m .m1); small2 = down-small 32 (m .m2) (s .small2) }
+adapt-small m (suc (suc (suc k))) s = record { small0 = up-small 128 (m .m0); small1 = up-small 64 (m .m1); small2 = up-small 32 (m .m2) }

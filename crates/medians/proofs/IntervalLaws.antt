@@ -1,10 +1,10 @@
--- Laws of the interval that the code's proofs and callers cite.
+-- The interval as the code works it out: its ends are in order and have 31 bits, its width 28.
 -- Assumes nothing.
 use mathlib.Core.Path.{_≡_, refl, sym, ap, ap₂, _∙_}
 use Prim.Native.Nat.{ℕ, zero, suc, _+_, _-_, _*_, _%_, _≤_, _<_, max}
 use native.Mathlib.Nat.{mul-le-mul}
 use native.Mathlib.Omega.{arith}
-use Rattle.entropy.specs.Medians.{Medians}
+use Rattle.entropy.specs.Medians.{Medians, Small}
 use Rattle.medians.specs.Interval.{g, base, width, wrapped, lowOf, highOf, IntervalIs}
 
 -- the clauses for a count of 2 or more, at a count that is known only by its order
@@ -18,6 +18,12 @@ pub width-many : (m : Medians) (k : ℕ) → 2 ≤ k → width m k ≡ g (m .m2)
 width-many m zero h = absurd (omega arith)
 width-many m (suc zero) h = absurd (omega arith)
 width-many m (suc (suc j)) h = refl
+
+-- an interval is at least 1 and at most 2 ^ 28 wide
+pub width-le : (m : Medians) (k : ℕ) → Small m → (0 < width m k) × (width m k ≤ 268435456)
+width-le m zero s = omega arith
+width-le m (suc zero) s = omega arith
+width-le m (suc (suc k)) s = omega arith
 
 -- a count of 32 bits times a width fits 64 bits
 pub product-small : (a b : ℕ) → a < 4294967296 → b ≤ 268435456 → a * b ≤ 1152921504338411520

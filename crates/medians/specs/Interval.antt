@@ -1,4 +1,5 @@
--- Document 01, "One word", the interval of a count k (I1, I2, I3): where it starts, how wide it is, and its low and high ends.
+-- Document 01, "One word", the interval of a count k (I1, I2, I3): where it starts, how wide it is,
+-- and its low and high ends.
 -- Assumes nothing.
 use mathlib.Core.Path.{_≡_}
 use Prim.Native.Nat.{ℕ, zero, suc, _+_, _-_, _*_, _/_, _%_, _≤_, _<_, max}
@@ -8,7 +9,8 @@ use Rattle.entropy.specs.Medians.{Medians}
 abbrev pub g : ℕ → ℕ
 g median = median / 16 + 1
 
--- document 01 (I2): "k = 0: from 0, width g0. k = 1: from g0, width g1. k of 2 or more: from g0 + g1 + (k - 2) times g2, width g2"
+-- document 01 (I2): "k = 0: from 0, width g0. k = 1: from g0, width g1. k of 2 or more: from g0 +
+-- g1 + (k - 2) times g2, width g2"
 abbrev pub base : Medians → ℕ → ℕ
 base m zero = 0
 base m (suc zero) = g (m .m0)

@@ -14,15 +14,20 @@ pub struct SampleInterval {
 
 // The width that a median gives to its interval.
 fn get_med(median: u32) -> u64
-    ensures { λ r. ⌜ (r ≡ g median) × (0 < r) × (r ≤ 268435456) ⌝ }
+    ensures is { λ r. ⌜ r ≡ g median ⌝ }
+    ensures some { λ r. ⌜ 0 < r ⌝ }
+    ensures most { λ r. ⌜ r ≤ 268435456 ⌝ }
 {
     wide(median) / 16 + 1
 }
 
 // The interval of `width` numbers from `base` on, cut to 31 bits.
 fn cut(base: u64, width: u64) -> SampleInterval
-    requires { ⌜ (base < 2305843009213693952) × (0 < width) × (width ≤ 268435456) ⌝ }
-    ensures { λ r. ⌜ (r .low ≡ wrapped base) × (r .high ≡ max (wrapped base) (wrapped (base + width - 1))) ⌝ }
+    requires base { ⌜ base < 2305843009213693952 ⌝ }
+    requires some { ⌜ 0 < width ⌝ }
+    requires most { ⌜ width ≤ 268435456 ⌝ }
+    ensures low { λ r. ⌜ r .low ≡ wrapped base ⌝ }
+    ensures high { λ r. ⌜ r .high ≡ max (wrapped base) (wrapped (base + width - 1)) ⌝ }
 {
     let low = (base % 2147483648) as u32;
     let high = ((base + width - 1) % 2147483648) as u32;

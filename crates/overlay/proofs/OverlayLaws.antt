@@ -78,3 +78,8 @@ module _ {A : Type 0} where
   -- the values are what the list then holds there
   pub overlay-take : (list values : List A) → take (length values) (overlay list 0 values) ≡ values
   overlay-take list values = rw (overlay-first list values) (take-at values (drop (length values) list) (length values) refl)
+
+-- two values at place 1 of a list of four
+two-of-four : _≡_ {A = List ℕ} (overlay (1 ∷ 2 ∷ 3 ∷ 4 ∷ []) 1 (8 ∷ 9 ∷ [])) (1 ∷ 8 ∷ 9 ∷ 4 ∷ [])
+unfolding overlay
+two-of-four = refl

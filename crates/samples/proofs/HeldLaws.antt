@@ -1,4 +1,5 @@
--- What the reading loop's locals hold of a state, and that each kind of word keeps them in step with it.
+-- What the reading loop's locals hold of a state, and that each kind of word keeps them in step
+-- with it.
 -- Assumes nothing.
 use mathlib.Core.Path.{_≡_, refl, sym, ap, _∙_}
 use mathlib.Core.Bool.{Bool, true, false}

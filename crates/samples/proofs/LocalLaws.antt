@@ -1,7 +1,8 @@
--- An accepted word, and an accepted reading, depend only on the bits up to the place after them: bytes behind never matter.
+-- An accepted word, and an accepted reading, depend only on the bits up to the place after them:
+-- bytes behind never matter.
 -- Assumes nothing.
 use mathlib.Core.Path.{_≡_, refl, sym, ap, _∙_}
-use mathlib.Core.Bool.{Bool, true, false, cond}
+use mathlib.Core.Bool.{Bool, cond}
 use mathlib.Core.List.{List, [], _++_}
 use Prim.Native.Nat.{ℕ, zero, suc, _+_, _-_, _/_, _%_, _≤_}
 use native.Mathlib.Omega.{arith}
@@ -15,7 +16,8 @@ use Rattle.bits.proofs.LaidLaws.{bits-append}
 use Rattle.fields.specs.Code.{truncatedBinary}
 use Rattle.fields.specs.Counts.{runLength, prefix}
 use Rattle.fields.specs.declared.Prefix.{Prefix}
-use Rattle.fields.proofs.LocalLaws.{Ended, at, never, fieldEnd, prefixEnd, Local, local-still, Split, part, stop, local-then, bits-local, run-local, prefix-local, truncated-binary-local}
+use Rattle.fields.proofs.Local.{Ended, at, never, fieldEnd, prefixEnd, Local, local-still, Split, part, stop, local-then, local-cond}
+use Rattle.fields.proofs.LocalLaws.{bits-local, run-local, prefix-local, truncated-binary-local}
 use Rattle.medians.specs.Interval.{lowOf, highOf}
 use Rattle.word_state.specs.State.{State, due, paid, inRun, unbroken, cleared, flagged, after, runDue, onZeros}
 use Rattle.samples.specs.Word.{Report, none, zoneOf, Word, given, refused, onField, onPrefix, signed, value, plain, fresh, word}
@@ -42,11 +44,6 @@ prefix-word Prefix.Truncated = stop (λ k. refl)
 given-here : (p : ℕ) (v : ℤ) (t : State) (z : Report) → Local wordEnd p (λ a. given v p t z)
 given-here p v t z = local-still wordEnd p (given v p t z) (λ q e. let y : p ≡ q = cc in sym y)
 
--- the first or the second, by a flag
-local-cond : (t : Bool) (p : ℕ) (f g : List Bool → Word) → Local wordEnd p f → Local wordEnd p g → Local wordEnd p (λ a. cond t (f a) (g a))
-local-cond true p f g x y = x
-local-cond false p f g x y = y
-
 -- a zero, or the rest
 local-zeros : (n p : ℕ) (f : ℕ → Word) (g : List Bool → Word) → ((d : ℕ) → Local wordEnd p (λ a. f d)) → Local wordEnd p g → Local wordEnd p (λ a. onZeros n f (g a))
 local-zeros zero p f g x y = y
@@ -71,7 +68,7 @@ value-local p k s =
 plain-local : (p : ℕ) (s : State) → Local wordEnd p (λ a. plain a p s)
 unfolding plain
 plain-local p s =
-    local-cond (s .lastZero) p (λ a. value a p 0 (cleared s)) (λ a. onPrefix (prefix a p) (next a)) (value-local p 0 (cleared s))
+    local-cond wordEnd (s .lastZero) p (λ a. value a p 0 (cleared s)) (λ a. onPrefix (prefix a p) (next a)) (value-local p 0 (cleared s))
     (local-then prefixEnd wordEnd onPrefix prefix-word p (λ a. prefix a p) next (prefix-local p) (λ r q. value-local q (r / 2 + val (s .lastOne)) (flagged (bitOf (r % 2)) s)))
   where
     next : List Bool → ℕ → ℕ → Word
@@ -81,8 +78,8 @@ plain-local p s =
 fresh-local : (p : ℕ) (s : State) → Local wordEnd p (λ a. fresh a p s)
 unfolding fresh
 fresh-local p s =
-    local-cond (s .runBreak) p (λ a. plain a p (unbroken s)) (λ a. cond (runDue (s .left) (s .right) (s .lastZero) (s .lastOne)) (onField (runLength a p) (next a)) (plain a p s)) (plain-local p (unbroken s))
-    (local-cond (runDue (s .left) (s .right) (s .lastZero) (s .lastOne)) p (λ a. onField (runLength a p) (next a)) (λ a. plain a p s)
+    local-cond wordEnd (s .runBreak) p (λ a. plain a p (unbroken s)) (λ a. cond (runDue (s .left) (s .right) (s .lastZero) (s .lastOne)) (onField (runLength a p) (next a)) (plain a p s)) (plain-local p (unbroken s))
+    (local-cond wordEnd (runDue (s .left) (s .right) (s .lastZero) (s .lastOne)) p (λ a. onField (runLength a p) (next a)) (λ a. plain a p s)
     (local-then fieldEnd wordEnd onField field-word p (λ a. runLength a p) next (run-local p)
     (λ n q. local-zeros n q (λ d. given (pos 0) q (inRun d s) none) (λ a. plain a q s) (λ d. given-here q (pos 0) (inRun d s) none) (plain-local q s)))
     (plain-local p s))
@@ -97,7 +94,8 @@ word-local p s = local-zeros (s .debt) p (λ d. given (pos 0) p (paid d s) none)
 
 -- ---- the laws
 
--- an accepted word: any payload with the same bits up to its place after gives the same sample, place, state and report
+-- an accepted word: any payload with the same bits up to its place after gives the same sample,
+-- place, state and report
 pub word-upto : (a b : List Bool) (p q : ℕ) (s t : State) (v : ℤ) (z : Report) → word a p s ≡ given v q t z → take q a ≡ take q b → word b p s ≡ given v q t z
 word-upto a b p q s t v z e h = word-local p s .same a b q (ap wordEnd e) h ∙ e
 

@@ -1,5 +1,6 @@
--- A word is refused with 3 only where a bit is missing or a count or a prefix value is over its cap, with 4 only at a second count of 33, and with no
--- other number; a reading is refused with what its first refused word says.
+-- A word is refused with 3 only where a bit is missing or a count or a prefix value is over its
+-- cap, with 4 only at a second count of 33, and with no other number; a reading is refused with
+-- what its first refused word says.
 -- Assumes nothing.
 use mathlib.Core.Path.{_≡_, refl, sym, _∙_}
 use mathlib.Core.Bool.{Bool, true, false, cond}
@@ -14,7 +15,8 @@ use Rattle.bits.specs.declared.Field.the-variants.{Value, Truncated}
 use Rattle.fields.specs.Code.{truncatedBinary}
 use Rattle.fields.specs.Counts.{runLength, prefix}
 use Rattle.fields.specs.declared.Prefix.{Prefix}
-use Rattle.fields.proofs.RefusalLaws.{bits-missing, run-refused, prefix-refused, prefix-ended, code-refused}
+use Rattle.bits.proofs.ReadLaws.{bits-missing}
+use Rattle.fields.proofs.RefusalLaws.{run-refused, prefix-refused, prefix-ended, code-refused}
 use Rattle.medians.specs.Interval.{lowOf}
 use Rattle.word_state.specs.State.{State, due, paid, inRun, unbroken, cleared, flagged, after, runHere, onZeros}
 use Rattle.samples.specs.Word.{none, zoneOf, Word, given, refused, onField, onPrefix, signed, value, plain, fresh, word}

@@ -1,4 +1,5 @@
--- Document 01, "Reading": words one after another. The bits used are the last accepted word's own place.
+-- Document 01, "Reading": words one after another. The bits used are the last accepted word's own
+-- place.
 -- Assumes nothing.
 use mathlib.Core.Bool.{Bool}
 use mathlib.Core.List.{List, [], _∷_}
@@ -7,7 +8,8 @@ use lib.IntN.{ℤ}
 use Rattle.word_state.specs.State.{State}
 use Rattle.samples.specs.Word.{Word, given, refused, word}
 
--- the refusal (0: none), the samples of the accepted words, the place after them and the state after them
+-- the refusal (0: none), the samples of the accepted words, the place after them and the state
+-- after them
 pub record Reading : Type 0 where
   pub refusal : ℕ
   pub samples : List ℤ
@@ -23,7 +25,8 @@ onWord (refused c) next stop = stop c
 abbrev pub more : ℤ → Reading → Reading
 more v r = record { refusal = r .refusal; samples = v ∷ r .samples; place = r .place; state = r .state }
 
--- n words from the place p and the state s on. Document 01 (R5): "A refusal counts accepted words only"
+-- n words from the place p and the state s on. Document 01 (R5): "A refusal counts accepted words
+-- only"
 unfoldable pub reading : List Bool → ℕ → ℕ → State → Reading
 reading bits zero p s = record { refusal = 0; samples = []; place = p; state = s }
 reading bits (suc n) p s =

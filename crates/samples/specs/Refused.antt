@@ -1,4 +1,5 @@
--- Document 01, "Why each operation says no" (H8): why a word is refused. The places are those at which the word itself reads.
+-- Document 01, "Why each operation says no" (H8): why a word is refused. The places are those at
+-- which the word itself reads.
 -- Assumes nothing.
 use mathlib.Core.Path.{_≡_}
 use mathlib.Core.Bool.{Bool, true, false}
@@ -27,7 +28,8 @@ pub data Counts (bits : List Bool) (p : ℕ) (s : State) : ℕ → ℕ → Type 
   held : (q : ℕ) → Starts bits p s q → s .lastZero ≡ true → Counts bits p s q 0
   read : (m r q : ℕ) → Starts bits p s m → s .lastZero ≡ false → prefix bits m ≡ Prefix.Value r q → Counts bits p s q (r / 2 + val (s .lastOne))
 
--- refusal 3: a field of the word is missing a bit or over its cap; refusal 4: its prefix has a second count of 33
+-- refusal 3: a field of the word is missing a bit or over its cap; refusal 4: its prefix has a
+-- second count of 33
 pub data Why (bits : List Bool) (p : ℕ) (s : State) : ℕ → Type 0 where
   no-run : s .debt ≡ 0 → runHere s ≡ true → NoRun bits p → Why bits p s 3
   no-prefix : (q : ℕ) → Starts bits p s q → s .lastZero ≡ false → NoPrefix bits q → Why bits p s 3

@@ -1,4 +1,5 @@
--- Document 01, "One word": a word is a function of the payload's bits, the place and the state. Its four steps stand here from the last to the first.
+-- Document 01, "One word": a word is a function of the payload's bits, the place and the state. Its
+-- four steps stand here from the last to the first.
 -- Assumes nothing.
 use mathlib.Core.Bool.{Bool, cond}
 use mathlib.Core.List.{List}
@@ -13,7 +14,8 @@ use Rattle.fields.specs.declared.Prefix.{Prefix}
 use Rattle.medians.specs.Interval.{lowOf, highOf}
 use Rattle.word_state.specs.State.{State, due, paid, inRun, unbroken, cleared, flagged, after, runDue, onZeros}
 
--- document 01 (Z1): "A word's report holds its zone, the overflow zone with its count; a zero out of a run and a refused word report none"
+-- document 01 (Z1): "A word's report holds its zone, the overflow zone with its count; a zero out
+-- of a run and a refused word report none"
 pub data Report : Type 0 where
   none : Report
   zone0 : Report
@@ -28,7 +30,8 @@ zoneOf (suc zero) = zone1
 zoneOf (suc (suc zero)) = zone2
 zoneOf (suc (suc (suc k))) = over (suc (suc (suc k)))
 
--- what a word gives: a sample, the place after, the state after and a report; or the number of a refusal
+-- what a word gives: a sample, the place after, the state after and a report; or the number of a
+-- refusal
 pub data Word : Type 0 where
   given : ℤ → ℕ → State → Report → Word
   refused : ℕ → Word
@@ -49,21 +52,24 @@ abbrev pub signed : ℕ → ℕ → ℤ
 signed zero v = pos v
 signed (suc t) v = negsuc v
 
--- document 01 (W4): "Form the interval from the medians, then adapt them, then read code and sign"; k is the count
+-- document 01 (W4): "Form the interval from the medians, then adapt them, then read code and sign";
+-- k is the count
 unfoldable pub value : List Bool → ℕ → ℕ → State → Word
 value bits p k s =
     onField (truncatedBinary bits p (highOf (due s) k - lowOf (due s) k)) λ c q.
     onField (getBits bits q 1) λ t n.
     given (signed t (lowOf (due s) k + c)) n (after k s) (zoneOf k)
 
--- document 01 (W3): "last_zero set: clear it, count k = 0, no bits. Otherwise read prefix r; k = r div 2, plus 1 if last_one"
+-- document 01 (W3): "last_zero set: clear it, count k = 0, no bits. Otherwise read prefix r; k = r
+-- div 2, plus 1 if last_one"
 unfoldable pub plain : List Bool → ℕ → State → Word
 plain bits p s =
     cond (s .lastZero)
     (value bits p 0 (cleared s))
     (onPrefix (prefix bits p) λ r q. value bits q (r / 2 + val (s .lastOne)) (flagged (bitOf (r % 2)) s))
 
--- document 01 (W2): "run_break set: clear it, go to 3. Otherwise, if .. read a run length. If it is 0, go to 3. If n > 0: .. give 0"
+-- document 01 (W2): "run_break set: clear it, go to 3. Otherwise, if .. read a run length. If it is
+-- 0, go to 3. If n > 0: .. give 0"
 unfoldable pub fresh : List Bool → ℕ → State → Word
 fresh bits p s =
     cond (s .runBreak)

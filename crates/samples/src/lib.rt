@@ -1,5 +1,6 @@
-// Implements document 01, "One word" and "Reading". `coded` reads a word where no zero is owed, from numbers alone; the one-word entry and the
-// reading loop both call it and keep the state: the entry in a struct by value, the loop in locals, which is what makes it fast.
+// Implements document 01, "One word" and "Reading". `coded` reads a word where no zero is owed,
+// from numbers alone; the one-word entry and the reading loop both call it and keep the state: the
+// entry in a struct by value, the loop in locals, which is what makes it fast.
 ghost use mathlib.Core.Path.{_≡_};
 ghost use Rattle.samples.specs.Word.{zoneOf};
 ghost use Rattle.samples.specs.View.{reportOfZone};
@@ -57,7 +58,8 @@ pub struct WordAnswer {
     pub report: WordReport,
 }
 
-// What reading answers: the outcome, the bits used, the medians after, and how many samples were written.
+// What reading answers: the outcome, the bits used, the medians after, and how many samples were
+// written.
 pub struct ReadAnswer {
     pub outcome: Outcome,
     pub bits: usize,

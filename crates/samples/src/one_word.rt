@@ -1,4 +1,5 @@
-// Implements document 01, "One word", as an entry of its own: for a caller that holds the state from word to word.
+// Implements document 01, "One word", as an entry of its own: for a caller that holds the state
+// from word to word.
 ghost use mathlib.Core.Path.{_≡_};
 ghost use Prim.Native.Nat.{_<_};
 ghost use lib.IntN.{pos};
@@ -6,7 +7,7 @@ ghost use Rattle.answers.specs.Numbers.{numberOf};
 ghost use Rattle.word_state.specs.State.{withFlags, paid, inRun, unbroken, after};
 ghost use Rattle.samples.specs.Word.{none, zoneOf, given, refused};
 ghost use Rattle.word_state.specs.View.{stateOf};
-ghost use Rattle.samples.specs.View.{wordToldOf, toldWord, oneWord};
+ghost use Rattle.samples.specs.View.{viewWord, tellWord, oneWord};
 use crate::MaybeZone;
 use crate::WordAnswer;
 use crate::WordReport;
@@ -15,6 +16,7 @@ use crate::coded::Coded;
 use crate::coded::read_word;
 use answers::Outcome;
 use answers::Refusal;
+use answers::limits::MAX_PAYLOAD_BYTES;
 use entropy::AdaptiveMedians;
 use medians::adaptation::adapt;
 use word_state::StereoDecodeState;
@@ -22,7 +24,7 @@ use word_state::zero_run_eligible;
 
 // A refused word: sample 0, the old place and state, no report.
 fn refused(refusal: Refusal, place: usize, state: StereoDecodeState) -> WordAnswer
-    ensures { λ r. ⌜ wordToldOf r ≡ toldWord place (stateOf state) (refused (numberOf refusal)) ⌝ }
+    ensures { λ r. ⌜ viewWord r ≡ tellWord place (stateOf state) (refused (numberOf refusal)) ⌝ }
 {
     WordAnswer {
         outcome: Outcome::Refused(refusal),
@@ -37,7 +39,7 @@ fn refused(refusal: Refusal, place: usize, state: StereoDecodeState) -> WordAnsw
 
 // A zero out of a run, which reports no zone.
 fn zero(place: usize, state: StereoDecodeState) -> WordAnswer
-    ensures { λ r. ⌜ wordToldOf r ≡ toldWord place (stateOf state) (given (pos 0) place (stateOf state) none) ⌝ }
+    ensures { λ r. ⌜ viewWord r ≡ tellWord place (stateOf state) (given (pos 0) place (stateOf state) none) ⌝ }
 {
     WordAnswer {
         outcome: Outcome::Accepted,
@@ -52,7 +54,7 @@ fn zero(place: usize, state: StereoDecodeState) -> WordAnswer
 
 // A sample outside a run.
 fn given(sample: i32, place: usize, state: StereoDecodeState, ones_count: u32) -> WordAnswer
-    ensures { λ r. ⌜ wordToldOf r ≡ toldWord place (stateOf state) (given sample place (stateOf state) (zoneOf «ones_count»)) ⌝ }
+    ensures { λ r. ⌜ viewWord r ≡ tellWord place (stateOf state) (given sample place (stateOf state) (zoneOf «ones_count»)) ⌝ }
 {
     WordAnswer {
         outcome: Outcome::Accepted,
@@ -114,16 +116,17 @@ fn adapted(
     next
 }
 
-// The word at a place of the payload, in any state. Refuses with 5 a payload of over 4,194,304 bytes, with 12 a channel above 1, then with 3 or 4
-// what the word runs into; a refusal gives sample 0, the old place, the old state and no report.
+// The word at a place of the payload, in any state. Refuses with 5 a payload of over 4,194,304
+// bytes, with 12 a channel above 1, then with 3 or 4 what the word runs into; a refusal gives
+// sample 0, the old place, the old state and no report.
 pub fn decode_sample_stateful_stereo(
     payload: &[u8],
     place: usize,
     state: StereoDecodeState,
 ) -> WordAnswer
-    ensures { λ r. ⌜ wordToldOf r ≡ oneWord (now (payload .entry)) place (stateOf state) ⌝ }
+    ensures { λ r. ⌜ viewWord r ≡ oneWord (now (payload .entry)) place (stateOf state) ⌝ }
 {
-    if payload.len() > 4194304 {
+    if payload.len() > MAX_PAYLOAD_BYTES {
         return refused(Refusal::TooLarge, place, state);
     }
     if state.next_channel > 1 {

@@ -1,20 +1,28 @@
-// Implements document 01, "Reading": the refusals that come before any word, then word after word into a lent list. The medians are a local array that is indexed by
-// channel, and the rest of the state is in locals, so that the compiler keeps it in registers; a run is one turn, so that no debt is held.
-// The zero set stands outside the loop: made inside it, it cost loud payloads a twentieth.
+// Implements document 01, "Reading": the refusals that come before any word, then word after word
+// into a lent list. The medians are a local array that is indexed by channel, and the rest of the
+// state is in locals, so that the compiler keeps it in registers; a run is one turn, so that no
+// debt is held. The zero set stands outside the loop: made inside it, it cost loud payloads a
+// twentieth.
 ghost use mathlib.Core.Path.{_≡_};
+ghost use mathlib.Core.List.{List};
 ghost use Prim.Native.Nat.{_≤_, _<_};
+ghost use lib.IntN.{ℤ};
 ghost use lib.ListN.{length};
+ghost use Rattle.answers.specs.Limits.{maxPayloadBytes};
+ghost use Rattle.answers.specs.Numbers.{outcomeNumber};
 ghost use Rattle.bits.specs.Bits.{bitsOf};
-ghost use Rattle.entropy.specs.Medians.{pairOf, zeroPair};
+ghost use Rattle.entropy.specs.Medians.{pairOf};
 ghost use Rattle.word_state.specs.State.{start};
 ghost use Rattle.samples.specs.Reading.{reading};
 ghost use Rattle.samples.specs.Parts.{ZerosIs};
-ghost use Rattle.samples.specs.View.{readToldOf, toldReading, readEntry};
+ghost use Rattle.samples.specs.View.{viewReading, tellReading, notRead, readEntry};
 use crate::ReadAnswer;
 use crate::coded::Coded;
 use crate::coded::read_word;
 use answers::Outcome;
 use answers::Refusal;
+use answers::limits::MAX_FRAMES;
+use answers::limits::MAX_PAYLOAD_BYTES;
 use entropy::AdaptiveMedians;
 use entropy::stereo_pair_from_entropy;
 use medians::adaptation::adapt;
@@ -49,7 +57,8 @@ fn stopped(
     }
 }
 
-// The first zero of a run and `behind` more into `out` from `first` on, as far as `out` goes. The index after them.
+// The first zero of a run and `behind` more into `out` from `first` on, as far as `out` goes. The
+// index after them.
 fn put_zeros(out: &mut [i32], first: usize, behind: u32) -> usize
     requires { ⌜ first < length (now out) ⌝ }
     ensures { λ r. ⌜ ZerosIs (now (out .entry)) (now (out .exit)) first behind r ⌝ }
@@ -67,14 +76,15 @@ fn put_zeros(out: &mut [i32], first: usize, behind: u32) -> usize
     i
 }
 
-// Words into all of `out`, the first of them for the left channel. What it holds behind a refused word stays.
+// Words into all of `out`, the first of them for the left channel. What it holds behind a refused
+// word stays.
 fn decode_packed_samples_stereo(
     payload: &[u8],
     seeds: [AdaptiveMedians; 2],
     out: &mut [i32],
 ) -> ReadAnswer
-    requires { ⌜ length (now payload) ≤ 4194304 ⌝ }
-    ensures { λ r. ⌜ readToldOf r (now (out .exit)) ≡ toldReading (now (out .entry)) (reading (bitsOf (now (payload .entry))) (length (now (out .entry))) 0 (start (pairOf seeds .left) (pairOf seeds .right))) ⌝ }
+    requires { ⌜ length (now payload) ≤ maxPayloadBytes ⌝ }
+    ensures { λ r. ⌜ viewReading r (now (out .exit)) ≡ tellReading (now (out .entry)) (reading (bitsOf (now (payload .entry))) (length (now (out .entry))) 0 (start (pairOf seeds .left) (pairOf seeds .right))) ⌝ }
 {
     let none = AdaptiveMedians { values: [0, 0, 0] };
     let mut medians = seeds;
@@ -111,7 +121,7 @@ fn decode_packed_samples_stereo(
 
 // The answer of a reading that ended before any word.
 fn not_read(outcome: Outcome) -> ReadAnswer
-    ensures { λ r. ⌜ (r .outcome ≡ outcome) × (r .bits ≡ 0) × (pairOf (r .medians) ≡ zeroPair) × (r .written ≡ 0) ⌝ }
+    ensures { λ r. ⌜ ((list : List ℤ) → viewReading r list ≡ notRead list (outcomeNumber outcome)) ⌝ }
 {
     let none = AdaptiveMedians { values: [0, 0, 0] };
     ReadAnswer {
@@ -122,21 +132,22 @@ fn not_read(outcome: Outcome) -> ReadAnswer
     }
 }
 
-// The samples of `frames` frames, left then right, into `out`. Refuses with 5 over 131,072 frames or 4,194,304 payload bytes, with 6 where `out`
-// has not two elements a frame, with 1 or 2 what is wrong with the entropy payload, then with 3 or 4 what a word runs into. Only a refusal in a
-// word leaves samples in `out`, those before it.
+// The samples of `frames` frames, left then right, into `out`. Refuses with 5 over 131,072 frames
+// or 4,194,304 payload bytes, with 6 where `out` has not two elements a frame, with 1 or 2 what is
+// wrong with the entropy payload, then with 3 or 4 what a word runs into. Only a refusal in a word
+// leaves samples in `out`, those before it.
 pub fn decode_packed_samples_stereo_from_entropy(
     entropy: &[u8],
     payload: &[u8],
     frames: usize,
     out: &mut [i32],
 ) -> ReadAnswer
-    ensures { λ r. ⌜ readToldOf r (now (out .exit)) ≡ readEntry (now (entropy .entry)) (now (payload .entry)) frames (now (out .entry)) ⌝ }
+    ensures { λ r. ⌜ viewReading r (now (out .exit)) ≡ readEntry (now (entropy .entry)) (now (payload .entry)) frames (now (out .entry)) ⌝ }
 {
-    if frames > 131072 {
+    if frames > MAX_FRAMES {
         return not_read(Outcome::Refused(Refusal::TooLarge));
     }
-    if payload.len() > 4194304 {
+    if payload.len() > MAX_PAYLOAD_BYTES {
         return not_read(Outcome::Refused(Refusal::TooLarge));
     }
     if out.len() != 2 * frames {

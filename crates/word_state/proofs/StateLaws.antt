@@ -1,4 +1,5 @@
--- Laws of the state's parts: the channel, the array of two sets that the code holds, and zeros owed.
+-- Laws of the state's parts: the channel, the array of two sets that the code holds, and zeros
+-- owed.
 -- Assumes nothing.
 use mathlib.Core.Path.{_≡_, refl, sym, ap, _∙_}
 use mathlib.Core.Bool.{Bool, false}

@@ -6,8 +6,8 @@ ghost use Rattle.entropy.specs.Medians.{mediansOf};
 ghost use Rattle.word_state.specs.State.{runDue};
 use entropy::AdaptiveMedians;
 
-// The state of the words: the medians of both channels, indexed by channel, and what one word leaves
-// to the next.
+// The state of the words: the medians of both channels, indexed by channel, and what one word
+// leaves to the next.
 pub struct StereoDecodeState {
     pub medians: [AdaptiveMedians; 2],
     pub last_zero: bool,

@@ -1,4 +1,5 @@
--- The proof of the cycle of calls {expand}: a negative word calls once, at its negation. The measure is 1 for a negative word and 0 otherwise.
+-- The proof of the cycle of calls {expand}: a negative word calls once, at its negation. The
+-- measure is 1 for a negative word and 0 otherwise.
 -- Assumes nothing.
 use Rattle.logpack.proofs.Negation.{negative, negated, negated-raw, plain-fits, plain-raw}
 use Prim.Native.Nat.{ℕ, _<_}

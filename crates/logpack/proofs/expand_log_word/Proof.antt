@@ -7,22 +7,10 @@ use borrow.Author.Needs.{needs}
 use Rattle.logpack.proofs.expand_log_word.Statement.{statement}
 use Rattle.logpack.proofs.expand_log_word.Tie as tie
 
-mul-signed : tie.Need-mul-signed
-mul-signed c = search needs
-
-add-signed : tie.Need-add-signed
-add-signed c = search needs
-
-signed-requires : tie.Need-signed-requires
-signed-requires c κs = search needs
-
-wp-exp2s-requires : tie.Need-wp-exp2s-requires
-wp-exp2s-requires c κs = search needs
-
 returns : tie.Need-returns
 returns c =
     rw (c .wp-exp2s .ensures, toZ-ofZ w16 (c .before .signed .result) (search needs), c .before .signed .ensures) (toZ-ofZ w32 _ (logWord-fits _))
 
 pub expand-log-word-spec : {M : Type 1} → statement M
 expand-log-word-spec =
-    tie.close (tie.spec mul-signed add-signed signed-requires wp-exp2s-requires returns)
+    tie.close (tie.spec (λ c. search needs) (λ c. search needs) (λ c κs. search needs) (λ c κs. search needs) returns)

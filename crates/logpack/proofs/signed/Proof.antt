@@ -9,19 +9,10 @@ use borrow.Author.Needs.{needs}
 use Rattle.logpack.proofs.signed.Statement.{statement}
 use Rattle.logpack.proofs.signed.Tie as tie
 
-cast-result : tie.Need-cast-result
-cast-result c = search needs
-
-cast-result-2 : tie.Need-cast-result-2
-cast-result-2 c = search needs
-
-returns : tie.Need-returns
-returns c = search needs
-
 returns-2 : tie.Need-returns-2
 returns-2 c =
     let e : 65535 - (65535 - c .before .args .bits) ≡ c .before .args .bits = omega arith in
     ap (toZ w16) e
 
 pub signed-spec : {M : Type 1} → statement M
-signed-spec = tie.close (tie.spec cast-result cast-result-2 returns returns-2)
+signed-spec = tie.close (tie.spec (λ c. search needs) (λ c. search needs) (λ c. search needs) returns-2)

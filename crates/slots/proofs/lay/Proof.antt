@@ -24,30 +24,10 @@ abbrev μ-loop : tie.MeasureT-loop
 loop-holds : tie.Need-loop-holds Inv-loop μ-loop
 loop-holds c = (omega arith, refl, paste-zero (c .args .slots .now) (c .args .at) (c .args .values .now))
 
-mul-slots : tie.Need-mul-slots Inv-loop μ-loop
-mul-slots c = omega arith
-
-shared-slice-copy-out-slots : tie.Need-shared-slice-copy-out-slots Inv-loop μ-loop
-shared-slice-copy-out-slots c = omega arith
-
-add-t9 : tie.Need-add-t9 Inv-loop μ-loop
-add-t9 c = omega arith
-
-mul-t10 : tie.Need-mul-t10 Inv-loop μ-loop
-mul-t10 c = omega arith
-
-slice-set-from-slots : tie.Need-slice-set-from-slots Inv-loop μ-loop
-slice-set-from-slots c = omega arith
-
-add-i : tie.Need-add-i Inv-loop μ-loop
-add-i c = omega arith
-
-loop-less : tie.Need-loop-less Inv-loop μ-loop
-loop-less c = omega arith
-
 loop-again : tie.Need-loop-again Inv-loop μ-loop
 loop-again c =
-    let a = c .before .before .before .args in
+    let start : tie.Start Inv-loop μ-loop = search needs in
+    let a = start .args in
     let vs = a .values .now in
     let t = c .before .before .loop in
     (omega arith, simp length-set (t .inv .1), rw (toZ-ofZ w32 (getD vs (t .i) (pos 0)) (search needs), t .inv .2, add-one (t .i)) (paste-suc (a .slots .now) (a .at) vs (t .i) (pos 0) (omega arith) (omega arith)))
@@ -68,13 +48,13 @@ lay-spec =
     Inv-loop
     μ-loop
     loop-holds
-    mul-slots
-    shared-slice-copy-out-slots
-    add-t9
-    mul-t10
-    slice-set-from-slots
-    add-i
-    loop-less
+    (λ c. omega arith)
+    (λ c. omega arith)
+    (λ c. omega arith)
+    (λ c. omega arith)
+    (λ c. omega arith)
+    (λ c. omega arith)
+    (λ c. omega arith)
     loop-again
     same-length
     returns)

@@ -16,24 +16,22 @@ returns-2 : tie.Need-returns-2
 unfolding bitsRead
 returns-2 c = rw (le-ltb _ _ (c .before .if1 .left), lt-ltb _ _ (c .if2 .taken))
 
-get-bits-requires : tie.Need-get-bits-requires
-get-bits-requires c κs = search needs
-
-enum-known-v : tie.Need-enum-known-v
-enum-known-v c = search needs
-
-enum-told : tie.Need-enum-told
-enum-told c = search needs
-
 returns-3 : tie.Need-returns-3
 unfolding bitsRead
-returns-3 c = rw (le-ltb _ _ (c .before .before .before .before .if1 .left), le-ltb _ _ (c .before .before .before .if2 .left), sym (c .before .before .get-bits .ensures) ∙ c .enum-told .given .1)
+returns-3 c =
+    let else1 : tie.Else1 = search needs in
+    let else2 : tie.Else2 = search needs in
+    rw (le-ltb _ _ (else1 .if1 .left), le-ltb _ _ (else2 .if2 .left), sym (c .before .before .get-bits .ensures) ∙ c .enum-told .given .1)
 
 returns-4 : tie.Need-returns-4
 unfolding bitsRead
-returns-4 c = rw (le-ltb _ _ (c .before .before .before .before .before .if1 .left), le-ltb _ _ (c .before .before .before .before .if2 .left), sym (c .before .before .before .get-bits .ensures) ∙ c .before .v .given .1)
+returns-4 c =
+    let else1 : tie.Else1 = search needs in
+    let else2 : tie.Else2 = search needs in
+    let after-get-bits : tie.After-get-bits = search needs in
+    rw (le-ltb _ _ (else1 .if1 .left), le-ltb _ _ (else2 .if2 .left), sym (after-get-bits .get-bits .ensures) ∙ c .before .v .given .1)
 
 pub checked-get-bits-spec : {M : Type 1} → statement M
 checked-get-bits-spec =
     tie.close
-    (tie.spec returns returns-2 get-bits-requires enum-known-v enum-told returns-3 returns-4)
+    (tie.spec returns returns-2 (λ c κs. search needs) (λ c. search needs) (λ c. search needs) returns-3 returns-4)

@@ -12,23 +12,19 @@ returns : tie.Need-returns
 unfolding unaryRead
 returns c = rw (lt-ltb _ _ (c .if1 .taken))
 
-get-unary-requires : tie.Need-get-unary-requires
-get-unary-requires c κs = search needs
-
-enum-known-v : tie.Need-enum-known-v
-enum-known-v c = search needs
-
-enum-told : tie.Need-enum-told
-enum-told c = search needs
-
 returns-2 : tie.Need-returns-2
 unfolding unaryRead
-returns-2 c = rw (le-ltb _ _ (c .before .before .before .if1 .left), sym (c .before .before .get-unary .ensures) ∙ c .enum-told .given .1)
+returns-2 c =
+    let else1 : tie.Else1 = search needs in
+    rw (le-ltb _ _ (else1 .if1 .left), sym (c .before .before .get-unary .ensures) ∙ c .enum-told .given .1)
 
 returns-3 : tie.Need-returns-3
 unfolding unaryRead
-returns-3 c = rw (le-ltb _ _ (c .before .before .before .before .if1 .left), sym (c .before .before .before .get-unary .ensures) ∙ c .before .v .given .1)
+returns-3 c =
+    let else1 : tie.Else1 = search needs in
+    let after-get-unary : tie.After-get-unary = search needs in
+    rw (le-ltb _ _ (else1 .if1 .left), sym (after-get-unary .get-unary .ensures) ∙ c .before .v .given .1)
 
 pub checked-get-unary-spec : {M : Type 1} → statement M
 checked-get-unary-spec =
-    tie.close (tie.spec returns get-unary-requires enum-known-v enum-told returns-2 returns-3)
+    tie.close (tie.spec returns (λ c κs. search needs) (λ c. search needs) (λ c. search needs) returns-2 returns-3)

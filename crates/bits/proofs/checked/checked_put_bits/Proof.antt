@@ -19,34 +19,29 @@ returns c =
 
 returns-2 : tie.Need-returns-2
 returns-2 c =
-    let a = c .before .before .before .args in
+    let start : tie.Start = search needs in
+    let a = start .args in
     let e = written-wide (now (a .out)) (a .at) (a .v) (a .count) (omega arith) (omega arith) in
     (rw e, rw e)
 
-mul-end : tie.Need-mul-end
-mul-end c = search needs
-
 returns-3 : tie.Need-returns-3
 returns-3 c =
-    let a = c .before .before .before .before .args in
+    let start : tie.Start = search needs in
+    let a = start .args in
     let e = written-short (now (a .out)) (a .at) (a .v) (a .count) (omega arith) (omega arith) (omega arith) in
     (rw e, rw e)
 
 returns-4 : tie.Need-returns-4
 returns-4 c =
-    let a = c .before .before .before .before .before .args in
+    let start : tie.Start = search needs in
+    let a = start .args in
     let e = written-short (now (a .out)) (a .at) (a .v) (a .count) (omega arith) (omega arith) (omega arith) in
     (rw e, rw e)
 
-lay-bits-requires : tie.Need-lay-bits-requires
-lay-bits-requires c κs = search needs
-
-same-length : tie.Need-same-length
-same-length c = search needs
-
 returns-5 : tie.Need-returns-5
 returns-5 c =
-    let a = c .before .before .before .before .before .before .before .before .before .args in
+    let start : tie.Start = search needs in
+    let a = start .args in
     let l = c .before .before .lay-bits in
     let e = written-accepted (now (a .out)) (a .at) (a .v) (a .count) (omega arith) (omega arith) (omega arith) in
     (rw e (ap (λ (n : ℕ). 0 ∷ n ∷ []) (l .ensures .1)), rw e (l .ensures .0))
@@ -57,9 +52,9 @@ checked-put-bits-spec =
     (tie.spec
     returns
     returns-2
-    mul-end
+    (λ c. search needs)
     returns-3
     returns-4
-    lay-bits-requires
-    same-length
+    (λ c κs. search needs)
+    (λ c. search needs)
     returns-5)

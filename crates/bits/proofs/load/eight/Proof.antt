@@ -7,17 +7,10 @@ use Rattle.bits.proofs.Window.{Joined, joined}
 use Rattle.bits.proofs.load.eight.Statement.{statement}
 use Rattle.bits.proofs.load.eight.Tie as tie
 
-four-requires : tie.Need-four-requires
-four-requires c κs = search needs
-
-add-four : tie.Need-add-four
-add-four c = search needs
-
-four-requires-2 : tie.Need-four-requires-2
-four-requires-2 c κs = search needs
-
 both : (c : tie.After-four2) → let a = c .before .before .before .args in Joined (now (a .s)) (a .i) 4 (c .before .four .result) (c .four2 .result)
-both c = let a = c .before .before .before .args in joined (now (a .s)) (a .i) 4 _ _ (omega arith) (omega arith) (c .before .four .ensures) (c .four2 .ensures)
+both c =
+    let start : tie.Start = search needs in
+    let a = start .args in joined (now (a .s)) (a .i) 4 _ _ (omega arith) (omega arith) (c .before .four .ensures) (c .four2 .ensures)
 
 add-result : tie.Need-add-result
 add-result c = let j = both c in omega arith
@@ -26,4 +19,4 @@ returns : tie.Need-returns
 returns c = let j = both c in rw (j .exact) (j .same)
 
 pub eight-spec : {M : Type 1} → statement M
-eight-spec = tie.close (tie.spec four-requires add-four four-requires-2 add-result returns)
+eight-spec = tie.close (tie.spec (λ c κs. search needs) (λ c. search needs) (λ c κs. search needs) add-result returns)

@@ -7,17 +7,10 @@ use Rattle.bits.proofs.Window.{Joined, joined}
 use Rattle.bits.proofs.load.four.Statement.{statement}
 use Rattle.bits.proofs.load.four.Tie as tie
 
-two-requires : tie.Need-two-requires
-two-requires c κs = search needs
-
-add-two : tie.Need-add-two
-add-two c = search needs
-
-two-requires-2 : tie.Need-two-requires-2
-two-requires-2 c κs = search needs
-
 both : (c : tie.After-two2) → let a = c .before .before .before .args in Joined (now (a .s)) (a .i) 2 (c .before .two .result) (c .two2 .result)
-both c = let a = c .before .before .before .args in joined (now (a .s)) (a .i) 2 _ _ (omega arith) (omega arith) (c .before .two .ensures) (c .two2 .ensures)
+both c =
+    let start : tie.Start = search needs in
+    let a = start .args in joined (now (a .s)) (a .i) 2 _ _ (omega arith) (omega arith) (c .before .two .ensures) (c .two2 .ensures)
 
 add-result : tie.Need-add-result
 add-result c = let j = both c in omega arith
@@ -26,4 +19,4 @@ returns : tie.Need-returns
 returns c = let j = both c in rw (j .exact) (j .same)
 
 pub four-spec : {M : Type 1} → statement M
-four-spec = tie.close (tie.spec two-requires add-two two-requires-2 add-result returns)
+four-spec = tie.close (tie.spec (λ c κs. search needs) (λ c. search needs) (λ c κs. search needs) add-result returns)

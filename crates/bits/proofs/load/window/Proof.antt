@@ -20,58 +20,34 @@ Inv-loop s i n w₀ j₀ w j = (j ≤ n) × (n < 8) × (n ≡ length s - i) × (
 abbrev μ-loop : tie.MeasureT-loop
 μ-loop s i n w₀ j₀ w j = n - j
 
-sub-n : tie.Need-sub-n Inv-loop μ-loop
-sub-n c = omega arith
-
-eight-requires : tie.Need-eight-requires Inv-loop μ-loop
-eight-requires c κs = omega arith
-
 returns : tie.Need-returns Inv-loop μ-loop
 returns c = c .eight .ensures
 
 loop-holds : tie.Need-loop-holds Inv-loop μ-loop
 loop-holds c = (omega arith, omega arith, refl, nothing (drop (c .before .before .args .i) (now (c .before .before .args .s))))
 
-add-wide64 : tie.Need-add-wide64 Inv-loop μ-loop
-add-wide64 c = omega arith
-
-shared-slice-read-wide64 : tie.Need-shared-slice-read-wide64 Inv-loop μ-loop
-shared-slice-read-wide64 c = omega arith
-
-wide64-requires : tie.Need-wide64-requires Inv-loop μ-loop
-wide64-requires c κs = search needs
-
-mul-w : tie.Need-mul-w Inv-loop μ-loop
-mul-w c = omega arith
-
-shl-w : tie.Need-shl-w Inv-loop μ-loop
-shl-w c = omega arith
-
 turn : (c : tie.After-wide64 Inv-loop μ-loop) →
     let a = c .before .before .before .before .before .before .args in
     let l = c .before .before .before .loop in
     More (now (a .s)) (a .i) (l .j) (l .w) (c .wide64 .result)
 turn c =
-    let a = c .before .before .before .before .before .before .args in
-    let l = c .before .before .before .loop in
+    let start : tie.Start Inv-loop μ-loop = search needs in
+    let at-loop : tie.At-loop Inv-loop μ-loop = search needs in
+    let a = start .args in
+    let l = at-loop .loop in
     let e = c .wide64 .ensures in
     more (now (a .s)) (a .i) (l .j) (l .w) _ (omega arith) (omega arith) (l .inv .3) e (omega (arith, e, c .before .shared-slice-known2 .given (a .i + l .j)))
 
 add-w : tie.Need-add-w Inv-loop μ-loop
 add-w c = let m = turn c in omega arith
 
-add-j : tie.Need-add-j Inv-loop μ-loop
-add-j c = omega arith
-
-loop-less : tie.Need-loop-less Inv-loop μ-loop
-loop-less c = omega arith
-
 loop-again : tie.Need-loop-again Inv-loop μ-loop
 loop-again c = let m = turn c in (omega arith, omega arith, refl, rw (m .exact) (m .same))
 
 returns-2 : tie.Need-returns-2 Inv-loop μ-loop
 returns-2 c =
-    let a = c .before .before .before .before .args in
+    let start : tie.Start Inv-loop μ-loop = search needs in
+    let a = start .args in
     let l = c .before .loop in
     let r = drop (a .i) (now (a .s)) in
     let n = length-drop (a .i) (now (a .s)) in
@@ -83,17 +59,17 @@ window-spec =
     (tie.spec
     Inv-loop
     μ-loop
-    sub-n
-    eight-requires
+    (λ c. omega arith)
+    (λ c κs. omega arith)
     returns
     loop-holds
-    add-wide64
-    shared-slice-read-wide64
-    wide64-requires
-    mul-w
-    shl-w
+    (λ c. omega arith)
+    (λ c. omega arith)
+    (λ c κs. search needs)
+    (λ c. omega arith)
+    (λ c. omega arith)
     add-w
-    add-j
-    loop-less
+    (λ c. omega arith)
+    (λ c. omega arith)
     loop-again
     returns-2)

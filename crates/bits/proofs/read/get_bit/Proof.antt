@@ -17,27 +17,13 @@ returns c =
     let bits = bitsOf (now (a .s)) in
     sym (bits-no bits (a .at) 1 (omega (arith, length-drop (a .at) bits, length-bits (now (a .s)))))
 
-shared-slice-read-wide : tie.Need-shared-slice-read-wide
-shared-slice-read-wide c = search needs
-
-cast-wide : tie.Need-cast-wide
-cast-wide c = search needs
-
-shr-wide : tie.Need-shr-wide
-shr-wide c = search needs
-
-wide-requires : tie.Need-wide-requires
-wide-requires c κs = search needs
-
-add-t12 : tie.Need-add-t12
-add-t12 c = search needs
-
 returns-2 : tie.Need-returns-2
 returns-2 c =
-    let a = c .before .before .before .before .args in
+    let start : tie.Start = search needs in
+    let a = start .args in
     rw (c .wide .ensures) (sym (bit-read (now (a .s)) (a .at) (omega arith)))
 
 pub get-bit-spec : {M : Type 1} → statement M
 get-bit-spec =
     tie.close
-    (tie.spec returns shared-slice-read-wide cast-wide shr-wide wide-requires add-t12 returns-2)
+    (tie.spec returns (λ c. search needs) (λ c. search needs) (λ c. search needs) (λ c κs. search needs) (λ c. search needs) returns-2)

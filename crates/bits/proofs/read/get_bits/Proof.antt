@@ -18,57 +18,47 @@ use Rattle.bits.proofs.read.get_bits.Statement.{statement}
 use Rattle.bits.proofs.read.get_bits.Tie as tie
 
 returns : tie.Need-returns
-returns c = let a = c .before .before .before .args in rw (c .if2 .taken) (sym (bits-none (bitsOf (now (a .s))) (a .at)))
+returns c =
+    let start : tie.Start = search needs in
+    let a = start .args in rw (c .if2 .taken) (sym (bits-none (bitsOf (now (a .s))) (a .at)))
 
 returns-2 : tie.Need-returns-2
 returns-2 c =
-    let a = c .before .before .before .args in
+    let start : tie.Start = search needs in
+    let a = start .args in
     let bits = bitsOf (now (a .s)) in
     sym (bits-no bits (a .at) (a .count) (omega (arith, length-drop (a .at) bits, length-bits (now (a .s)))))
-
-sub-if3 : tie.Need-sub-if3
-sub-if3 c = search needs
-
-mul-if3 : tie.Need-mul-if3
-mul-if3 c = search needs
-
-sub-if3-2 : tie.Need-sub-if3-2
-sub-if3-2 c = search needs
 
 returns-3 : tie.Need-returns-3
 returns-3 c =
-    let a = c .before .before .before .args in
+    let start : tie.Start = search needs in
+    let a = start .args in
     let bits = bitsOf (now (a .s)) in
     sym (bits-no bits (a .at) (a .count) (omega (arith, length-drop (a .at) bits, length-bits (now (a .s)))))
-
-window-requires : tie.Need-window-requires
-window-requires c κs = search needs
-
-shr-x : tie.Need-shr-x
-shr-x c = search needs
-
-shl-x : tie.Need-shl-x
-shl-x c = search needs
 
 read : (c : tie.After-window) →
     let a = c .before .before .before .before .args in
     getBits (bitsOf (now (a .s))) (a .at) (a .count) ≡ Value (c .window .result / 2 ^ (a .at % 8) % 2 ^ a .count) (a .at + a .count)
 read c =
-    let a = c .before .before .before .before .args in
+    let start : tie.Start = search needs in
+    let a = start .args in
     let s = now (a .s) in
     window-bits _ _ (8 * min 8 (length s - a .at / 8) - a .at % 8) _ (a .count) (tail-window s (a .at) _ (omega arith) (c .window .ensures)) (omega arith)
 
 rem-x : tie.Need-rem-x
-rem-x c = let k = c .before .before .before .before .args .count in omega (arith, shl-one k 64 (omega arith), pow-pos k)
+rem-x c =
+    let start : tie.Start = search needs in
+    let k = start .args .count in omega (arith, shl-one k 64 (omega arith), pow-pos k)
 
 cast-t19 : tie.Need-cast-t19
-cast-t19 c = let k = c .before .before .before .before .args .count in rw (shl-one k 64 (omega arith)) (record { fits = bits-lt _ _ k _ _ 32 (read c) (omega arith) })
-
-add-t10 : tie.Need-add-t10
-add-t10 c = search needs
+cast-t19 c =
+    let start : tie.Start = search needs in
+    let k = start .args .count in rw (shl-one k 64 (omega arith)) (record { fits = bits-lt _ _ k _ _ 32 (read c) (omega arith) })
 
 returns-4 : tie.Need-returns-4
-returns-4 c = let k = c .before .before .before .before .args .count in rw (shl-one k 64 (omega arith)) (sym (read c))
+returns-4 c =
+    let start : tie.Start = search needs in
+    let k = start .args .count in rw (shl-one k 64 (omega arith)) (sym (read c))
 
 pub get-bits-spec : {M : Type 1} → statement M
 get-bits-spec =
@@ -76,14 +66,14 @@ get-bits-spec =
     (tie.spec
     returns
     returns-2
-    sub-if3
-    mul-if3
-    sub-if3-2
+    (λ c. search needs)
+    (λ c. search needs)
+    (λ c. search needs)
     returns-3
-    window-requires
-    shr-x
-    shl-x
+    (λ c κs. search needs)
+    (λ c. search needs)
+    (λ c. search needs)
     rem-x
     cast-t19
-    add-t10
+    (λ c. search needs)
     returns-4)

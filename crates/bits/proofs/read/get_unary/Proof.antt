@@ -1,6 +1,7 @@
 -- `get_unary` meets its contract: the loop has passed ones only, and the bit at p ends it or is
 -- passed too.
 -- Assumes nothing.
+use borrow.Author.Needs.{needs}
 use native.Mathlib.Omega.{arith}
 use mathlib.Core.Path.{_≡_, sym, ap₂, _∙_}
 use Prim.Native.Nat.{_+_, _/_, _%_, _^_, _≤_}
@@ -28,38 +29,17 @@ here : (c : tie.After-shared-slice-known Inv-loop μ-loop) →
     let s = now (c .before .before .before .args .s) in
     let p = c .before .before .loop .p in
     Passed (bitsOf s) p (getD s (p / 8) 0 / 2 ^ (p % 8) % 2)
-here c = passed (now (c .before .before .before .args .s)) (c .before .before .loop .p) (omega arith)
-
-loop-holds : tie.Need-loop-holds Inv-loop μ-loop
-loop-holds c = omega arith
-
-shared-slice-read-if1 : tie.Need-shared-slice-read-if1 Inv-loop μ-loop
-shared-slice-read-if1 c = omega arith
-
-cast-if1 : tie.Need-cast-if1 Inv-loop μ-loop
-cast-if1 c = omega arith
-
-shr-if1 : tie.Need-shr-if1 Inv-loop μ-loop
-shr-if1 c = omega arith
-
-sub-t12 : tie.Need-sub-t12 Inv-loop μ-loop
-sub-t12 c = omega arith
-
-cast-t13 : tie.Need-cast-t13 Inv-loop μ-loop
-cast-t13 c = omega arith
-
-add-t14 : tie.Need-add-t14 Inv-loop μ-loop
-add-t14 c = omega arith
+here c =
+    let start : tie.Start Inv-loop μ-loop = search needs in
+    passed (now (start .args .s)) (c .before .before .loop .p) (omega arith)
 
 returns : tie.Need-returns Inv-loop μ-loop
 returns c =
-    let a = c .before .before .before .before .args in
+    let start : tie.Start Inv-loop μ-loop = search needs in
+    let a = start .args in
     let b = here (c .before) in
     let z = b .stop (c .if1 .taken) in
     sym (unary-yes (bitsOf (now (a .s))) (a .at) (omega arith) ∙ ap₂ Value (omega arith) (omega arith))
-
-add-p : tie.Need-add-p Inv-loop μ-loop
-add-p c = omega arith
 
 loop-less : tie.Need-loop-less Inv-loop μ-loop
 loop-less c = let b = here (c .before) in omega arith
@@ -80,15 +60,15 @@ get-unary-spec =
     (tie.spec
     Inv-loop
     μ-loop
-    loop-holds
-    shared-slice-read-if1
-    cast-if1
-    shr-if1
-    sub-t12
-    cast-t13
-    add-t14
+    (λ c. omega arith)
+    (λ c. omega arith)
+    (λ c. omega arith)
+    (λ c. omega arith)
+    (λ c. omega arith)
+    (λ c. omega arith)
+    (λ c. omega arith)
     returns
-    add-p
+    (λ c. omega arith)
     loop-less
     loop-again
     returns-2)

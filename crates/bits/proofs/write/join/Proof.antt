@@ -10,12 +10,6 @@ use Rattle.bits.proofs.BitLaws.{shl-one, join-lt}
 use Rattle.bits.proofs.write.join.Statement.{statement}
 use Rattle.bits.proofs.write.join.Tie as tie
 
-wide-requires : tie.Need-wide-requires
-wide-requires c κs = search needs
-
-shl-old : tie.Need-shl-old
-shl-old c = search needs
-
 -- the byte that is worked out is the one that is meant
 same : (c : tie.After-wide) →
     let a = c .before .args in
@@ -27,14 +21,8 @@ same c =
 rem-old : tie.Need-rem-old
 rem-old c = let k = c .before .args .k in omega (arith, shl-one k 32 (omega arith), pow-pos k)
 
-shl-x : tie.Need-shl-x
-shl-x c = search needs
-
 rem-x : tie.Need-rem-x
 rem-x c = let m = c .before .args .m in omega (arith, shl-one m 32 (omega arith), pow-pos m)
-
-shl-result : tie.Need-shl-result
-shl-result c = search needs
 
 add-result : tie.Need-add-result
 add-result c = let a = c .before .args in omega (arith, same c, join-lt (a .k) (a .m) (a .c) (a .v) 8 (omega arith))
@@ -48,4 +36,4 @@ returns c = same c
 pub join-spec : {M : Type 1} → statement M
 join-spec =
     tie.close
-    (tie.spec wide-requires shl-old rem-old shl-x rem-x shl-result add-result cast-result returns)
+    (tie.spec (λ c κs. search needs) (λ c. search needs) rem-old (λ c. search needs) rem-x (λ c. search needs) add-result cast-result returns)

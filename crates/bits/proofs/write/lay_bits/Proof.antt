@@ -9,29 +9,13 @@ use Rattle.bits.proofs.WriteLaws.{put-lent}
 use Rattle.bits.proofs.write.lay_bits.Statement.{statement}
 use Rattle.bits.proofs.write.lay_bits.Tie as tie
 
-sub-put-bits : tie.Need-sub-put-bits
-sub-put-bits c = search needs
-
-part-put-bits-start : tie.Need-part-put-bits-start
-part-put-bits-start c = search needs
-
-part-put-bits-end : tie.Need-part-put-bits-end
-part-put-bits-end c = search needs
-
-put-bits-requires : tie.Need-put-bits-requires
-put-bits-requires c κs = search needs
-
-add-result : tie.Need-add-result
-add-result c = search needs
-
-same-length : tie.Need-same-length
-same-length c = search needs
-
 returns : tie.Need-returns
 returns c =
-    let a = c .before .before .before .before .before .args in
+    let start : tie.Start = search needs in
+    let after-slice-known : tie.After-slice-known = search needs in
+    let a = start .args in
     let r = c .before .before .put-bits in (
-      put-lent (now (a .out)) (r .last .0) (a .at) _ (low (a .count) (a .v)) (λ i. omega (arith, c .before .before .before .before .slice-known .given i)) (omega arith) refl (r .ensures) (r .kept .0),
+      put-lent (now (a .out)) (r .last .0) (a .at) _ (low (a .count) (a .v)) (λ i. omega (arith, after-slice-known .slice-known .given i)) (omega arith) refl (r .ensures) (r .kept .0),
       refl,
     )
 
@@ -39,10 +23,10 @@ pub lay-bits-spec : {M : Type 1} → statement M
 lay-bits-spec =
     tie.close
     (tie.spec
-    sub-put-bits
-    part-put-bits-start
-    part-put-bits-end
-    put-bits-requires
-    add-result
-    same-length
+    (λ c. search needs)
+    (λ c. search needs)
+    (λ c. search needs)
+    (λ c κs. search needs)
+    (λ c. search needs)
+    (λ c. search needs)
     returns)

@@ -22,54 +22,25 @@ abbrev μ-loop : tie.MeasureT-loop
 loop-holds : tie.Need-loop-holds Inv-loop μ-loop
 loop-holds c = (omega arith, omega arith, refl, sym (put-none _ _ _))
 
-sub-least : tie.Need-sub-least Inv-loop μ-loop
-sub-least c = omega arith
-
-cast-least : tie.Need-cast-least Inv-loop μ-loop
-cast-least c = omega arith
-
-sub-least-2 : tie.Need-sub-least-2 Inv-loop μ-loop
-sub-least-2 c = omega arith
-
-least-requires : tie.Need-least-requires Inv-loop μ-loop
-least-requires c κs = search needs
-
-shr-put-chunk : tie.Need-shr-put-chunk Inv-loop μ-loop
-shr-put-chunk c = omega arith
-
-put-chunk-requires : tie.Need-put-chunk-requires Inv-loop μ-loop
-put-chunk-requires c κs = omega arith
-
-add-i : tie.Need-add-i Inv-loop μ-loop
-add-i c = omega arith
-
-cast-p : tie.Need-cast-p Inv-loop μ-loop
-cast-p c = omega arith
-
-add-p : tie.Need-add-p Inv-loop μ-loop
-add-p c = omega arith
-
-loop-less : tie.Need-loop-less Inv-loop μ-loop
-loop-less c = omega arith
-
 loop-again : tie.Need-loop-again Inv-loop μ-loop
 loop-again c =
-    let a = c .before .before .before .before .before .before .before .before .args in
-    let l = c .before .before .before .before .before .before .loop in
+    let start : tie.Start Inv-loop μ-loop = search needs in
+    let at-loop : tie.At-loop Inv-loop μ-loop = search needs in
+    let after-least : tie.After-least Inv-loop μ-loop = search needs in
+    let a = start .args in
+    let l = at-loop .loop in
     let k = c .before .before .put-chunk in (
       omega arith,
       omega arith,
       omega arith,
-      k .ensures ∙ rw (l .inv .3, l .inv .1) (put-low (now (a .out)) (a .at) (l .i) (c .before .before .before .before .least .result) (a .v) (omega arith)),
+      k .ensures ∙ rw (l .inv .3, l .inv .1) (put-low (now (a .out)) (a .at) (l .i) (after-least .least .result) (a .v) (omega arith)),
     )
-
-same-length : tie.Need-same-length Inv-loop μ-loop
-same-length c = omega arith
 
 returns : tie.Need-returns Inv-loop μ-loop
 returns c =
+    let start : tie.Start Inv-loop μ-loop = search needs in
     let l = c .before .loop in
-    let e : c .before .before .before .args .count ≡ l .i = omega arith in
+    let e : start .args .count ≡ l .i = omega arith in
     rw e (l .inv .3)
 
 pub put-bits-spec : {M : Type 1} → statement M
@@ -79,16 +50,16 @@ put-bits-spec =
     Inv-loop
     μ-loop
     loop-holds
-    sub-least
-    cast-least
-    sub-least-2
-    least-requires
-    shr-put-chunk
-    put-chunk-requires
-    add-i
-    cast-p
-    add-p
-    loop-less
+    (λ c. omega arith)
+    (λ c. omega arith)
+    (λ c. omega arith)
+    (λ c κs. search needs)
+    (λ c. omega arith)
+    (λ c κs. omega arith)
+    (λ c. omega arith)
+    (λ c. omega arith)
+    (λ c. omega arith)
+    (λ c. omega arith)
     loop-again
-    same-length
+    (λ c. omega arith)
     returns)

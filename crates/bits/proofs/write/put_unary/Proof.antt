@@ -16,24 +16,20 @@ use Rattle.bits.proofs.write.put_unary.Tie as tie
 put-bits-requires : tie.Need-put-bits-requires
 put-bits-requires c κs = omega (arith, length-unary (c .before .before .args .c))
 
-add-p : tie.Need-add-p
-add-p c = search needs
-
 put-bits-requires-2 : tie.Need-put-bits-requires-2
-put-bits-requires-2 c κs = omega (arith, length-unary (c .before .before .before .before .before .before .args .c), c .before .before .before .put-bits .kept .0)
-
-add-result : tie.Need-add-result
-add-result c = search needs
-
-same-length : tie.Need-same-length
-same-length c = search needs
+put-bits-requires-2 c κs =
+    let start : tie.Start = search needs in
+    let after-put-bits : tie.After-put-bits = search needs in
+    omega (arith, length-unary (start .args .c), after-put-bits .put-bits .kept .0)
 
 returns : tie.Need-returns
 returns c =
-    let a = c .before .before .before .before .before .before .before .before .before .args in
+    let start : tie.Start = search needs in
+    let after-put-bits : tie.After-put-bits = search needs in
+    let a = start .args in
     let n = length-unary (a .c) in (
       c .before .before .put-bits2 .ensures
-          ∙ put-two (now (a .out)) _ (a .at) _ (low (a .c) 4294967295) (low 1 0) (c .before .before .before .before .before .before .put-bits .ensures)
+          ∙ put-two (now (a .out)) _ (a .at) _ (low (a .c) 4294967295) (low 1 0) (after-put-bits .put-bits .ensures)
           (ap (λ (k : ℕ). a .at + k) (sym (length-low (a .c) 4294967295))) (omega arith)
           ∙ ap (put (now (a .out)) (a .at)) (sym (unary-parts (a .c) (omega arith))),
       omega arith,
@@ -41,4 +37,4 @@ returns c =
 
 pub put-unary-spec : {M : Type 1} → statement M
 put-unary-spec =
-    tie.close (tie.spec put-bits-requires add-p put-bits-requires-2 add-result same-length returns)
+    tie.close (tie.spec put-bits-requires (λ c. search needs) put-bits-requires-2 (λ c. search needs) (λ c. search needs) returns)

@@ -15,18 +15,6 @@ use Rattle.bits.proofs.ReadLaws.{bits-lt}
 use Rattle.fields.proofs.code.read_code.Statement.{statement}
 use Rattle.fields.proofs.code.read_code.Tie as tie
 
-sub-get-bits : tie.Need-sub-get-bits
-sub-get-bits c = search needs
-
-get-bits-requires : tie.Need-get-bits-requires
-get-bits-requires c κs = search needs
-
-enum-known-short : tie.Need-enum-known-short
-enum-known-short c = search needs
-
-enum-told : tie.Need-enum-told
-enum-told c = search needs
-
 returns : tie.Need-returns
 unfolding codeOf
 returns c = rw (sym (c .before .before .get-bits .ensures) ∙ c .enum-told .given .1)
@@ -35,62 +23,64 @@ first : (c : tie.After-known-told) →
     let a = c .before .before .before .before .before .args in
     let v = c .before .short .given .0 in
     getBits (bitsOf (now (a .payload))) (a .place) (a .width - 1) ≡ Value (v .0) (v .1 .0)
-first c = sym (c .before .before .before .get-bits .ensures) ∙ c .before .short .given .1
+first c =
+    let after-get-bits : tie.After-get-bits = search needs in
+    sym (after-get-bits .get-bits .ensures) ∙ c .before .short .given .1
 
 returns-2 : tie.Need-returns-2
 unfolding codeOf
 returns-2 c = rw (first (c .before), lt-ltb _ _ (c .if1 .taken))
 
-get-bit-requires : tie.Need-get-bit-requires
-get-bit-requires c κs = search needs
-
-enum-known-extra : tie.Need-enum-known-extra
-enum-known-extra c = search needs
-
-enum-told-2 : tie.Need-enum-told-2
-enum-told-2 c = search needs
-
 returns-3 : tie.Need-returns-3
 unfolding codeOf
 returns-3 c =
-    rw (first (c .before .before .before .before), le-ltb _ _ (c .before .before .before .if1 .left), sym (c .before .before .get-bit .ensures) ∙ c .enum-told2 .given .1)
+    let after-known-told : tie.After-known-told = search needs in
+    let else1 : tie.Else1 = search needs in
+    rw (first after-known-told, le-ltb _ _ (else1 .if1 .left), sym (c .before .before .get-bit .ensures) ∙ c .enum-told2 .given .1)
 
 second : (c : tie.After-known-told2) →
     let a = c .before .before .before .before .before .before .before .before .before .before .args in
     let t = c .before .extra .given .0 in
     getBits (bitsOf (now (a .payload))) (c .before .before .before .before .before .before .short .given .0 .1 .0) 1 ≡ Value (t .0) (t .1 .0)
-second c = sym (c .before .before .before .get-bit .ensures) ∙ c .before .extra .given .1
+second c =
+    let after-get-bit : tie.After-get-bit = search needs in
+    sym (after-get-bit .get-bit .ensures) ∙ c .before .extra .given .1
 
 mul-t10 : tie.Need-mul-t10
-mul-t10 c = let b = c .before .before .before .before .before .before .before .before .before .before .args .width in omega (arith, bits-lt _ _ (b - 1) _ _ 30 (first (c .before .before .before .before .before)) (omega arith))
-
-sub-t13 : tie.Need-sub-t13
-sub-t13 c = search needs
+mul-t10 c =
+    let start : tie.Start = search needs in
+    let after-known-told : tie.After-known-told = search needs in
+    let b = start .args .width in omega (arith, bits-lt _ _ (b - 1) _ _ 30 (first after-known-told) (omega arith))
 
 add-t14 : tie.Need-add-t14
 add-t14 c =
-    let b = c .before .before .before .before .before .before .before .before .before .before .args .width in
-    omega (arith, bits-lt _ _ (b - 1) _ _ 30 (first (c .before .before .before .before .before)) (omega arith), bits-lt _ _ 1 _ _ 1 (second c) (omega arith))
+    let start : tie.Start = search needs in
+    let after-known-told : tie.After-known-told = search needs in
+    let b = start .args .width in
+    omega (arith, bits-lt _ _ (b - 1) _ _ 30 (first after-known-told) (omega arith), bits-lt _ _ 1 _ _ 1 (second c) (omega arith))
 
 returns-4 : tie.Need-returns-4
 unfolding codeOf
-returns-4 c = rw (first (c .before .before .before .before .before), le-ltb _ _ (c .before .before .before .before .if1 .left), second c)
+returns-4 c =
+    let after-known-told : tie.After-known-told = search needs in
+    let else1 : tie.Else1 = search needs in
+    rw (first after-known-told, le-ltb _ _ (else1 .if1 .left), second c)
 
 pub read-code-spec : {M : Type 1} → statement M
 read-code-spec =
     tie.close
     (tie.spec
-    sub-get-bits
-    get-bits-requires
-    enum-known-short
-    enum-told
+    (λ c. search needs)
+    (λ c κs. search needs)
+    (λ c. search needs)
+    (λ c. search needs)
     returns
     returns-2
-    get-bit-requires
-    enum-known-extra
-    enum-told-2
+    (λ c κs. search needs)
+    (λ c. search needs)
+    (λ c. search needs)
     returns-3
     mul-t10
-    sub-t13
+    (λ c. search needs)
     add-t14
     returns-4)

@@ -16,15 +16,13 @@ returns : tie.Need-returns
 unfolding truncatedBinary
 returns c = rw (eq-eqb _ _ (c .if1 .taken))
 
-bit-length-requires : tie.Need-bit-length-requires
-bit-length-requires c κs = search needs
-
 len : (c : tie.After-bit-length) →
     let m = c .before .before .before .args .last in
     let b = c .bit-length .result in
     Long m b × (b ≤ 31) × (1 * 2 ^ b % 2 ^ 32 ≡ 2 ^ b)
 len c =
-    let m = c .before .before .before .args .last in
+    let start : tie.Start = search needs in
+    let m = start .args .last in
     let b = c .bit-length .result in
     let l : Long m b = rw (c .bit-length .ensures) (long m (pos m (c .before .if1 .left)) (omega arith)) in
     let h : b ≤ 31 = long-le m b 31 l (omega arith) in
@@ -56,7 +54,7 @@ read-truncated-binary-spec =
     tie.close
     (tie.spec
     returns
-    bit-length-requires
+    (λ c κs. search needs)
     shl-read-code
     sub-read-code
     sub-read-code-2

@@ -21,54 +21,43 @@ returns : tie.Need-returns
 unfolding counted
 returns c = rw (lt-ltb _ _ (c .if1 .taken))
 
-sub-get-bits : tie.Need-sub-get-bits
-sub-get-bits c = search needs
-
-get-bits-requires : tie.Need-get-bits-requires
-get-bits-requires c κs = search needs
-
-enum-known-low : tie.Need-enum-known-low
-enum-known-low c = search needs
-
-enum-told : tie.Need-enum-told
-enum-told c = search needs
-
 returns-2 : tie.Need-returns-2
 unfolding counted
 returns-2 c =
-    rw (le-ltb _ _ (c .before .before .before .if1 .left), sym (c .before .before .get-bits .ensures) ∙ c .enum-told .given .1)
-
-sub-t8 : tie.Need-sub-t8
-sub-t8 c = search needs
-
-shl-t9 : tie.Need-shl-t9
-shl-t9 c = search needs
+    let else1 : tie.Else1 = search needs in
+    rw (le-ltb _ _ (else1 .if1 .left), sym (c .before .before .get-bits .ensures) ∙ c .enum-told .given .1)
 
 read : (c : tie.After-known-told) →
     let a = c .before .before .before .before .before .before .args in
     getBits (bitsOf (now (a .payload))) (a .place) (a .ones - 1) ≡ Value (c .before .low .given .0 .0) (c .before .low .given .0 .1 .0)
-read c = sym (c .before .before .before .get-bits .ensures) ∙ c .before .low .given .1
+read c =
+    let after-get-bits : tie.After-get-bits = search needs in
+    sym (after-get-bits .get-bits .ensures) ∙ c .before .low .given .1
 
 add-t10 : tie.Need-add-t10
 add-t10 c =
-    let m = c .before .before .before .before .before .before .args .ones - 1 in
+    let start : tie.Start = search needs in
+    let m = start .args .ones - 1 in
     omega (arith, shl-one m 32 (omega arith), bits-lt _ _ m _ _ m (read c) (omega arith), pow-mono {i = suc m} {j = 32} (omega arith))
 
 returns-3 : tie.Need-returns-3
 unfolding counted
-returns-3 c = rw (le-ltb _ _ (c .before .before .before .before .if1 .left), read c, shl-one (c .before .before .before .before .before .before .args .ones - 1) 32 (omega arith))
+returns-3 c =
+    let start : tie.Start = search needs in
+    let else1 : tie.Else1 = search needs in
+    rw (le-ltb _ _ (else1 .if1 .left), read c, shl-one (start .args .ones - 1) 32 (omega arith))
 
 pub read-counted-spec : {M : Type 1} → statement M
 read-counted-spec =
     tie.close
     (tie.spec
     returns
-    sub-get-bits
-    get-bits-requires
-    enum-known-low
-    enum-told
+    (λ c. search needs)
+    (λ c κs. search needs)
+    (λ c. search needs)
+    (λ c. search needs)
     returns-2
-    sub-t8
-    shl-t9
+    (λ c. search needs)
+    (λ c. search needs)
     add-t10
     returns-3)

@@ -17,15 +17,6 @@ use Rattle.bits.specs.declared.Field.the-variants.{Value}
 use Rattle.fields.proofs.counts.read_raw_prefix.Statement.{statement}
 use Rattle.fields.proofs.counts.read_raw_prefix.Tie as tie
 
-get-unary-requires : tie.Need-get-unary-requires
-get-unary-requires c κs = search needs
-
-enum-known-first : tie.Need-enum-known-first
-enum-known-first c = search needs
-
-enum-told : tie.Need-enum-told
-enum-told c = search needs
-
 returns : tie.Need-returns
 unfolding prefix
 returns c = rw (sym (c .before .before .get-unary .ensures) ∙ c .enum-told .given .1)
@@ -33,32 +24,31 @@ returns c = rw (sym (c .before .before .get-unary .ensures) ∙ c .enum-told .gi
 -- what each part gave, on the way past it
 first : (c : tie.After-known-told) →
     unary (bitsOf (now (c .before .before .before .before .before .args .payload))) (c .before .before .before .before .before .args .place) ≡ Value (c .before .first .given .0 .0) (c .before .first .given .0 .1 .0)
-first c = sym (c .before .before .before .get-unary .ensures) ∙ c .before .first .given .1
+first c =
+    let after-get-unary : tie.After-get-unary = search needs in
+    sym (after-get-unary .get-unary .ensures) ∙ c .before .first .given .1
 
 returns-2 : tie.Need-returns-2
 unfolding prefix
 returns-2 c = rw (first (c .before), lt-ltb _ _ (c .if1 .taken))
 
-get-unary-requires-2 : tie.Need-get-unary-requires-2
-get-unary-requires-2 c κs = search needs
-
-enum-known-second : tie.Need-enum-known-second
-enum-known-second c = search needs
-
-enum-told-2 : tie.Need-enum-told-2
-enum-told-2 c = search needs
-
 returns-3 : tie.Need-returns-3
 unfolding prefix
 returns-3 c =
-    rw (first (c .before .before .before .before), le-ltb _ _ (c .before .before .before .if1 .left), sym (c .before .before .get-unary2 .ensures) ∙ c .enum-told2 .given .1)
+    let after-known-told : tie.After-known-told = search needs in
+    let else1 : tie.Else1 = search needs in
+    rw (first after-known-told, le-ltb _ _ (else1 .if1 .left), sym (c .before .before .get-unary2 .ensures) ∙ c .enum-told2 .given .1)
 
 past : (c : tie.After-known-told2) →
     let a = c .before .before .before .before .before .before .before .before .before .before .args in
     let v = c .before .second .given .0 in
     prefix (bitsOf (now (a .payload))) (a .place) ≡ escaped (bitsOf (now (a .payload))) (v .0) (v .1 .0)
 unfolding prefix
-past c = rw (first (c .before .before .before .before .before), le-ltb _ _ (c .before .before .before .before .if1 .left), sym (c .before .before .before .get-unary2 .ensures) ∙ c .before .second .given .1)
+past c =
+    let after-known-told : tie.After-known-told = search needs in
+    let else1 : tie.Else1 = search needs in
+    let after-get-unary2 : tie.After-get-unary2 = search needs in
+    rw (first after-known-told, le-ltb _ _ (else1 .if1 .left), sym (after-get-unary2 .get-unary2 .ensures) ∙ c .before .second .given .1)
 
 returns-4 : tie.Need-returns-4
 unfolding escaped
@@ -68,32 +58,28 @@ returns-5 : tie.Need-returns-5
 unfolding escaped
 returns-5 c = rw (past (c .before .before), ne-eqb _ _ (c .before .if2 .left), lt-ltb _ _ (c .if3 .taken))
 
-read-counted-requires : tie.Need-read-counted-requires
-read-counted-requires c κs = search needs
-
-enum-known-rest : tie.Need-enum-known-rest
-enum-known-rest c = search needs
-
-enum-told-3 : tie.Need-enum-told-3
-enum-told-3 c = search needs
-
 returns-6 : tie.Need-returns-6
 unfolding escaped
 returns-6 c =
-    rw (past (c .before .before .before .before .before), ne-eqb _ _ (c .before .before .before .before .if2 .left), le-ltb _ _ (c .before .before .before .if3 .left), sym (c .before .before .read-counted .ensures) ∙ c .enum-told3 .given .1)
+    let after-known-told2 : tie.After-known-told2 = search needs in
+    let else2 : tie.Else2 = search needs in
+    let else3 : tie.Else3 = search needs in
+    rw (past after-known-told2, ne-eqb _ _ (else2 .if2 .left), le-ltb _ _ (else3 .if3 .left), sym (c .before .before .read-counted .ensures) ∙ c .enum-told3 .given .1)
 
 third : (c : tie.After-known-told3) →
     let a = c .before .before .before .before .before .before .before .before .before .before .before .before .before .before .before .before .args in
     let v = c .before .rest .given .0 in
     prefix (bitsOf (now (a .payload))) (a .place) ≡ cond (leb (16 + v .0) 4294967295) (Prefix.Value (16 + v .0) (v .1 .0)) Prefix.Truncated
 unfolding escaped
-third c = rw (past (c .before .before .before .before .before .before), ne-eqb _ _ (c .before .before .before .before .before .if2 .left), le-ltb _ _ (c .before .before .before .before .if3 .left), sym (c .before .before .before .read-counted .ensures) ∙ c .before .rest .given .1)
+third c =
+    let after-known-told2 : tie.After-known-told2 = search needs in
+    let else2 : tie.Else2 = search needs in
+    let else3 : tie.Else3 = search needs in
+    let after-read-counted : tie.After-read-counted = search needs in
+    rw (past after-known-told2, ne-eqb _ _ (else2 .if2 .left), le-ltb _ _ (else3 .if3 .left), sym (after-read-counted .read-counted .ensures) ∙ c .before .rest .given .1)
 
 returns-7 : tie.Need-returns-7
 returns-7 c = rw (third (c .before), lt-leb (16 + c .before .before .rest .given .0 .0) 4294967295 (omega arith))
-
-add-t13 : tie.Need-add-t13
-add-t13 c = search needs
 
 returns-8 : tie.Need-returns-8
 returns-8 c = rw (third (c .before), le-leb (16 + c .before .before .rest .given .0 .0) 4294967295 (omega arith))
@@ -102,21 +88,21 @@ pub read-raw-prefix-spec : {M : Type 1} → statement M
 read-raw-prefix-spec =
     tie.close
     (tie.spec
-    get-unary-requires
-    enum-known-first
-    enum-told
+    (λ c κs. search needs)
+    (λ c. search needs)
+    (λ c. search needs)
     returns
     returns-2
-    get-unary-requires-2
-    enum-known-second
-    enum-told-2
+    (λ c κs. search needs)
+    (λ c. search needs)
+    (λ c. search needs)
     returns-3
     returns-4
     returns-5
-    read-counted-requires
-    enum-known-rest
-    enum-told-3
+    (λ c κs. search needs)
+    (λ c. search needs)
+    (λ c. search needs)
     returns-6
     returns-7
-    add-t13
+    (λ c. search needs)
     returns-8)

@@ -1,4 +1,5 @@
--- `logpack::exp2_table::mantissa` meets its contract: the code's table is the definition's, and its entries are bytes.
+-- `logpack::exp2_table::mantissa` meets its contract: the code's table is the definition's, and its
+-- entries are bytes.
 -- Assumes nothing.
 use native.Mathlib.Omega.{arith}
 use Prim.Native.Nat.{_%_}
@@ -8,12 +9,6 @@ use Rattle.logpack.specs.LogWord.{mantissa}
 use Rattle.logpack.proofs.TableRule.{entry-byte}
 use Rattle.logpack.proofs.exp2_table.mantissa.Statement.{statement}
 use Rattle.logpack.proofs.exp2_table.mantissa.Tie as tie
-
-cast-result : tie.Need-cast-result
-cast-result c = search needs
-
-array-read-result : tie.Need-array-read-result
-array-read-result c = search needs
 
 cast-result-2 : tie.Need-cast-result-2
 unfolding exp2Table
@@ -28,4 +23,4 @@ unfolding exp2Table mantissa
 returns c = search needs
 
 pub mantissa-spec : {M : Type 1} → statement M
-mantissa-spec = tie.close (tie.spec cast-result array-read-result cast-result-2 add-result returns)
+mantissa-spec = tie.close (tie.spec (λ c. search needs) (λ c. search needs) cast-result-2 add-result returns)

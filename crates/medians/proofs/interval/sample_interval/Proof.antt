@@ -1,4 +1,5 @@
--- `medians::interval::sample_interval` meets its contract: each way out is the clause of its count, by the law `interval-is`.
+-- `medians::interval::sample_interval` meets its contract: each way out is the clause of its count,
+-- by the law `interval-is`.
 -- Assumes nothing.
 use borrow.Author.Needs.{needs}
 use native.Mathlib.Omega.{arith}

@@ -1,4 +1,5 @@
--- `samples::coded::decode_signed_value` meets its contract. A code lies within its interval, so low plus code has 31 bits.
+-- `samples::coded::decode_signed_value` meets its contract. A code lies within its interval, so low
+-- plus code has 31 bits.
 -- Assumes nothing.
 use borrow.Author.Needs.{needs}
 use native.Mathlib.Omega.{arith}

@@ -1,4 +1,5 @@
--- `samples::coded::try_zero_run_path_stereo` meets its contract: each way out is a law of the run length.
+-- `samples::coded::try_zero_run_path_stereo` meets its contract: each way out is a law of the run
+-- length.
 -- Assumes nothing.
 use borrow.Author.Needs.{needs}
 use native.Mathlib.Omega.{arith}

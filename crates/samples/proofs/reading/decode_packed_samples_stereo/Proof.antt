@@ -1,4 +1,5 @@
--- `samples::reading::decode_packed_samples_stereo` meets its contract. The loop's invariant is `Loop`; a turn is a run or a sample.
+-- `samples::reading::decode_packed_samples_stereo` meets its contract. The loop's invariant is
+-- `Loop`; a turn is a run or a sample.
 -- Assumes nothing.
 use borrow.Author.Needs.{needs}
 use native.Mathlib.Omega.{arith}
