@@ -12,10 +12,10 @@ use lib.IntN.{ℤ, pos}
 use lib.ListN.{length, drop, getD, drop-of-length-le}
 use lib.Seq.{drop-cons}
 use lib.Signed.{mag}
-use Rattle.entropy.specs.Medians.{Medians}
+use Rattle.entropy.specs.Medians.{Medians, Small}
 use Rattle.medians.specs.Interval.{g, lowOf, highOf}
 use Rattle.word_state.proofs.FlagLaws.{both}
-use Rattle.packing.specs.Counts.{Small, contains, least, count}
+use Rattle.packing.specs.Counts.{contains, least, count}
 use Rattle.packing.specs.Packing.{ahead}
 use Rattle.packing.proofs.CountLaws.{untrue}
 

@@ -18,11 +18,10 @@ use Rattle.bits.specs.Laid.{bytesHolding}
 use Rattle.overlay.specs.Overlay.{overlay}
 use Rattle.overlay.proofs.OverlayLaws.{overlay-take}
 use Rattle.bits.proofs.LaidLaws.{put-start, length-holding}
-use Rattle.entropy.specs.Medians.{MedianPair, pairOf}
+use Rattle.entropy.specs.Medians.{MedianPair, pairOf, Small}
 use Rattle.entropy.specs.Seed.{seedRefusal, seedMedians}
-use Rattle.entropy.proofs.SeedBounds.{seed-bounded}
+use Rattle.entropy.proofs.SeedBounds.{seeds-small}
 use Rattle.word_state.specs.State.{start}
-use Rattle.packing.specs.Counts.{Small}
 use Rattle.packing.specs.Packing.{spanned, packed}
 use Rattle.packing.specs.Entry.{PackTold, viewPacking, packedFrom, tellPacking, refusePacking, refusalBeforeSpan, spanRefusal, packRefusal, packEntry, packedBytes}
 use Rattle.packing.specs.View.{PackedIs, Refuses}
@@ -30,14 +29,6 @@ use Rattle.packing.specs.declared.PackAnswer.{PackAnswer}
 use Rattle.packing.specs.declared.writing.Packed.{Packed}
 use Rattle.packing.proofs.RefusalLaws.{Ready, before-none, ready}
 use Rattle.packing.proofs.SizeLaws.{bytes-enough}
-
--- the medians that an entropy payload seeds have 32 bits
-pub seeds-small : (entropy : List ℕ) → Small (seedMedians entropy .left) × Small (seedMedians entropy .right)
-seeds-small entropy =
-    let b = seed-bounded entropy in
-    let l = b .left in
-    let r = b .right in
-    (record { small0 = omega arith; small1 = omega arith; small2 = omega arith }, record { small0 = omega arith; small1 = omega arith; small2 = omega arith })
 
 -- ---- what an answer tells
 

@@ -9,14 +9,15 @@ use borrow.Author.Tests.{not-true}
 use lib.IntN.{ℤ, pos, negsuc}
 use lib.ListN.{length}
 use lib.Signed.{mag}
-use Rattle.entropy.specs.Medians.{Medians, mediansOf, zeroSet}
+use Rattle.entropy.proofs.SeedBounds.{none-small}
+use Rattle.medians.proofs.AdaptationLaws.{adapt-small}
+use Rattle.entropy.specs.Medians.{Medians, mediansOf, zeroSet, Small}
 use Rattle.medians.specs.Adaptation.{adapt}
 use Rattle.word_state.specs.State.{State, start, due, other, flip, side, paid, inRun, unbroken, cleared, flagged, after, runDue, runHere, onZeros}
 use Rattle.word_state.proofs.FlagLaws.{clash, both, due-flags}
-use Rattle.packing.specs.Counts.{Small, count}
+use Rattle.packing.specs.Counts.{count}
 use Rattle.packing.specs.Packing.{zeros, ahead, Out, behind, silent, valueOut, plainOut, freshOut, wordOut, prefixOf}
 use Rattle.packing.specs.Written.{runField, prefixField}
-use Rattle.packing.proofs.CountLaws.{adapt-small}
 
 -- how the state and the residuals that are left hang together
 pub record Inv (s : State) (vs : List ℤ) : Type 0 where
@@ -44,10 +45,6 @@ due-small {s} i = side-small (s .channel) (i .small-left) (i .small-right)
 -- and so have the others
 pub other-small : {s : State} {vs : List ℤ} → Inv s vs → Small (other s)
 other-small {s} i = side-small (s .channel) (i .small-right) (i .small-left)
-
--- medians of 0 have 32 bits
-pub none-small : Small (mediansOf zeroSet)
-none-small = omega arith
 
 -- ---- stretches of zeros
 

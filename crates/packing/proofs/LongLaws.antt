@@ -10,11 +10,12 @@ use lib.Dec.{ltb, eqb}
 use lib.IntN.{ℤ}
 use lib.Signed.{mag}
 use lib.ListN.{length, length-append}
+use Rattle.entropy.specs.Medians.{Small}
 use Rattle.answers.specs.Limits.{maxWordBits, residualSpan}
 use Rattle.bits.specs.Bits.{val, low}
 use Rattle.bits.specs.Fields.{unaryField}
 use Rattle.fields.specs.Code.{bitLength}
-use Rattle.packing.specs.Counts.{Small, count}
+use Rattle.packing.specs.Counts.{count}
 use Rattle.packing.specs.Written.{runField, prefixField, codeBits, codeField}
 use Rattle.bits.proofs.BitLaws.{length-low}
 use Rattle.fields.proofs.LengthLaws.{long, long-le}

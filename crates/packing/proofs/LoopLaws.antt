@@ -10,19 +10,20 @@ use lib.IntN.{ℤ, pos, negsuc}
 use lib.ListN.{length, drop, getD, set, length-append, length-drop, length-set, drop-of-length-le}
 use lib.Seq.{drop-cons, drop-drop}
 use lib.Signed.{mag}
+use Rattle.answers.specs.Limits.{maxElements, maxWordBits}
+use Rattle.entropy.proofs.SeedBounds.{none-small}
 use Rattle.bits.specs.Laid.{put}
 use Rattle.bits.proofs.LaidLaws.{Bytes, put-put, put-nil}
 use Rattle.entropy.specs.declared.AdaptiveMedians.{AdaptiveMedians}
-use Rattle.entropy.specs.Medians.{Medians, MedianPair, mediansOf, pairOf, zeroSet}
+use Rattle.entropy.specs.Medians.{Medians, MedianPair, mediansOf, pairOf, zeroSet, Small}
 use Rattle.word_state.specs.State.{State, start, side, flip, paid, inRun}
 use Rattle.word_state.proofs.StateLaws.{noSet, there, turned, picked}
 use Rattle.word_state.proofs.FlagLaws.{clash}
-use Rattle.packing.specs.Counts.{Small}
 use Rattle.packing.specs.Packing.{zeros, spanned, Out, behind, silent, wordOut, packed}
 use Rattle.packing.specs.View.{Seen, Next, RunTakes, PackedIs}
 use Rattle.packing.specs.declared.writing.Packed.{Packed}
 use Rattle.packing.proofs.LongLaws.{word-long}
-use Rattle.packing.proofs.InStepLaws.{Inv, start-inv, due-small, other-small, zeros-le, zeros-head, none-small, kept}
+use Rattle.packing.proofs.InStepLaws.{Inv, start-inv, due-small, other-small, zeros-le, zeros-head, kept}
 use Rattle.packing.proofs.SpanLaws.{spanned-at}
 
 -- ---- the definition, word by word
@@ -104,7 +105,7 @@ pub record Loop (before : List ℕ) (vs : List ℤ) (s₀ : State) (out : List �
   pub joined : behind w (packed state (drop i vs)) ≡ packed s₀ vs
   pub bytes : out ≡ put before 0 w
   pub place-is : place ≡ length w
-  pub room : place ≤ 111 * i
+  pub room : place ≤ maxWordBits * i
   pub here : i ≤ length vs
   pub same : length out ≡ length before
   pub low-bytes : Bytes out
@@ -213,11 +214,11 @@ module _ (before : List ℕ) (vs : List ℤ) (s₀ : State) (out : List ℕ) (se
   more-joined h = sym (packing-on (l .w) (l .state) head tail) ∙ ap (λ (x : List ℤ). behind (l .w) (packed (l .state) x)) (sym (split h)) ∙ l .joined
 
   -- what is left is short of 2 ^ 32
-  few : length vs ≤ 262144 → i < length vs → length (head ∷ tail) < 2 ^ 32
+  few : length vs ≤ maxElements → i < length vs → length (head ∷ tail) < 2 ^ 32
   few n h = omega (arith, length-drop (suc i) vs)
 
   -- the word takes 111 bits at the most
-  pub word-room : spanned vs ≡ true → length vs ≤ 262144 → i < length vs → length (wordOut (l .state) head tail .bits) ≤ 111
+  pub word-room : spanned vs ≡ true → length vs ≤ maxElements → i < length vs → length (wordOut (l .state) head tail .bits) ≤ maxWordBits
   word-room s n h = word-long (l .state) head tail (due-small (in-step h)) (spanned-at vs i s h) (few n h)
 
   -- a run ends within the residuals
@@ -225,7 +226,7 @@ module _ (before : List ℕ) (vs : List ℤ) (s₀ : State) (out : List ℕ) (se
   run-room run z o h t = omega (arith, t .length-is, zeros-le (head ∷ tail), length-drop (suc i) vs)
 
   -- a turn that writes a word
-  pub loop-word : (after : List ℕ) (q : ℕ) (x : AdaptiveMedians) (z o : Bool) → spanned vs ≡ true → length vs ≤ 262144 → i < length vs
+  pub loop-word : (after : List ℕ) (q : ℕ) (x : AdaptiveMedians) (z o : Bool) → spanned vs ≡ true → length vs ≤ maxElements → i < length vs
       → Next (l .state) (wordOut (l .state) head tail .next) (mediansOf x) z o → after ≡ put out place (wordOut (l .state) head tail .bits)
       → q ≡ place + length (wordOut (l .state) head tail .bits) → length after ≡ length out → Bytes after → Loop before vs s₀ after (set sets (i % 2) x) q z o false (i + 1)
   loop-word after q x z o s n h t e p k b =
@@ -254,7 +255,7 @@ module _ (before : List ℕ) (vs : List ℤ) (s₀ : State) (out : List ℕ) (se
       }
 
   -- a turn that writes a run
-  pub loop-run : (after : List ℕ) (q run : ℕ) (z o : Bool) → spanned vs ≡ true → length vs ≤ 262144 → i < length vs → 0 < run
+  pub loop-run : (after : List ℕ) (q run : ℕ) (z o : Bool) → spanned vs ≡ true → length vs ≤ maxElements → i < length vs → 0 < run
       → RunTakes (l .state) (wordOut (l .state) head tail .next) (head ∷ tail) run z o → after ≡ put out place (wordOut (l .state) head tail .bits)
       → q ≡ place + length (wordOut (l .state) head tail .bits) → length after ≡ length out → Bytes after
       → Loop before vs s₀ after (zeroSet ∷ zeroSet ∷ []) q z o true (i + run)

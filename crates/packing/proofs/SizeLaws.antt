@@ -10,9 +10,8 @@ use lib.ListN.{length, length-append}
 use Rattle.answers.specs.Limits.{maxFrames, maxWordBits, bytesPerFrame}
 use Rattle.bits.specs.Laid.{bytesHolding}
 use Rattle.bits.proofs.LaidLaws.{length-holding}
-use Rattle.entropy.specs.Medians.{Medians}
+use Rattle.entropy.specs.Medians.{Medians, Small}
 use Rattle.word_state.specs.State.{State, start}
-use Rattle.packing.specs.Counts.{Small}
 use Rattle.packing.specs.Packing.{spanned, wordOut, packed}
 use Rattle.packing.proofs.InStepLaws.{Inv, start-inv, due-small, kept}
 use Rattle.packing.proofs.LongLaws.{word-long}

@@ -11,8 +11,8 @@ use lib.Signed.{mag}
 use Rattle.answers.specs.Limits.{residualSpan}
 use Rattle.bits.specs.Bits.{low}
 use Rattle.bits.proofs.BitLaws.{length-low}
-use Rattle.entropy.specs.Medians.{Medians}
-use Rattle.packing.specs.Counts.{Small, count}
+use Rattle.entropy.specs.Medians.{Medians, Small}
+use Rattle.packing.specs.Counts.{count}
 use Rattle.packing.specs.Packing.{sign, prefixOf, valueField}
 use Rattle.packing.specs.Written.{prefixField, codeField}
 use Rattle.packing.specs.View.{Gathers, LocatedIs, PutIs, WordIs}

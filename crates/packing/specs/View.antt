@@ -12,10 +12,10 @@ use Rattle.bits.specs.Bits.{num}
 use Rattle.bits.specs.Laid.{put}
 use Rattle.answers.specs.declared.Outcome.{Outcome}
 use Rattle.answers.specs.Limits.{residualSpan}
-use Rattle.entropy.specs.Medians.{Medians, MedianPair, pairOf, zeroPair}
+use Rattle.entropy.specs.Medians.{Medians, MedianPair, pairOf, zeroPair, Small}
 use Rattle.medians.specs.Interval.{g, lowOf, highOf}
 use Rattle.medians.specs.Adaptation.{up, adapt}
-use Rattle.packing.specs.Counts.{Small, count}
+use Rattle.packing.specs.Counts.{count}
 use Rattle.word_state.specs.State.{State, start, due, other, side, flip, inRun}
 use Rattle.packing.specs.Packing.{zeros, valueField, prefixOf, wordOut, packed}
 use Rattle.packing.specs.Written.{runField, prefixField}

@@ -4,8 +4,8 @@ ghost use mathlib.Core.Path.{_≡_};
 ghost use mathlib.Core.Bool.{true};
 ghost use Prim.Native.Nat.{_*_, _≤_};
 ghost use lib.ListN.{length};
-ghost use Rattle.entropy.specs.Medians.{pairOf};
-ghost use Rattle.packing.specs.Counts.{Small};
+ghost use Rattle.answers.specs.Limits.{maxElements};
+ghost use Rattle.entropy.specs.Medians.{pairOf, Small};
 ghost use Rattle.packing.specs.Packing.{spanned};
 ghost use Rattle.answers.specs.Numbers.{outcomeNumber};
 ghost use Rattle.packing.specs.Entry.{viewPacking, refusalBeforeSpan, packEntry};
@@ -28,7 +28,7 @@ pub struct Packed {
 
 // All words, from the start of the buffer on.
 fn pack_words(residuals: &[i32], seeds: [AdaptiveMedians; 2], out: &mut [u8]) -> Packed
-    requires { ⌜ (length (now residuals) ≤ 262144) × (14 * length (now residuals) ≤ length (now out)) ⌝ }
+    requires { ⌜ (length (now residuals) ≤ maxElements) × (14 * length (now residuals) ≤ length (now out)) ⌝ }
     requires { ⌜ (spanned (now residuals) ≡ true) × Small (pairOf seeds .left) × Small (pairOf seeds .right) ⌝ }
     ensures { λ r. ⌜ PackedIs (now (out .entry)) (now (out .exit)) (pairOf seeds) (now (residuals .entry)) r ⌝ }
 {

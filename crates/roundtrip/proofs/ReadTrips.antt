@@ -8,20 +8,19 @@ use native.Mathlib.Omega.{arith}
 use borrow.Author.Tests.{le-ltb, eq-eqb}
 use lib.IntN.{ℤ}
 use lib.ListN.{length, drop, length-append, drop-of-length-le}
+use Rattle.entropy.proofs.SeedBounds.{seeds-small}
 use Rattle.bits.specs.Bits.{bitsOf}
 use Rattle.bits.specs.Laid.{bytesHolding}
 use Rattle.bits.proofs.Trip.{at-bytes}
 use Rattle.bits.proofs.RoundTrip.{At, at-first, at-second}
-use Rattle.entropy.specs.Medians.{Medians}
+use Rattle.entropy.specs.Medians.{Medians, Small}
 use Rattle.entropy.specs.Seed.{seedRefusal, seedMedians}
 use Rattle.word_state.specs.State.{State, start}
 use Rattle.samples.specs.Reading.{Reading, reading}
 use Rattle.samples.specs.View.{toldReading, readRefusal, readEntry}
-use Rattle.packing.specs.Counts.{Small}
 use Rattle.packing.specs.Packing.{spanned, Out, wordOut, packed}
 use Rattle.packing.specs.Entry.{PackTold, packedFrom, packEntry, packedBytes}
 use Rattle.packing.proofs.AcceptedLaws.{packing-accepted, packed-is, bytes-are}
-use Rattle.packing.proofs.EntryLaws.{seeds-small}
 use Rattle.packing.proofs.InStepLaws.{Inv, start-inv, kept}
 use Rattle.packing.proofs.SpanLaws.{spanned-parts}
 use Rattle.roundtrip.proofs.WordTrips.{word-at}

@@ -9,6 +9,7 @@ use borrow.Author.Tests.{le-ltb, eq-eqb, ne-eqb, ltb-false}
 use lib.Dec.{ltb}
 use lib.IntN.{ℤ}
 use lib.ListN.{length, take, drop}
+use Rattle.entropy.proofs.SeedBounds.{seeds-small}
 use Rattle.answers.specs.declared.Outcome.{Outcome}
 use Rattle.answers.specs.declared.Refusal.{Refusal}
 use Rattle.answers.specs.Numbers.{outcomeNumber}
@@ -22,7 +23,6 @@ use Rattle.decorrelation.specs.Lists.{Answer, allValid, analysisNumber, decorre
 use Rattle.bits.proofs.LaidLaws.{length-holding}
 use Rattle.entropy.specs.Seed.{seedMedians}
 use Rattle.packing.specs.Entry.{PackTold, packToldOf, packedFrom, packEntry, packedBytes}
-use Rattle.packing.proofs.EntryLaws.{seeds-small}
 use Rattle.packing.proofs.SizeLaws.{bytes-enough}
 use Rattle.packing.specs.declared.PackAnswer.{PackAnswer}
 use Rattle.packing.proofs.TripLaws.{packing-accepted, pack-refused, packed-is, bytes-few, read-what-was-packed}

@@ -9,6 +9,8 @@ use borrow.Author.Tests.{ltb-true, ltb-false}
 use lib.IntN.{ℤ, pos, negsuc}
 use lib.Signed.{mag}
 use lib.ListN.{length, length-append}
+use Rattle.answers.specs.Limits.{residualSpan}
+use Rattle.entropy.specs.Medians.{Small}
 use Rattle.bits.specs.Bits.{val, bitOf, low}
 use Rattle.bits.proofs.BitLaws.{length-low}
 use Rattle.bits.proofs.RoundTrip.{At, at-first, at-second, low-at}
@@ -16,7 +18,7 @@ use Rattle.fields.specs.Counts.{runLength, prefix}
 use Rattle.medians.specs.Interval.{lowOf, highOf}
 use Rattle.word_state.specs.State.{State, due, other, paid, inRun, unbroken, cleared, flagged, after, runDue, onZeros}
 use Rattle.samples.specs.Word.{Report, none, zoneOf, Word, given, onField, onPrefix, signed, value, plain, fresh, word}
-use Rattle.packing.specs.Counts.{Small, count}
+use Rattle.packing.specs.Counts.{count}
 use Rattle.packing.specs.Packing.{zeros, ahead, sign, Out, behind, silent, valueField, valueOut, plainOut, freshOut, wordOut}
 use Rattle.packing.specs.Written.{runField, prefixField, codeField}
 use Rattle.packing.proofs.CountLaws.{smallest}
@@ -32,7 +34,7 @@ sign-is (pos m) n e = ap pos e
 sign-is (negsuc m) n e = ap negsuc e
 
 -- code and sign are read back
-pub value-at : {bits : List Bool} {p : ℕ} (s : State) (v : ℤ) → Small (due s) → mag v < 1879048192 → At bits p (valueOut (count (due s) (mag v)) s v .bits)
+pub value-at : {bits : List Bool} {p : ℕ} (s : State) (v : ℤ) → Small (due s) → mag v < residualSpan → At bits p (valueOut (count (due s) (mag v)) s v .bits)
     → value bits p (count (due s) (mag v)) s
     ≡ given v (p + length (valueOut (count (due s) (mag v)) s v .bits)) (after (count (due s) (mag v)) s) (zoneOf (count (due s) (mag v)))
 unfolding value valueOut valueField
@@ -66,7 +68,7 @@ halves k a false h = let e : (2 * (k - val a) + 0) % 2 ≡ 0 = omega arith in (o
 halves k a true h = let e : (2 * (k - val a) + 1) % 2 ≡ 1 = omega arith in (omega arith, ap bitOf e)
 
 -- a word with or without its prefix is read back
-pub plain-at : {bits : List Bool} {p : ℕ} (s : State) (v : ℤ) (vs : List ℤ) → Inv s (v ∷ vs) → mag v < 1879048192
+pub plain-at : {bits : List Bool} {p : ℕ} (s : State) (v : ℤ) (vs : List ℤ) → Inv s (v ∷ vs) → mag v < residualSpan
     → At bits p (plainOut s v vs .bits) → Gives (plain bits p s) p v (plainOut s v vs)
 unfolding plain plainOut valueOut ahead cleared flagged
 plain-at {bits} {p} s v vs i h a = go (s .lastZero) refl a
@@ -104,7 +106,7 @@ zero-gives : (q : ℕ) (v : ℤ) (t : State) → pos 0 ≡ v → Gives (given (p
 zero-gives q v t e = record { report = none; reads = ap₂ (λ (x : ℤ) (n : ℕ). given x n t none) e (omega arith) }
 
 -- a word with or without a run length is read back
-pub fresh-at : {bits : List Bool} {p : ℕ} (s : State) (v : ℤ) (vs : List ℤ) → Inv s (v ∷ vs) → mag v < 1879048192 → length (v ∷ vs) < 2 ^ 32
+pub fresh-at : {bits : List Bool} {p : ℕ} (s : State) (v : ℤ) (vs : List ℤ) → Inv s (v ∷ vs) → mag v < residualSpan → length (v ∷ vs) < 2 ^ 32
     → At bits p (freshOut s v vs .bits) → Gives (fresh bits p s) p v (freshOut s v vs)
 unfolding fresh freshOut unbroken
 fresh-at {bits} {p} s v vs i h few a = go (s .runBreak) a
@@ -139,7 +141,7 @@ fresh-at {bits} {p} s v vs i h few a = go (s .runBreak) a
 -- ---- one word
 
 -- a word is read back
-pub word-at : {bits : List Bool} {p : ℕ} (s : State) (v : ℤ) (vs : List ℤ) → Inv s (v ∷ vs) → mag v < 1879048192 → length (v ∷ vs) < 2 ^ 32
+pub word-at : {bits : List Bool} {p : ℕ} (s : State) (v : ℤ) (vs : List ℤ) → Inv s (v ∷ vs) → mag v < residualSpan → length (v ∷ vs) < 2 ^ 32
     → At bits p (wordOut s v vs .bits) → Gives (word bits p s) p v (wordOut s v vs)
 unfolding word wordOut
 word-at {bits} {p} s v vs i h few a = go (s .debt) refl a

@@ -5,6 +5,7 @@ use Prim.Native.Nat.{_≤_}
 use native.Mathlib.Omega.{arith}
 use denote.Ref.{now}
 use lib.ListN.{length-drop, drop}
+use Rattle.answers.specs.Limits.{maxElements}
 use Rattle.bits.proofs.LaidLaws.{put-nil}
 use Rattle.packing.proofs.LongLaws.{run-long}
 use Rattle.packing.proofs.TurnLaws.{before-run}
@@ -16,7 +17,7 @@ use Rattle.packing.proofs.word.put_before.Tie as tie
 zeros-from-requires : tie.Need-zeros-from-requires
 zeros-from-requires c κs = search needs
 
-few : (c : tie.After-zeros-from) → c .zeros-from .result ≤ 262144
+few : (c : tie.After-zeros-from) → c .zeros-from .result ≤ maxElements
 few c =
     let a = c .before .before .before .args in
     omega (arith, c .zeros-from .ensures, zeros-le (drop (a .i) (now (a .residuals))), length-drop (a .i) (now (a .residuals)))

@@ -7,12 +7,12 @@ use borrow.Author.Needs.{needs}
 use borrow.Author.Tests.{not-true, not-false}
 use denote.Ref.{now}
 use lib.ListN.{length}
+use Rattle.entropy.proofs.SeedBounds.{seeds-small}
 use Rattle.answers.specs.Numbers.{outcomeNumber}
-use Rattle.entropy.specs.Medians.{MedianPair}
-use Rattle.packing.specs.Counts.{Small}
+use Rattle.entropy.specs.Medians.{MedianPair, Small}
 use Rattle.packing.specs.Packing.{spanned}
 use Rattle.packing.proofs.RefusalLaws.{Ready, ready}
-use Rattle.packing.proofs.EntryLaws.{seeds-small, refuses-before, refuses-span, accepts}
+use Rattle.packing.proofs.EntryLaws.{refuses-before, refuses-span, accepts}
 use Rattle.packing.proofs.writing.encode_packed_samples_stereo_from_entropy.Statement.{
   statement,
 }

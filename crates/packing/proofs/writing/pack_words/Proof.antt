@@ -10,6 +10,7 @@ use mathlib.Core.List.{List}
 use denote.Ref.{now}
 use lib.IntN.{ℤ, pos}
 use lib.ListN.{length, take, drop, getD, length-drop, length-take, length-map}
+use Rattle.answers.specs.Limits.{maxElements, maxWordBits}
 use Rattle.entropy.specs.Medians.{pairOf}
 use Rattle.word_state.specs.State.{State, start}
 use Rattle.bits.specs.Laid.{put}
@@ -32,9 +33,9 @@ abbrev μ-loop : tie.MeasureT-loop
 
 -- what the invariant says in numbers
 record Facts (len size place i : ℕ) : Type 0 where
-  room : place + 111 ≤ 8 * size
+  room : place + maxWordBits ≤ 8 * size
   here : i < len
-  most : len ≤ 262144
+  most : len ≤ maxElements
 
 facts : (c : tie.In-loop Inv-loop μ-loop) → let l = c .before .loop in Facts (length (c .before .before .before .args .residuals .now)) (length (l .out)) (l .bits) (l .i)
 facts c =
@@ -85,7 +86,7 @@ record Lent (vs : List ℤ) (s : State) (out last : List ℕ) (place i : ℕ) (r
   turned : Turned (take (length out - place / 8) (drop (place / 8) out)) last (place % 8) s (getD vs i (pos 0)) (drop (suc i) vs) r
   bytes : putMid (place / 8) (length out - place / 8) out last ≡ put out place (wordOut s (getD vs i (pos 0)) (drop (suc i) vs) .bits)
   place-is : 8 * (place / 8) + r .place ≡ place + length (wordOut s (getD vs i (pos 0)) (drop (suc i) vs) .bits)
-  few : length (wordOut s (getD vs i (pos 0)) (drop (suc i) vs) .bits) ≤ 111
+  few : length (wordOut s (getD vs i (pos 0)) (drop (suc i) vs) .bits) ≤ maxWordBits
   size : length (putMid (place / 8) (length out - place / 8) out last) ≡ length out
   most : 0 < r .run → i + r .run ≤ length vs
 
