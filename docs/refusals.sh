@@ -24,6 +24,11 @@ awk -v table="$table" '
         else if (text != wording[number]) wrong(number " reads \"" text "\" and not \"" wording[number] "\"")
     }
 
+    # A name of the bindings and its number.
+    function numbered(name, number) {
+        if (rust[name] != number) wrong(name " is " number ", and that is not what " table " has")
+    }
+
     # At the end of a file every number was there.
     function ended(    number) {
         if (!file || file == table) return
@@ -60,10 +65,11 @@ awk -v table="$table" '
         told(number, "", $0)
     }
 
-    # The bindings: each wording is a string, and the name last before it is that of its number.
+    # The bindings: a number stands behind its name or before it, each wording is a string, and the name
+    # last before it is that of its number.
     FILENAME ~ /[.]rs$/ && !/^ *[/][/]/ {
-        if (/^ *[A-Z][A-Za-z]* = [0-9]+,/ && rust[$1] != $3 + 0)
-            wrong($1 " is " $3 + 0 ", and that is not what " table " has")
+        if (/^ *[A-Z][A-Za-z]* = [0-9]+,/) numbered($1, $3 + 0)
+        if (/^ *[0-9]+ [A-Z][A-Za-z]* "/) numbered($2, $1)
         while (match($0, /"[^"]*"|[A-Za-z0-9_]+/)) {
             token = substr($0, RSTART, RLENGTH)
             $0 = substr($0, RSTART + RLENGTH)
