@@ -2,7 +2,8 @@
 # Holds docs/PROVED.md to the repository, both ways. In every table a column with the head
 # definition, theorem, contract, type, edit or run has names of that kind, behind each group of
 # names its crate in brackets; names behind another of these words are of that kind up to the next
-# semicolon. Each name must be declared, whole, where its kind stands. No entry has a `requires`,
+# semicolon; the first cell under the head entry, function or call has functions in the same way.
+# Each name must be declared, whole, where its kind stands. No entry has a `requires`,
 # each has two edits, every edit and every public function of a library is named, and every rule
 # that a comment cites has a row. Prints what does not hold: the row, the name, the crate, and where
 # else the name stands.
@@ -134,6 +135,7 @@ awk -F '\t' -v page="$proved" '
         label = field[2]
         home = ""
         if (head[2] == "row" && rows[label]++) wrong("a second row")
+        if (head[2] == "call") cell(label, "contract", "")
         if (head[2] == "entry" || head[2] == "function") {
             listing = head[2]
             cell(label, "contract", "")
