@@ -23,6 +23,7 @@ case $verdict in
 esac
 
 docs/carriers.sh || fail 'docs/PROVED.md'
+docs/refusals.sh || fail 'the wording of the refusals'
 
 rt staticlib capi || fail 'rt staticlib capi'
 library=target/staticlib

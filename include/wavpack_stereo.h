@@ -1,14 +1,18 @@
 /* The C interface of the stereo WavPack decoder. Link with libcapi.a.
  *
- * Every function answers a refusal number of document 01, "Why each operation says no", or WV_ACCEPTED.
- * A list is a pointer to its first element and its number of elements; a list of 0 elements still wants a pointer that is not
- * null and is aligned for its type. A function reads and writes nothing beyond the elements that it is given, and no list that
- * it writes may overlap another. It keeps no pointer and uses no storage of its own but the stack, so that calls may run at the
- * same time.
+ * Every function answers WV_ACCEPTED or the number of a refusal. The rules behind the refusals are
+ * the rows X1 to X9 of docs/PROVED.md; each function below has its own in the order in which it
+ * tests.
  *
- * A list that a function fills has slots, numbered below from the first element on. A list with fewer elements than slots is
- * refused with WV_LIST_LENGTH before anything is written; elements behind the slots keep their values. Any other refusal leaves
- * the lists as they were too, unless a function below says what it writes then.
+ * A list is a pointer to its first element and its number of elements; a list of 0 elements still
+ * wants a pointer that is not null and is aligned for its type. A function reads and writes nothing
+ * beyond the elements that it is given, and no list that it writes may overlap another. It keeps no
+ * pointer and uses no storage of its own but the stack, so that calls may run at the same time.
+ *
+ * A list that a function fills has slots, numbered below from the first element on. A list with
+ * fewer elements than slots is refused with WV_LIST_LENGTH before anything is written; elements
+ * behind the slots keep their values. On any other refusal `wv_read`, `wv_word` and `wv_pack` write
+ * what is said there, and every other function leaves all lists as they were.
  */
 #ifndef WAVPACK_STEREO_H
 #define WAVPACK_STEREO_H
@@ -20,20 +24,32 @@
 extern "C" {
 #endif
 
-/* What a function answers. */
+/* What a function answers: accepted, or why not. */
 #define WV_ACCEPTED 0u
-#define WV_ENTROPY_LENGTH 1u   /* the entropy payload is neither 6 nor 12 bytes long */
-#define WV_NOT_STEREO 2u       /* the entropy payload is mono, or holds a negative median */
-#define WV_TRUNCATED 3u        /* a word needs a bit past the end, or a count or prefix value is over its cap */
-#define WV_END_OF_STREAM 4u    /* the second count of a prefix is 33 */
-#define WV_TOO_LARGE 5u        /* over 131,072 frames, over 4,194,304 payload bytes, or over 262,144 elements of a buffer */
-#define WV_LIST_LENGTH 6u      /* a list has fewer elements than slots, `samples` or `residuals` not 2 a frame, or `passes` not 20 a pass */
-#define WV_INVALID_TERM 7u     /* a term is none of 1 to 8, 17, 18, -1, -2, -3 */
-#define WV_SEED_TOO_SHORT 8u   /* a seed has fewer samples than the term takes */
-#define WV_TOO_MANY_PASSES 9u  /* over 16 passes */
-#define WV_RESIDUAL_OUT_OF_SPAN 10u /* a residual is below -1,879,048,192 or above 1,879,048,191 */
-#define WV_OUTPUT_TOO_SHORT 11u     /* fewer than 28 bytes a frame are lent */
-#define WV_INVALID_CHANNEL 12u /* next_channel is neither 0 nor 1 */
+/* the entropy payload is neither 6 nor 12 bytes long */
+#define WV_ENTROPY_LENGTH 1u
+/* the entropy payload is mono (a zero right set counts as mono) or holds a negative median */
+#define WV_NOT_STEREO 2u
+/* a bit past the end is needed, or a count or a prefix value is over its cap */
+#define WV_TRUNCATED 3u
+/* end of stream: the second count of a prefix is 33 */
+#define WV_END_OF_STREAM 4u
+/* over 131,072 frames, 262,144 elements or 4,194,304 payload bytes */
+#define WV_TOO_LARGE 5u
+/* a lent list does not have the length asked for */
+#define WV_LIST_LENGTH 6u
+/* a term that is none of 1 to 8, 17, 18, -1, -2, -3 */
+#define WV_INVALID_TERM 7u
+/* a seed with too few samples for its term */
+#define WV_SEED_TOO_SHORT 8u
+/* over 16 passes */
+#define WV_TOO_MANY_PASSES 9u
+/* a residual outside -1,879,048,192 to 1,879,048,191 */
+#define WV_RESIDUAL_OUT_OF_SPAN 10u
+/* fewer than 28 bytes per frame lent */
+#define WV_OUTPUT_TOO_SHORT 11u
+/* a channel due that is neither 0 nor 1 */
+#define WV_INVALID_CHANNEL 12u
 
 /* Slots of the lists. */
 #define WV_LOG_WORD_SLOTS 1u
@@ -48,63 +64,82 @@ extern "C" {
 #define WV_PACK_SLOTS 7u
 
 /* The signed 32-bit value of a log word.
- * value: its value. Refuses WV_LIST_LENGTH. */
+ * value: its value.
+ * Refuses WV_LIST_LENGTH, with value as it was. */
 uint32_t wv_log_word(int16_t word, int32_t *value, size_t value_len);
 
 /* The term and the delta of a term byte. The term may be an invalid one.
- * out: term (-5 to 26), delta (0 to 7). Refuses WV_LIST_LENGTH. */
+ * out: term (-5 to 26), delta (0 to 7).
+ * Refuses WV_LIST_LENGTH, with out as it was. */
 uint32_t wv_term_byte(uint8_t byte, int32_t *out, size_t out_len);
 
 /* The weight of a weight byte.
- * out: weight (-1024 to 1024). Refuses WV_LIST_LENGTH. */
+ * out: weight (-1024 to 1024).
+ * Refuses WV_LIST_LENGTH, with out as it was. */
 uint32_t wv_weight_byte(uint8_t byte, int32_t *out, size_t out_len);
 
-/* The signed medians of an entropy payload of 6 bytes (mono: the right ones are 0) or 12 bytes (stereo).
- * medians: left 0, 1, 2, right 0, 1, 2. Refuses WV_LIST_LENGTH, then WV_ENTROPY_LENGTH. */
+/* The signed medians of an entropy payload of 6 bytes (mono: the right ones are 0) or 12 (stereo).
+ * medians: left 0, 1, 2, right 0, 1, 2.
+ * Refuses WV_LIST_LENGTH, then WV_ENTROPY_LENGTH, with medians as it was. */
 uint32_t wv_entropy(const uint8_t *entropy, size_t entropy_len, int32_t *medians, size_t medians_len);
 
-/* Reads the packed payload of a stereo block: `frames` frames, left then right, into samples, which has 2 times frames elements.
- * answer: bits used, left medians 0, 1, 2, right medians 0, 1, 2 after the last word, samples written.
- * Refuses WV_LIST_LENGTH for answer; then WV_TOO_LARGE, WV_LIST_LENGTH for samples, WV_ENTROPY_LENGTH and WV_NOT_STEREO, with
- * answer all 0 and samples as it was; then, in a word, WV_TRUNCATED or WV_END_OF_STREAM, with answer telling of the words before
- * it, their samples in samples and, behind them, what it held. */
+/* Reads the packed payload of a stereo block: `frames` frames, left then right, into samples, which
+ * has 2 times frames elements.
+ * answer: bits used, left medians 0, 1, 2, right medians 0, 1, 2 after the last word, samples
+ *   written.
+ * Refuses WV_LIST_LENGTH for answer, with nothing written.
+ * Then refuses WV_TOO_LARGE, WV_LIST_LENGTH for samples, WV_ENTROPY_LENGTH and WV_NOT_STEREO, with
+ * the slots of answer 0 and samples as it was.
+ * Then, in a word, refuses WV_TRUNCATED or WV_END_OF_STREAM: answer tells of the words before it,
+ * their samples are in samples, and behind them samples holds what it held. */
 uint32_t wv_read(const uint8_t *entropy, size_t entropy_len, const uint8_t *payload, size_t payload_len, size_t frames,
                  int32_t *samples, size_t samples_len, uint32_t *answer, size_t answer_len);
 
-/* Reads one word of a packed payload. The caller holds the state: all 0 before the first word, but for the seed medians.
- * state: place (how many bits lie before the word), next_channel (0 left, 1 right), last_zero, last_one, zero_run_pending,
- *   run_break, ever_took_zero_run, left medians 0, 1, 2, right medians 0, 1, 2; before the word, and then after it. A flag is
- *   set when it is not 0, and is written as 0 or 1.
+/* Reads one word of a packed payload. The caller holds the state: all 0 before the first word, but
+ * for the seed medians.
+ * state: place (how many bits lie before the word), next_channel (0 left, 1 right), last_zero,
+ *   last_one, zero_run_pending, run_break, ever_took_zero_run, left medians 0, 1, 2, right medians
+ *   0, 1, 2; before the word, and then after it. A flag is set when it is not 0, and is written as
+ *   0 or 1.
  * sample: the sample.
- * report: 0 for none, as a zero out of a run has it, or 1, 2, 3, 4 for the zones 0, 1, 2 and the overflow zone; then the count
- *   of the word, 0 for none.
- * Refuses WV_LIST_LENGTH for the slots; then WV_TOO_LARGE for the payload, WV_INVALID_CHANNEL, WV_TRUNCATED or
- * WV_END_OF_STREAM, with sample 0, report 0, 0 and state as it was. */
+ * report: 0 for none, as a zero out of a run has it, or 1, 2, 3, 4 for the zones 0, 1, 2 and the
+ *   overflow zone; then the count of the word, 0 for none.
+ * Refuses WV_LIST_LENGTH for the slots, with nothing written.
+ * Then refuses WV_TOO_LARGE for the payload, WV_INVALID_CHANNEL, WV_TRUNCATED or WV_END_OF_STREAM,
+ * with sample 0, report 0, 0 and state as it was. */
 uint32_t wv_word(const uint8_t *payload, size_t payload_len, uint32_t *state, size_t state_len, int32_t *sample,
                  size_t sample_len, uint32_t *report, size_t report_len);
 
-/* Makes a pass. Any delta and weights are taken; an empty seed means zeros, except that a cross term with an A seed needs a B seed.
+/* Makes a pass. Any delta and weights are taken; an empty seed means zeros, except that a cross
+ * term with an A seed needs a B seed.
  * pass: term, delta, weight of A, weight of B, history of A (8), history of B (8).
- * Refuses WV_LIST_LENGTH, then WV_INVALID_TERM, then WV_SEED_TOO_SHORT for A or B: no pass results, and nothing is written. */
+ * Refuses WV_LIST_LENGTH, then WV_INVALID_TERM, then WV_SEED_TOO_SHORT for A or B, with pass as it
+ * was. */
 uint32_t wv_pass(int8_t term, int32_t delta, int32_t weight_a, int32_t weight_b, const int32_t *seed_a, size_t seed_a_len,
                  const int32_t *seed_b, size_t seed_b_len, int32_t *pass, size_t pass_len);
 
-/* Decorrelation: turns the residuals of buffer, left then right, into samples, by each pass in turn. An odd last element keeps its
- * value.
- * passes: the slots of `wv_pass` for each pass, one pass behind the other; the passes before the call, and then after it.
- * Refuses WV_LIST_LENGTH for a passes_len that is no multiple of WV_PASS_SLOTS; then WV_TOO_LARGE, WV_TOO_MANY_PASSES and
- * WV_INVALID_TERM, also for a term outside 8 bits. Both lists are then as they were. */
+/* Decorrelation: turns the residuals of buffer, left then right, into samples, by each pass in
+ * turn. An odd last element keeps its value.
+ * passes: the slots of `wv_pass` for each pass, one pass behind the other; the passes before the
+ *   call, and then after it.
+ * Refuses WV_LIST_LENGTH for a passes_len that is no multiple of WV_PASS_SLOTS; then WV_TOO_LARGE,
+ * WV_TOO_MANY_PASSES and WV_INVALID_TERM, also for a term outside 8 bits; with both lists as they
+ * were. */
 uint32_t wv_decorrelate(int32_t *passes, size_t passes_len, int32_t *buffer, size_t buffer_len);
 
-/* Analysis, the inverse: turns the samples of buffer into the residuals that decorrelate to them, and leaves the passes as
- * decorrelation would. Refuses as `wv_decorrelate` does. */
+/* Analysis, the inverse: turns the samples of buffer into the residuals that decorrelate to them,
+ * and leaves the passes as decorrelation would. Refuses as `wv_decorrelate` does. */
 uint32_t wv_analyse(int32_t *passes, size_t passes_len, int32_t *buffer, size_t buffer_len);
-/* Packs the residuals of a stereo block: `frames` frames, left then right, 2 times frames residuals, into out, which has at least
- * 28 bytes a frame. Reading the bytes that hold the bits written, with the same entropy payload and frames, gives the residuals.
- * out: the packed bytes from the first on; the spare bits of the last one are 0, and bytes behind keep their values.
+
+/* Packs the residuals of a stereo block: `frames` frames, left then right, 2 times frames
+ * residuals, into out, which has at least 28 bytes a frame. Reading the bytes that hold the bits
+ * written, with the same entropy payload and frames, gives the residuals.
+ * out: the packed bytes from the first on; the spare bits of the last one are 0, and bytes behind
+ *   keep their values.
  * answer: bits written, left medians 0, 1, 2, right medians 0, 1, 2 after the last word.
- * Refuses WV_LIST_LENGTH for answer; then WV_TOO_LARGE, WV_LIST_LENGTH for residuals, WV_ENTROPY_LENGTH, WV_NOT_STEREO,
- * WV_OUTPUT_TOO_SHORT and WV_RESIDUAL_OUT_OF_SPAN, with answer all 0 and out as it was. */
+ * Refuses WV_LIST_LENGTH for answer, with nothing written.
+ * Then refuses WV_TOO_LARGE, WV_LIST_LENGTH for residuals, WV_ENTROPY_LENGTH, WV_NOT_STEREO,
+ * WV_OUTPUT_TOO_SHORT and WV_RESIDUAL_OUT_OF_SPAN, with the slots of answer 0 and out as it was. */
 uint32_t wv_pack(const int32_t *residuals, size_t residuals_len, const uint8_t *entropy, size_t entropy_len, size_t frames,
                  uint8_t *out, size_t out_len, uint32_t *answer, size_t answer_len);
 

@@ -37,7 +37,7 @@ pub fn making_agrees(record: &[u8]) -> bool {
     refusal == number_at(record, 24) && holds_signed(stored, &pass)
 }
 
-// Analysis or decorrelation of the first numbers of two lists; of all of a list that has fewer.
+// Analysis, or decorrelation, of a buffer by passes of 20 slots each.
 fn run(analyse: bool, passes: &mut [i32], buffer: &mut [i32]) -> u32 {
     if analyse {
         capi::wv_analyse(passes, buffer)
@@ -46,7 +46,7 @@ fn run(analyse: bool, passes: &mut [i32], buffer: &mut [i32]) -> u32 {
     }
 }
 
-// The same on the first numbers of each list.
+// The same of the first numbers of each list; 0, with nothing run, where a list has fewer.
 fn run_parts(
     analyse: bool,
     passes: &mut [i32],

@@ -53,7 +53,7 @@ stateSlots place s =
     place ∷ s .channel ∷ val (s .lastZero) ∷ val (s .lastOne) ∷ s .debt ∷ val (s .runBreak) ∷ val (s .everRun)
     ∷ (medianSlots (s .left) ++ medianSlots (s .right))
 
--- the 2 slots of a report: 0 for none, else 1 and the number of the zone, 0 to 3; then the count
+-- the 2 slots of a report: 0 for none, else 1 plus the number of the zone, 0 to 3; then the count
 abbrev pub reportSlots : Report → List ℕ
 reportSlots none = 0 ∷ 0 ∷ []
 reportSlots zone0 = 1 ∷ 0 ∷ []
