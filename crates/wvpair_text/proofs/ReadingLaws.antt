@@ -15,7 +15,7 @@ use Rattle.entropy.specs.Seed.{seedMedians}
 use Rattle.samples.proofs.LocalLaws.{reading-inside}
 use Rattle.samples.proofs.WordBounds.{small-reading, refusal-le}
 use Rattle.samples.specs.Reading.{Reading, reading}
-use Rattle.samples.specs.State.{start}
+use Rattle.word_state.specs.State.{start}
 use Rattle.samples.specs.View.{ReadTold, readToldOf, toldReading, readRefusal, unlessRefused, readEntry}
 use Rattle.samples.specs.declared.ReadAnswer.{ReadAnswer}
 use Rattle.wvpair_text.specs.Lines.{report}
@@ -27,7 +27,8 @@ take-replicate zero m v h = refl
 take-replicate (suc n) zero v h = absurd (omega arith)
 take-replicate (suc n) (suc m) v h = ap (λ (l : List ℤ). v ∷ l) (take-replicate n m v (omega arith))
 
--- what a reading tells is small: how many samples are written, each of them, the refusal and the bits used
+-- what a reading tells is small: how many samples are written, each of them, the refusal and the
+-- bits used
 pub record Small (bytes frames : ℕ) (told : ReadTold) : Type 0 where
   pub written : told .written ≤ 2 * frames
   pub samples : (i : ℕ) → mag (getD (take (told .written) (told .list)) i (pos 0)) < 2147483648

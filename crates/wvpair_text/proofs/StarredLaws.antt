@@ -1,4 +1,5 @@
--- The two starred inputs of `wvpair` print what document 01 says, by computation of the definitions from the input bytes down.
+-- The two starred inputs of `wvpair` print what document 01 says, by computation of the definitions
+-- from the input bytes down.
 -- Assumes nothing.
 use mathlib.Core.Path.{_≡_, refl}
 use lib.Count.{leadingZeros}
@@ -13,7 +14,7 @@ use Rattle.logpack.specs.LogWord.{mantissa, magnitude, logWord}
 use Rattle.medians.specs.Adaptation.{up, down, adapt}
 use Rattle.medians.specs.Interval.{lowOf, highOf}
 use Rattle.samples.specs.Reading.{reading}
-use Rattle.samples.specs.State.{paid, inRun, unbroken, cleared, flagged, after, runDue}
+use Rattle.word_state.specs.State.{paid, inRun, unbroken, cleared, flagged, after, runDue}
 use Rattle.samples.specs.View.{readRefusal, readEntry}
 use Rattle.samples.specs.Word.{value, plain, fresh, word}
 use Rattle.wvpair_text.specs.Decimal.{digits, decimal, signedDecimal}
