@@ -20,6 +20,7 @@ use Rattle.logpack.specs.Exp2Table.{exp2Table}
 use Rattle.logpack.specs.LogWord.{mantissa, magnitude, logWord}
 use Rattle.medians.specs.Interval.{lowOf, highOf}
 use Rattle.medians.specs.Adaptation.{up, down, adapt}
+use Rattle.overlay.specs.Overlay.{overlay}
 use Rattle.word_state.specs.State.{paid, inRun, unbroken, cleared, flagged, after, runDue}
 use Rattle.samples.specs.Word.{value, plain, fresh, word}
 use Rattle.samples.specs.Reading.{reading}
@@ -39,23 +40,23 @@ told r = (r .refusal, r .bits, r .written, r .list)
 
 -- document 01 (C8): one frame of 7E 02 gives 3 and -1 in 10 bits
 pub starred-first : told (readEntry seeds (126 ∷ 2 ∷ []) 1 (blank 2)) ≡ (0, 10, 2, pos 3 ∷ negsuc 0 ∷ [])
-unfolding readEntry readRefusal seedRefusal seedMedians entropyRefusal entropyInfo wordSet isMono anyNegative notStereo logWord magnitude mantissa exp2Table reading word fresh plain value paid inRun unbroken cleared flagged after runDue adapt up down lowOf highOf prefix escaped runLength counted truncatedBinary codeOf bitLength leadingZeros getBits unary low num bitsOf ones
+unfolding readEntry readRefusal seedRefusal seedMedians entropyRefusal entropyInfo wordSet isMono anyNegative notStereo logWord magnitude mantissa exp2Table reading overlay word fresh plain value paid inRun unbroken cleared flagged after runDue adapt up down lowOf highOf prefix escaped runLength counted truncatedBinary codeOf bitLength leadingZeros getBits unary low num bitsOf ones
 starred-first = refl
 
 -- document 01 (C9): two frames of 07 give four zeros in 6 bits
 pub starred-second : told (readEntry seeds (7 ∷ []) 2 (blank 4)) ≡ (0, 6, 4, pos 0 ∷ pos 0 ∷ pos 0 ∷ pos 0 ∷ [])
-unfolding readEntry readRefusal seedRefusal seedMedians entropyRefusal entropyInfo wordSet isMono anyNegative notStereo logWord magnitude mantissa exp2Table reading word fresh plain value paid inRun unbroken cleared flagged after runDue adapt up down lowOf highOf prefix escaped runLength counted truncatedBinary codeOf bitLength leadingZeros getBits unary low num bitsOf ones
+unfolding readEntry readRefusal seedRefusal seedMedians entropyRefusal entropyInfo wordSet isMono anyNegative notStereo logWord magnitude mantissa exp2Table reading overlay word fresh plain value paid inRun unbroken cleared flagged after runDue adapt up down lowOf highOf prefix escaped runLength counted truncatedBinary codeOf bitLength leadingZeros getBits unary low num bitsOf ones
 starred-second = refl
 
 -- document 01 (R5): a refusal "in the first word .. tells bits 0 and the seed medians"; here its
 -- sign is missing
 pub refused-first : let r = readEntry seeds (126 ∷ []) 1 (blank 2) in (told r ≡ (3, 0, 0, blank 2)) × (r .medians ≡ seedMedians seeds)
-unfolding readEntry readRefusal seedRefusal seedMedians entropyRefusal entropyInfo wordSet isMono anyNegative notStereo logWord magnitude mantissa exp2Table reading word fresh plain value paid inRun unbroken cleared flagged after runDue adapt up down lowOf highOf prefix escaped runLength counted truncatedBinary codeOf bitLength leadingZeros getBits unary low num bitsOf ones
+unfolding readEntry readRefusal seedRefusal seedMedians entropyRefusal entropyInfo wordSet isMono anyNegative notStereo logWord magnitude mantissa exp2Table reading overlay word fresh plain value paid inRun unbroken cleared flagged after runDue adapt up down lowOf highOf prefix escaped runLength counted truncatedBinary codeOf bitLength leadingZeros getBits unary low num bitsOf ones
 refused-first = (refl, refl)
 
 -- frames 0 reads no bit (X8)
 pub no-frames : told (readEntry seeds [] 0 []) ≡ (0, 0, 0, [])
-unfolding readEntry readRefusal seedRefusal seedMedians entropyRefusal entropyInfo wordSet isMono anyNegative notStereo logWord magnitude mantissa exp2Table reading bitsOf
+unfolding readEntry readRefusal seedRefusal seedMedians entropyRefusal entropyInfo wordSet isMono anyNegative notStereo logWord magnitude mantissa exp2Table reading overlay bitsOf
 no-frames = refl
 
 -- c ones and a zero, and 40 zeros behind them

@@ -11,3 +11,5 @@ pub mod Cases
 pub mod RefusalLaws
 pub mod WordBounds
 pub mod LocalLaws
+pub mod PlaceLaws
+pub mod ToldBounds

@@ -13,17 +13,19 @@ use Rattle.bits.specs.Bits.{bitsOf}
 use Rattle.entropy.specs.declared.AdaptiveMedians.{AdaptiveMedians}
 use Rattle.entropy.specs.Medians.{Medians, mediansOf, pairOf, zeroSet}
 use Rattle.medians.specs.Adaptation.{adapt}
+use Rattle.overlay.specs.Overlay.{overlay}
+use Rattle.overlay.proofs.OverlayLaws.{overlay-first, overlay-none}
 use Rattle.word_state.specs.State.{State, start, paid, runDue}
 use Rattle.word_state.proofs.StateLaws.{noSet, there}
 use Rattle.samples.specs.Word.{Report, given, refused, word}
 use Rattle.samples.specs.Reading.{reading}
 use Rattle.samples.specs.Parts.{codedWord, CodedIs, zeroed, ZerosIs}
-use Rattle.samples.specs.View.{toldReading}
+use Rattle.samples.specs.View.{tellReading}
 use Rattle.samples.specs.declared.coded.Coded.{Coded}
 use Rattle.samples.proofs.ReadingLaws.{prepend, reading-on, reading-stop, reading-end}
 use Rattle.samples.proofs.HeldLaws.{Held, held-start, held-due, held-paid, held-run, held-sample}
 use Rattle.samples.proofs.WordLaws.{word-paid, word-fresh}
-use Rattle.samples.proofs.ZeroLaws.{zeroed-length, zeroed-first}
+use Rattle.samples.proofs.ZeroLaws.{zeroed-length, zeroed-next, zeroed-first}
 
 -- before word i: the locals hold a state, the first i elements are written, the others are as they
 -- were, and what is written joined to the reading of the words that are left is the whole reading
@@ -56,18 +58,19 @@ module _ (payload : List ℕ) (out₀ : List ℤ) (s₀ : State) (out : List ℤ
 
   -- what the answer tells where the words so far are the whole reading
   told : (c : ℕ) → i ≤ length out → record { refusal = c; samples = take i out; place = p; state = l .state } ≡ reading (bitsOf payload) (length out₀) 0 s₀
-      → record { refusal = c; bits = p; medians = pairOf ms; written = i; list = out } ≡ toldReading out₀ (reading (bitsOf payload) (length out₀) 0 s₀)
+      → record { refusal = c; bits = p; medians = pairOf ms; written = i; list = out } ≡ tellReading out₀ (reading (bitsOf payload) (length out₀) 0 s₀)
   told c h e =
       let n : length (take i out) ≡ i = length-take-le i out h in
-      let f : out ≡ take i out ++ drop (length (take i out)) out₀ =
-      sym (take-append-drop i out) ∙ ap (λ (x : List ℤ). take i out ++ x) (l .others) ∙ ap (λ (x : ℕ). take i out ++ drop x out₀) (sym n) in
+      let f : out ≡ overlay out₀ 0 (take i out) =
+      sym (take-append-drop i out) ∙ ap (λ (x : List ℤ). take i out ++ x) (l .others) ∙ ap (λ (x : ℕ). take i out ++ drop x out₀) (sym n)
+      ∙ sym (overlay-first out₀ (take i out)) in
       ap₂ (λ (x : ℕ) (y : List ℤ). record { refusal = c; bits = p; medians = pairOf ms; written = x; list = y }) (sym n) f
-      ∙ ap₂ (λ (x y : Medians). record { refusal = c; bits = p; medians = record { left = x; right = y }; written = length (take i out); list = take i out ++ drop (length (take i out)) out₀ })
+      ∙ ap₂ (λ (x y : Medians). record { refusal = c; bits = p; medians = record { left = x; right = y }; written = length (take i out); list = overlay out₀ 0 (take i out) })
       (sym (l .held .left-is)) (sym (l .held .right-is))
-      ∙ ap (toldReading out₀) e
+      ∙ ap (tellReading out₀) e
 
   -- the end of the list
-  words-end : length out ≤ i → record { refusal = 0; bits = p; medians = pairOf ms; written = i; list = out } ≡ toldReading out₀ (reading (bitsOf payload) (length out₀) 0 s₀)
+  words-end : length out ≤ i → record { refusal = 0; bits = p; medians = pairOf ms; written = i; list = out } ≡ tellReading out₀ (reading (bitsOf payload) (length out₀) 0 s₀)
   words-end h =
       let m : length out₀ - i ≡ 0 = omega (arith, l .same) in
       told 0 (omega (arith, l .here, l .same)) (sym (reading-end (bitsOf payload) p (l .state) (take i out))
@@ -99,27 +102,28 @@ module _ (payload : List ℕ) (out₀ : List ℤ) (s₀ : State) (out : List ℤ
         step v q _ _ (set ms (i % 2) x) owed false z' o' h (sym coded ∙ ap (codedWord (l .state)) e) (held-sample (l .state) ms owed b z o i (l .held) k x z' o' a)
 
     words-stop : (w : ℕ) → codedWord (l .state) r ≡ refused w
-        → record { refusal = w; bits = p; medians = pairOf ms; written = i; list = out } ≡ toldReading out₀ (reading (bitsOf payload) (length out₀) 0 s₀)
+        → record { refusal = w; bits = p; medians = pairOf ms; written = i; list = out } ≡ tellReading out₀ (reading (bitsOf payload) (length out₀) 0 s₀)
     words-stop w e =
         let n = length out₀ - (i + 1) in
         let m : length out₀ - i ≡ suc n = omega (arith, l .same) in
         told w (omega arith) (sym (reading-stop (bitsOf payload) n p w (l .state) (take i out) (sym coded ∙ e))
         ∙ ap (λ (x : ℕ). prepend (take i out) (reading (bitsOf payload) x p (l .state))) (sym m) ∙ l .is)
 
--- the numbers may be written otherwise
-words-as : (payload : List ℕ) (out₀ : List ℤ) (s₀ : State) (out : List ℤ) (ms : List AdaptiveMedians) (owed d : ℕ) (b z o : Bool) (p i j : ℕ) → owed ≡ d → i ≡ j
-    → Words payload out₀ s₀ out ms owed b z o p i → Words payload out₀ s₀ out ms d b z o p j
-words-as payload out₀ s₀ out ms owed d b z o p i j e f l = rw (e, f) at l
+-- list and numbers may be written otherwise
+words-as : (payload : List ℕ) (out₀ : List ℤ) (s₀ : State) (out new : List ℤ) (ms : List AdaptiveMedians) (owed d : ℕ) (b z o : Bool) (p i j : ℕ)
+    → out ≡ new → owed ≡ d → i ≡ j → Words payload out₀ s₀ out ms owed b z o p i → Words payload out₀ s₀ new ms d b z o p j
+words-as payload out₀ s₀ out new ms owed d b z o p i j g e f l = rw (g, e, f) at l
 
 -- n of the zeros that are owed
 words-zeros : (payload : List ℕ) (out₀ : List ℤ) (s₀ : State) (out : List ℤ) (ms : List AdaptiveMedians) (owed : ℕ) (b z o : Bool) (p i n : ℕ) → Words payload out₀ s₀ out ms owed b z o p i
     → n ≤ owed → i + n ≤ length out → Words payload out₀ s₀ (zeroed out i n) ms (owed - n) b z o p (i + n)
 words-zeros payload out₀ s₀ out ms owed b z o p i zero l h k =
-    words-as payload out₀ s₀ out ms owed (owed - 0) b z o p i (i + 0) (omega arith) (omega arith) l
+    words-as payload out₀ s₀ out (zeroed out i 0) ms owed (owed - 0) b z o p i (i + 0) (sym (overlay-none out i)) (omega arith) (omega arith) l
 words-zeros payload out₀ s₀ out ms owed b z o p i (suc n) l h k =
     let w = words-zeros payload out₀ s₀ out ms owed b z o p i n l (omega arith) (omega arith) in
-    let x = words-paid payload out₀ s₀ (zeroed out i n) ms (owed - n) b z o p (i + n) w (omega arith) (omega (arith, zeroed-length out i n)) in
-    words-as payload out₀ s₀ (zeroed out i (suc n)) ms (owed - n - 1) (owed - suc n) b z o p (i + n + 1) (i + suc n) (omega arith) (omega arith) x
+    let x = words-paid payload out₀ s₀ (zeroed out i n) ms (owed - n) b z o p (i + n) w (omega arith) (omega (arith, zeroed-length out i n (omega arith))) in
+    words-as payload out₀ s₀ (set (zeroed out i n) (i + n) (pos 0)) (zeroed out i (suc n)) ms (owed - n - 1) (owed - suc n) b z o p (i + n + 1) (i + suc n)
+    (zeroed-next out i n (omega arith)) (omega arith) (omega arith) x
 
 -- ---- the loop
 
@@ -142,7 +146,7 @@ loop-start payload out ms l =
 
 module _ (payload : List ℕ) (out₀ : List ℤ) (s₀ : State) (out : List ℤ) (ms : List AdaptiveMedians) (b z o : Bool) (p i : ℕ) (l : Loop payload out₀ s₀ out ms b z o p i) where
   -- the end of the list
-  pub loop-end : length out ≤ i → record { refusal = 0; bits = p; medians = pairOf ms; written = i; list = out } ≡ toldReading out₀ (reading (bitsOf payload) (length out₀) 0 s₀)
+  pub loop-end : length out ≤ i → record { refusal = 0; bits = p; medians = pairOf ms; written = i; list = out } ≡ tellReading out₀ (reading (bitsOf payload) (length out₀) 0 s₀)
   loop-end h = words-end payload out₀ s₀ out ms (l .owed) b z o p i (l .words) h
 
   module _ (r : Coded) (run : Bool) (h : i < length out) (f : run ≡ (not b && runDue (mediansOf (getD ms 0 noSet)) (mediansOf (getD ms 1 noSet)) z o))
@@ -154,12 +158,12 @@ module _ (payload : List ℕ) (out₀ : List ℤ) (s₀ : State) (out : List ℤ
         let w = words-run payload out₀ s₀ out ms (l .owed) b z o p i (l .words) r run (l .settled h) h f c d q e in
         let k : j - i ≡ suc n = omega (arith, zs .some) in
         let m : i + 1 + n ≡ j = omega (arith, zs .some) in
-        let y : zeroed (set out i (pos 0)) (i + 1) n ≡ after = zeroed-first out i n ∙ ap (zeroed out i) (sym k) ∙ sym (zs .list-is) in
+        let y : zeroed (set out i (pos 0)) (i + 1) n ≡ after = zeroed-first out i n h ∙ ap (zeroed out i) (sym k) ∙ sym (zs .list-is) in
         let x = words-zeros payload out₀ s₀ (set out i (pos 0)) (zeroSet ∷ zeroSet ∷ []) d true z o q (i + 1) n w (omega (arith, zs .most)) (omega (arith, zs .some, zs .within, length-set out i (pos 0))) in
         record {
           owed = d - n;
           words = rw (y, m) at x;
-          settled = λ t. omega (arith, zs .all (omega (arith, ap length (zs .list-is), zeroed-length out i (j - i))));
+          settled = λ t. omega (arith, zs .all (omega (arith, ap length (zs .list-is), zeroed-length out i (j - i) (omega (arith, zs .some, zs .within)))));
         }
 
     -- a sample
@@ -173,5 +177,5 @@ module _ (payload : List ℕ) (out₀ : List ℤ) (s₀ : State) (out : List ℤ
 
     -- a refused word
     pub loop-stop : (w : ℕ) → ((s : State) → codedWord s r ≡ refused w)
-        → record { refusal = w; bits = p; medians = pairOf ms; written = i; list = out } ≡ toldReading out₀ (reading (bitsOf payload) (length out₀) 0 s₀)
+        → record { refusal = w; bits = p; medians = pairOf ms; written = i; list = out } ≡ tellReading out₀ (reading (bitsOf payload) (length out₀) 0 s₀)
     loop-stop w e = words-stop payload out₀ s₀ out ms (l .owed) b z o p i (l .words) r run (l .settled h) h f c w (e (l .words .state))

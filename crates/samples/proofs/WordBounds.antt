@@ -1,21 +1,18 @@
 -- What words give is small: each sample is a 32-bit number, a refusal is 3 or 4, and there are no
--- more samples than words. A refusal before any word is at most 6.
+-- more samples than words.
 -- Assumes nothing.
 use mathlib.Core.Path.{_≡_, refl}
-use mathlib.Core.Bool.{Bool, true, false, cond, _||_}
+use mathlib.Core.Bool.{Bool, true, false, cond}
 use mathlib.Core.List.{List, [], _∷_}
-use Prim.Native.Nat.{ℕ, zero, suc, _+_, _-_, _*_, _/_, _%_, _≤_, _<_}
+use Prim.Native.Nat.{ℕ, zero, suc, _+_, _-_, _/_, _%_, _≤_, _<_}
 use native.Mathlib.Omega.{arith}
-use lib.Dec.{ltb, eqb}
-use lib.IntN.{ℤ, pos}
+use lib.IntN.{pos}
 use lib.ListN.{length, getD}
 use lib.Signed.{mag}
 use Rattle.bits.specs.Bits.{val, bitOf}
 use Rattle.bits.specs.Fields.{getBits}
 use Rattle.bits.specs.declared.Field.{Field}
 use Rattle.bits.specs.declared.Field.the-variants.{Value, Truncated}
-use Rattle.entropy.specs.Seed.{seedRefusal}
-use Rattle.entropy.proofs.SeedBounds.{cond-le, seed-le}
 use Rattle.fields.specs.Counts.{runLength, prefix}
 use Rattle.fields.specs.Code.{truncatedBinary}
 use Rattle.fields.specs.declared.Prefix.{Prefix}
@@ -25,7 +22,6 @@ use Rattle.medians.proofs.IntervalLaws.{ends}
 use Rattle.word_state.specs.State.{State, due, paid, inRun, unbroken, cleared, flagged, after, runDue, onZeros}
 use Rattle.samples.specs.Word.{Word, given, refused, none, zoneOf, signed, onField, onPrefix, value, plain, fresh, word}
 use Rattle.samples.specs.Reading.{Reading, onWord, more, reading}
-use Rattle.samples.specs.View.{readRefusal}
 
 -- ---- one word
 
@@ -118,10 +114,3 @@ pub small-reading : (bits : List Bool) (n p : ℕ) (s : State) → SmallReading 
 unfolding reading
 small-reading bits zero p s = record { refusal = omega arith; most = omega arith; samples = λ i. omega arith }
 small-reading bits (suc n) p s = small-behind bits n p s (word bits p s) (small-word bits p s) (λ q t. small-reading bits n q t)
-
--- ---- before any word
-pub refusal-le : (entropy payload : List ℕ) (frames : ℕ) (list : List ℤ) → readRefusal entropy payload frames list ≤ 6
-unfolding readRefusal
-refusal-le entropy payload frames list =
-    cond-le (ltb 131072 frames || ltb 4194304 (length payload)) 5 (cond (eqb (length list) (2 * frames)) (seedRefusal entropy) 6) 6 (omega arith)
-    (cond-le (eqb (length list) (2 * frames)) (seedRefusal entropy) 6 6 (omega (arith, seed-le entropy)) (omega arith))

@@ -8,6 +8,7 @@ use native.Mathlib.Omega.{arith}
 use borrow.Author.Tests.{lt-ltb, le-ltb}
 use lib.IntN.{pos}
 use lib.ListN.{length, getD}
+use Rattle.answers.specs.Limits.{maxPayloadBytes}
 use Rattle.bits.specs.Bits.{bitsOf}
 use Rattle.entropy.specs.Medians.{mediansOf}
 use Rattle.word_state.specs.State.{State, paid, runDue}
@@ -16,7 +17,7 @@ use Rattle.word_state.specs.declared.StereoDecodeState.{StereoDecodeState}
 use Rattle.word_state.proofs.StateLaws.{noSet, there, picked, zeros-some, zeros-none}
 use Rattle.samples.specs.Word.{Word, given, refused, none, fresh, word}
 use Rattle.samples.specs.Parts.{codedWord, CodedIs}
-use Rattle.samples.specs.View.{toldWord, oneWord}
+use Rattle.samples.specs.View.{tellWord, oneWord}
 use Rattle.samples.specs.declared.coded.Coded.{Coded}
 
 -- a zero is owed
@@ -32,26 +33,26 @@ word-fresh bits p s h = zeros-none (s .debt) (λ d. given (pos 0) p (paid d s) n
 -- ---- the entry by its refusals
 
 -- a payload that is too large
-pub one-large : (payload : List ℕ) (p : ℕ) (s : State) → 4194304 < length payload → toldWord p s (refused 5) ≡ oneWord payload p s
+pub one-large : (payload : List ℕ) (p : ℕ) (s : State) → maxPayloadBytes < length payload → tellWord p s (refused 5) ≡ oneWord payload p s
 unfolding oneWord
-one-large payload p s h = rw (lt-ltb 4194304 (length payload) h)
+one-large payload p s h = rw (lt-ltb maxPayloadBytes (length payload) h)
 
 -- a channel that is none
-pub one-channel : (payload : List ℕ) (p : ℕ) (s : State) → length payload ≤ 4194304 → 1 < s .channel → toldWord p s (refused 12) ≡ oneWord payload p s
+pub one-channel : (payload : List ℕ) (p : ℕ) (s : State) → length payload ≤ maxPayloadBytes → 1 < s .channel → tellWord p s (refused 12) ≡ oneWord payload p s
 unfolding oneWord
-one-channel payload p s h l = rw (le-ltb 4194304 (length payload) h, lt-ltb 1 (s .channel) l)
+one-channel payload p s h l = rw (le-ltb maxPayloadBytes (length payload) h, lt-ltb 1 (s .channel) l)
 
 -- the word itself
-pub one-word : (payload : List ℕ) (p : ℕ) (s : State) (w : Word) → length payload ≤ 4194304 → s .channel ≤ 1 → w ≡ word (bitsOf payload) p s → toldWord p s w ≡ oneWord payload p s
+pub one-word : (payload : List ℕ) (p : ℕ) (s : State) (w : Word) → length payload ≤ maxPayloadBytes → s .channel ≤ 1 → w ≡ word (bitsOf payload) p s → tellWord p s w ≡ oneWord payload p s
 unfolding oneWord
-one-word payload p s w h l e = rw (le-ltb 4194304 (length payload) h, le-ltb 1 (s .channel) l) (ap (toldWord p s) e)
+one-word payload p s w h l e = rw (le-ltb maxPayloadBytes (length payload) h, le-ltb 1 (s .channel) l) (ap (tellWord p s) e)
 
 -- the entry, where no zero is owed: the word is what was read
 pub one-coded : (payload : List ℕ) (p : ℕ) (st : StereoDecodeState) (run : Bool) (r : Coded)
-    → length payload ≤ 4194304 → st .«next_channel» ≤ 1 → st .«zero_run_pending» ≡ 0 → length (st .medians) ≡ 2
+    → length payload ≤ maxPayloadBytes → st .«next_channel» ≤ 1 → st .«zero_run_pending» ≡ 0 → length (st .medians) ≡ 2
     → run ≡ (not (st .«run_break») && runDue (mediansOf (getD (st .medians) 0 noSet)) (mediansOf (getD (st .medians) 1 noSet)) (st .«last_zero») (st .«last_one»))
     → CodedIs (bitsOf payload) p run (mediansOf (getD (st .medians) (st .«next_channel») noSet)) (st .«last_zero») (st .«last_one») r
-    → toldWord p (stateOf st) (codedWord (stateOf st) r) ≡ oneWord payload p (stateOf st)
+    → tellWord p (stateOf st) (codedWord (stateOf st) r) ≡ oneWord payload p (stateOf st)
 one-coded payload p st run r h l n m e c =
     let ms = st .medians in
     let f = there ms 0 m (omega arith) in

@@ -4,11 +4,12 @@
 use mathlib.Core.Path.{_≡_}
 use mathlib.Core.Bool.{Bool}
 use mathlib.Core.List.{List}
-use Prim.Native.Nat.{ℕ, zero, suc, _+_, _-_, _≤_, _<_}
+use Prim.Native.Nat.{ℕ, _+_, _-_, _≤_, _<_}
 use lib.IntN.{ℤ, pos}
-use lib.ListN.{length, set}
+use lib.ListN.{length, replicate}
 use Rattle.entropy.specs.Medians.{Medians}
 use Rattle.fields.specs.declared.Prefix.{Prefix}
+use Rattle.overlay.specs.Overlay.{overlay}
 use Rattle.word_state.specs.State.{State, due, withFlags, inRun, unbroken, after, runHere}
 use Rattle.samples.specs.Word.{Word, given, refused, none, zoneOf, value, plain, fresh}
 use Rattle.samples.specs.declared.coded.OnesCount.{OnesCount}
@@ -72,10 +73,9 @@ pub record PlainIs (bits : List Bool) (p : ℕ) (medians : Medians) (lastZero la
 pub record CodedIs (bits : List Bool) (p : ℕ) (read : Bool) (medians : Medians) (lastZero lastOne : Bool) (r : Coded) : Type 0 where
   pub is : (s : State) → runHere s ≡ read → due s ≡ medians → s .lastZero ≡ lastZero → s .lastOne ≡ lastOne → codedWord s r ≡ fresh bits p s
 
--- the n elements of a list from i on are 0
+-- n zeros from i on, in a list that keeps its other elements
 abbrev pub zeroed : List ℤ → ℕ → ℕ → List ℤ
-zeroed l i zero = l
-zeroed l i (suc n) = set (zeroed l i n) (i + n) (pos 0)
+zeroed l i n = overlay l i (replicate n (pos 0))
 
 -- the zeros of a run from `first` on, the first and `behind` more, as far as the list goes; r is
 -- the index after them

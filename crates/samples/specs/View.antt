@@ -1,15 +1,18 @@
 -- What the structs of the two entries stand for, and what each entry answers (X2, X3).
 -- Assumes nothing.
 use mathlib.Core.Bool.{cond, _||_}
-use mathlib.Core.List.{List, _++_}
-use Prim.Native.Nat.{ℕ, zero, suc, _*_}
+use mathlib.Core.List.{List}
+use Prim.Native.Nat.{ℕ, _*_}
 use lib.Dec.{ltb, eqb}
 use lib.IntN.{ℤ, pos}
-use lib.ListN.{length, drop}
+use lib.ListN.{length}
+use Rattle.answers.specs.Guard.{unlessRefused}
+use Rattle.answers.specs.Limits.{maxFrames, maxPayloadBytes}
 use Rattle.answers.specs.Numbers.{outcomeNumber}
 use Rattle.bits.specs.Bits.{bitsOf}
 use Rattle.entropy.specs.Medians.{MedianPair, pairOf, zeroPair}
 use Rattle.entropy.specs.Seed.{seedRefusal, seedMedians}
+use Rattle.overlay.specs.Overlay.{overlay}
 use Rattle.word_state.specs.State.{State, start}
 use Rattle.word_state.specs.View.{stateOf}
 use Rattle.samples.specs.Word.{Report, none, zone0, zone1, zone2, over, Word, given, refused, word}
@@ -42,18 +45,18 @@ pub record WordTold : Type 0 where
   pub report : Report
 
 -- the answer that the entry's struct holds
-abbrev pub wordToldOf : WordAnswer → WordTold
-wordToldOf r = record { refusal = outcomeNumber (r .outcome); sample = r .sample; place = r .place; state = stateOf (r .state); report = reportOf (r .report .zone) }
+abbrev pub viewWord : WordAnswer → WordTold
+viewWord r = record { refusal = outcomeNumber (r .outcome); sample = r .sample; place = r .place; state = stateOf (r .state); report = reportOf (r .report .zone) }
 
 -- document 01 (X3): "A refusal gives sample 0 and the old state and place"
-abbrev pub toldWord : ℕ → State → Word → WordTold
-toldWord p s (given v q t z) = record { refusal = 0; sample = v; place = q; state = t; report = z }
-toldWord p s (refused c) = record { refusal = c; sample = pos 0; place = p; state = s; report = none }
+abbrev pub tellWord : ℕ → State → Word → WordTold
+tellWord p s (given v q t z) = record { refusal = 0; sample = v; place = q; state = t; report = z }
+tellWord p s (refused c) = record { refusal = c; sample = pos 0; place = p; state = s; report = none }
 
 -- document 01 (X3): "One word: 5, the payload bytes only; 12, next_channel above 1; 3; 4"
 unfoldable pub oneWord : List ℕ → ℕ → State → WordTold
 oneWord payload p s =
-    toldWord p s (cond (ltb 4194304 (length payload)) (refused 5) (cond (ltb 1 (s .channel)) (refused 12) (word (bitsOf payload) p s)))
+    tellWord p s (cond (ltb maxPayloadBytes (length payload)) (refused 5) (cond (ltb 1 (s .channel)) (refused 12) (word (bitsOf payload) p s)))
 
 -- ---- reading
 
@@ -67,34 +70,32 @@ pub record ReadTold : Type 0 where
   pub list : List ℤ
 
 -- the answer that the entry's struct holds, with the lent list as it is left
-abbrev pub readToldOf : ReadAnswer → List ℤ → ReadTold
-readToldOf r list = record { refusal = outcomeNumber (r .outcome); bits = r .bits; medians = pairOf (r .medians); written = r .written; list = list }
+abbrev pub viewReading : ReadAnswer → List ℤ → ReadTold
+viewReading r list = record { refusal = outcomeNumber (r .outcome); bits = r .bits; medians = pairOf (r .medians); written = r .written; list = list }
 
 -- the samples of a reading stand first in the lent list; the rest of it is as it was
-abbrev pub toldReading : List ℤ → Reading → ReadTold
-toldReading list r = record {
+abbrev pub tellReading : List ℤ → Reading → ReadTold
+tellReading list r = record {
   refusal = r .refusal;
   bits = r .place;
   medians = record { left = r .state .left; right = r .state .right };
   written = length (r .samples);
-  list = r .samples ++ drop (length (r .samples)) list;
+  list = overlay list 0 (r .samples);
 }
 
 -- document 01 (X2): "Reading: 5, over 131,072 frames or 4,194,304 payload bytes; 6, list length; 1;
 -- 2, mono or a negative median"; 0: words follow
 unfoldable pub readRefusal : List ℕ → List ℕ → ℕ → List ℤ → ℕ
 readRefusal entropy payload frames list =
-    cond (ltb 131072 frames || ltb 4194304 (length payload)) 5 (cond (eqb (length list) (2 * frames)) (seedRefusal entropy) 6)
+    cond (ltb maxFrames frames || ltb maxPayloadBytes (length payload)) 5 (cond (eqb (length list) (2 * frames)) (seedRefusal entropy) 6)
 
--- document 01 (R6): "One that comes before any word is tried tells 0 for bits and medians"; else
--- what follows
-abbrev pub unlessRefused : List ℤ → ℕ → ReadTold → ReadTold
-unlessRefused list zero told = told
-unlessRefused list (suc c) told = record { refusal = suc c; bits = 0; medians = zeroPair; written = 0; list = list }
+-- document 01 (R6): "One that comes before any word is tried tells 0 for bits and medians"
+abbrev pub notRead : List ℤ → ℕ → ReadTold
+notRead list refusal = record { refusal = refusal; bits = 0; medians = zeroPair; written = 0; list = list }
 
--- document 01, "Reading, from the entry down" (R1 to R6): 2 times frames words from the seed
--- medians on
+-- document 01, "Reading, from the entry down" (R1 to R6): 2 times frames words from the seed medians
+-- on
 unfoldable pub readEntry : List ℕ → List ℕ → ℕ → List ℤ → ReadTold
 readEntry entropy payload frames list =
-    unlessRefused list (readRefusal entropy payload frames list)
-    (toldReading list (reading (bitsOf payload) (2 * frames) 0 (start (seedMedians entropy .left) (seedMedians entropy .right))))
+    unlessRefused (readRefusal entropy payload frames list) (notRead list)
+    (tellReading list (reading (bitsOf payload) (2 * frames) 0 (start (seedMedians entropy .left) (seedMedians entropy .right))))

@@ -4,6 +4,7 @@
 ghost use mathlib.Core.Path.{_≡_};
 ghost use Prim.Native.Nat.{_%_, _≤_, _<_};
 ghost use lib.ListN.{length};
+ghost use Rattle.answers.specs.Limits.{maxPayloadBytes};
 ghost use Rattle.bits.specs.Bits.{bitsOf, val, bitOf};
 ghost use Rattle.entropy.specs.Medians.{mediansOf};
 ghost use Rattle.samples.specs.Word.{signed};
@@ -64,7 +65,7 @@ fn decode_signed_value(
     medians: AdaptiveMedians,
     ones_count: u32,
 ) -> SignedValue
-    requires { ⌜ length (now payload) ≤ 4194304 ⌝ }
+    requires { ⌜ length (now payload) ≤ maxPayloadBytes ⌝ }
     ensures { λ r. ⌜ ValueIs (bitsOf (now (payload .entry))) place (mediansOf medians) «ones_count» r ⌝ }
 {
     let interval = sample_interval(medians, ones_count);
@@ -79,7 +80,8 @@ fn decode_signed_value(
 }
 
 fn one_if(flag: bool) -> u32
-    ensures { λ r. ⌜ (r ≡ val flag) × (r ≤ 1) ⌝ }
+    ensures bit { λ r. ⌜ r ≡ val flag ⌝ }
+    ensures most { λ r. ⌜ r ≤ 1 ⌝ }
 {
     if flag { 1 } else { 0 }
 }
@@ -109,7 +111,7 @@ fn read_folded_ones_count(
     last_zero: bool,
     last_one: bool,
 ) -> OnesCount
-    requires { ⌜ length (now payload) ≤ 4194304 ⌝ }
+    requires { ⌜ length (now payload) ≤ maxPayloadBytes ⌝ }
     ensures { λ r. ⌜ CountIs (bitsOf (now (payload .entry))) place «last_zero» «last_one» r ⌝ }
 {
     if last_zero {
@@ -125,7 +127,7 @@ fn read_folded_ones_count(
 
 // Step 2, where `eligible` tells whether a run length is read.
 fn try_zero_run_path_stereo(payload: &[u8], place: usize, eligible: bool) -> ZeroRun
-    requires { ⌜ length (now payload) ≤ 4194304 ⌝ }
+    requires { ⌜ length (now payload) ≤ maxPayloadBytes ⌝ }
     ensures { λ r. ⌜ ZeroRunIs (bitsOf (now (payload .entry))) place eligible r ⌝ }
 {
     if !eligible {
@@ -159,7 +161,7 @@ fn read_coded(
     last_zero: bool,
     last_one: bool,
 ) -> Coded
-    requires { ⌜ length (now payload) ≤ 4194304 ⌝ }
+    requires { ⌜ length (now payload) ≤ maxPayloadBytes ⌝ }
     ensures { λ r. ⌜ PlainIs (bitsOf (now (payload .entry))) place (mediansOf medians) «last_zero» «last_one» r ⌝ }
 {
     let count = read_folded_ones_count(payload, place, last_zero, last_one);
@@ -186,7 +188,7 @@ pub(crate) fn read_word(
     last_zero: bool,
     last_one: bool,
 ) -> Coded
-    requires { ⌜ length (now payload) ≤ 4194304 ⌝ }
+    requires { ⌜ length (now payload) ≤ maxPayloadBytes ⌝ }
     ensures { λ r. ⌜ CodedIs (bitsOf (now (payload .entry))) place eligible (mediansOf medians) «last_zero» «last_one» r ⌝ }
 {
     let run = try_zero_run_path_stereo(payload, place, eligible);

@@ -7,7 +7,7 @@ ghost use Rattle.answers.specs.Numbers.{numberOf};
 ghost use Rattle.word_state.specs.State.{withFlags, paid, inRun, unbroken, after};
 ghost use Rattle.samples.specs.Word.{none, zoneOf, given, refused};
 ghost use Rattle.word_state.specs.View.{stateOf};
-ghost use Rattle.samples.specs.View.{wordToldOf, toldWord, oneWord};
+ghost use Rattle.samples.specs.View.{viewWord, tellWord, oneWord};
 use crate::MaybeZone;
 use crate::WordAnswer;
 use crate::WordReport;
@@ -16,6 +16,7 @@ use crate::coded::Coded;
 use crate::coded::read_word;
 use answers::Outcome;
 use answers::Refusal;
+use answers::limits::MAX_PAYLOAD_BYTES;
 use entropy::AdaptiveMedians;
 use medians::adaptation::adapt;
 use word_state::StereoDecodeState;
@@ -23,7 +24,7 @@ use word_state::zero_run_eligible;
 
 // A refused word: sample 0, the old place and state, no report.
 fn refused(refusal: Refusal, place: usize, state: StereoDecodeState) -> WordAnswer
-    ensures { λ r. ⌜ wordToldOf r ≡ toldWord place (stateOf state) (refused (numberOf refusal)) ⌝ }
+    ensures { λ r. ⌜ viewWord r ≡ tellWord place (stateOf state) (refused (numberOf refusal)) ⌝ }
 {
     WordAnswer {
         outcome: Outcome::Refused(refusal),
@@ -38,7 +39,7 @@ fn refused(refusal: Refusal, place: usize, state: StereoDecodeState) -> WordAnsw
 
 // A zero out of a run, which reports no zone.
 fn zero(place: usize, state: StereoDecodeState) -> WordAnswer
-    ensures { λ r. ⌜ wordToldOf r ≡ toldWord place (stateOf state) (given (pos 0) place (stateOf state) none) ⌝ }
+    ensures { λ r. ⌜ viewWord r ≡ tellWord place (stateOf state) (given (pos 0) place (stateOf state) none) ⌝ }
 {
     WordAnswer {
         outcome: Outcome::Accepted,
@@ -53,7 +54,7 @@ fn zero(place: usize, state: StereoDecodeState) -> WordAnswer
 
 // A sample outside a run.
 fn given(sample: i32, place: usize, state: StereoDecodeState, ones_count: u32) -> WordAnswer
-    ensures { λ r. ⌜ wordToldOf r ≡ toldWord place (stateOf state) (given sample place (stateOf state) (zoneOf «ones_count»)) ⌝ }
+    ensures { λ r. ⌜ viewWord r ≡ tellWord place (stateOf state) (given sample place (stateOf state) (zoneOf «ones_count»)) ⌝ }
 {
     WordAnswer {
         outcome: Outcome::Accepted,
@@ -123,9 +124,9 @@ pub fn decode_sample_stateful_stereo(
     place: usize,
     state: StereoDecodeState,
 ) -> WordAnswer
-    ensures { λ r. ⌜ wordToldOf r ≡ oneWord (now (payload .entry)) place (stateOf state) ⌝ }
+    ensures { λ r. ⌜ viewWord r ≡ oneWord (now (payload .entry)) place (stateOf state) ⌝ }
 {
-    if payload.len() > 4194304 {
+    if payload.len() > MAX_PAYLOAD_BYTES {
         return refused(Refusal::TooLarge, place, state);
     }
     if state.next_channel > 1 {

@@ -4,19 +4,25 @@
 // debt is held. The zero set stands outside the loop: made inside it, it cost loud payloads a
 // twentieth.
 ghost use mathlib.Core.Path.{_≡_};
+ghost use mathlib.Core.List.{List};
 ghost use Prim.Native.Nat.{_≤_, _<_};
+ghost use lib.IntN.{ℤ};
 ghost use lib.ListN.{length};
+ghost use Rattle.answers.specs.Limits.{maxPayloadBytes};
+ghost use Rattle.answers.specs.Numbers.{outcomeNumber};
 ghost use Rattle.bits.specs.Bits.{bitsOf};
-ghost use Rattle.entropy.specs.Medians.{pairOf, zeroPair};
+ghost use Rattle.entropy.specs.Medians.{pairOf};
 ghost use Rattle.word_state.specs.State.{start};
 ghost use Rattle.samples.specs.Reading.{reading};
 ghost use Rattle.samples.specs.Parts.{ZerosIs};
-ghost use Rattle.samples.specs.View.{readToldOf, toldReading, readEntry};
+ghost use Rattle.samples.specs.View.{viewReading, tellReading, notRead, readEntry};
 use crate::ReadAnswer;
 use crate::coded::Coded;
 use crate::coded::read_word;
 use answers::Outcome;
 use answers::Refusal;
+use answers::limits::MAX_FRAMES;
+use answers::limits::MAX_PAYLOAD_BYTES;
 use entropy::AdaptiveMedians;
 use entropy::stereo_pair_from_entropy;
 use medians::adaptation::adapt;
@@ -77,8 +83,8 @@ fn decode_packed_samples_stereo(
     seeds: [AdaptiveMedians; 2],
     out: &mut [i32],
 ) -> ReadAnswer
-    requires { ⌜ length (now payload) ≤ 4194304 ⌝ }
-    ensures { λ r. ⌜ readToldOf r (now (out .exit)) ≡ toldReading (now (out .entry)) (reading (bitsOf (now (payload .entry))) (length (now (out .entry))) 0 (start (pairOf seeds .left) (pairOf seeds .right))) ⌝ }
+    requires { ⌜ length (now payload) ≤ maxPayloadBytes ⌝ }
+    ensures { λ r. ⌜ viewReading r (now (out .exit)) ≡ tellReading (now (out .entry)) (reading (bitsOf (now (payload .entry))) (length (now (out .entry))) 0 (start (pairOf seeds .left) (pairOf seeds .right))) ⌝ }
 {
     let none = AdaptiveMedians { values: [0, 0, 0] };
     let mut medians = seeds;
@@ -115,7 +121,7 @@ fn decode_packed_samples_stereo(
 
 // The answer of a reading that ended before any word.
 fn not_read(outcome: Outcome) -> ReadAnswer
-    ensures { λ r. ⌜ (r .outcome ≡ outcome) × (r .bits ≡ 0) × (pairOf (r .medians) ≡ zeroPair) × (r .written ≡ 0) ⌝ }
+    ensures { λ r. ⌜ ((list : List ℤ) → viewReading r list ≡ notRead list (outcomeNumber outcome)) ⌝ }
 {
     let none = AdaptiveMedians { values: [0, 0, 0] };
     ReadAnswer {
@@ -136,12 +142,12 @@ pub fn decode_packed_samples_stereo_from_entropy(
     frames: usize,
     out: &mut [i32],
 ) -> ReadAnswer
-    ensures { λ r. ⌜ readToldOf r (now (out .exit)) ≡ readEntry (now (entropy .entry)) (now (payload .entry)) frames (now (out .entry)) ⌝ }
+    ensures { λ r. ⌜ viewReading r (now (out .exit)) ≡ readEntry (now (entropy .entry)) (now (payload .entry)) frames (now (out .entry)) ⌝ }
 {
-    if frames > 131072 {
+    if frames > MAX_FRAMES {
         return not_read(Outcome::Refused(Refusal::TooLarge));
     }
-    if payload.len() > 4194304 {
+    if payload.len() > MAX_PAYLOAD_BYTES {
         return not_read(Outcome::Refused(Refusal::TooLarge));
     }
     if out.len() != 2 * frames {

@@ -15,7 +15,7 @@ use Rattle.word_state.specs.State.{State}
 use Rattle.word_state.specs.View.{stateOf}
 use Rattle.samples.specs.Word.{given, none, zoneOf}
 use Rattle.samples.specs.Parts.{codedWord}
-use Rattle.samples.specs.View.{toldWord, oneWord}
+use Rattle.samples.specs.View.{tellWord, oneWord}
 use Rattle.samples.specs.declared.coded.Coded.{Coded}
 use Rattle.word_state.proofs.StateLaws.{length-mapped}
 use Rattle.samples.proofs.WordLaws.{one-large, one-channel, one-word, word-paid, one-coded}
@@ -51,7 +51,7 @@ returns-3 : tie.Need-returns-3
 returns-3 c =
     let a = c .before .before .before .before .before .before .before .args in
     let s = stateOf (a .state) in
-    c .zero .ensures ∙ ap (λ (t : State). toldWord (a .place) s (given (pos 0) (a .place) t none)) (c .before .paid .ensures)
+    c .zero .ensures ∙ ap (λ (t : State). tellWord (a .place) s (given (pos 0) (a .place) t none)) (c .before .paid .ensures)
     ∙ one-word (now (a .payload)) (a .place) s _ (omega arith) (omega arith) (sym (word-paid (bitsOf (now (a .payload))) (a .place) s (omega arith)))
 
 cast-channel : tie.Need-cast-channel
@@ -79,7 +79,7 @@ read-word-requires c κs = search needs
 read : (c : tie.After-read-word) →
     let a = c .before .before .before .before .before .before .before .before .before .before .before .before .args in
     let s = stateOf (a .state) in
-    toldWord (a .place) s (codedWord s (c .read-word .result)) ≡ oneWord (now (a .payload)) (a .place) s
+    tellWord (a .place) s (codedWord s (c .read-word .result)) ≡ oneWord (now (a .payload)) (a .place) s
 read c =
     let a = c .before .before .before .before .before .before .before .before .before .before .before .before .args in
     let l : length (a .state .medians) ≡ 2 = search (needs, length-mapped) in
@@ -121,8 +121,8 @@ returns-4 c =
     let a = c .before .before .before .before .before .before .before .before .before .before .before .before .before .before .before .before .before .args in
     let s = stateOf (a .state) in
     let w = c .before .before .before .word .given in
-    c .zero2 .ensures ∙ ap (λ (t : State). toldWord (a .place) s (given (pos 0) (w .0 .1 .0) t none)) (c .before .in-run .ensures)
-    ∙ ap (λ (x : Coded). toldWord (a .place) s (codedWord s x)) (sym (w .1)) ∙ read k
+    c .zero2 .ensures ∙ ap (λ (t : State). tellWord (a .place) s (given (pos 0) (w .0 .1 .0) t none)) (c .before .in-run .ensures)
+    ∙ ap (λ (x : Coded). tellWord (a .place) s (codedWord s x)) (sym (w .1)) ∙ read k
 
 returns-5 : tie.Need-returns-5
 returns-5 c =
@@ -132,22 +132,22 @@ returns-5 c =
     let w = c .before .before .before .word2 .given in
     let f : SFits w32 (w .0 .0) = search needs in
     rw (toZ-ofZ f) at (c .given .ensures)
-    ∙ ap (λ (t : State). toldWord (a .place) s (given (w .0 .0) (w .0 .1 .1 .0) t (zoneOf (w .0 .1 .0)))) (c .before .adapted .ensures)
-    ∙ ap (λ (x : Coded). toldWord (a .place) s (codedWord s x)) (sym (w .1)) ∙ read k
+    ∙ ap (λ (t : State). tellWord (a .place) s (given (w .0 .0) (w .0 .1 .1 .0) t (zoneOf (w .0 .1 .0)))) (c .before .adapted .ensures)
+    ∙ ap (λ (x : Coded). tellWord (a .place) s (codedWord s x)) (sym (w .1)) ∙ read k
 
 returns-6 : tie.Need-returns-6
 returns-6 c =
     let k = c .before .before .before in
     let a = c .before .before .before .before .before .before .before .before .before .before .before .before .before .before .before .args in
     let s = stateOf (a .state) in
-    c .refused3 .ensures ∙ ap (λ (x : Coded). toldWord (a .place) s (codedWord s x)) (sym (c .before .enum-told .given .1)) ∙ read k
+    c .refused3 .ensures ∙ ap (λ (x : Coded). tellWord (a .place) s (codedWord s x)) (sym (c .before .enum-told .given .1)) ∙ read k
 
 returns-7 : tie.Need-returns-7
 returns-7 c =
     let k = c .before .before .before in
     let a = c .before .before .before .before .before .before .before .before .before .before .before .before .before .before .before .args in
     let s = stateOf (a .state) in
-    c .refused4 .ensures ∙ ap (λ (x : Coded). toldWord (a .place) s (codedWord s x)) (sym (c .before .enum-told2 .given .1)) ∙ read k
+    c .refused4 .ensures ∙ ap (λ (x : Coded). tellWord (a .place) s (codedWord s x)) (sym (c .before .enum-told2 .given .1)) ∙ read k
 
 pub decode-sample-stateful-stereo-spec : {M : Type 1} → statement M
 decode-sample-stateful-stereo-spec =

@@ -19,7 +19,7 @@ not-read-requires c κs = search needs
 returns : tie.Need-returns
 returns c =
     let a = c .before .before .before .before .args in
-    not-read (now (a .entropy)) (now (a .payload)) (a .frames) (now (a .out)) (c .not-read .result) _ Refusal.TooLarge refl (refused-frames (now (a .entropy)) (now (a .payload)) (a .frames) (now (a .out)) (omega arith)) (c .not-read .ensures)
+    not-read (now (a .entropy)) (now (a .payload)) (a .frames) (now (a .out)) _ _ Refusal.TooLarge refl (refused-frames (now (a .entropy)) (now (a .payload)) (a .frames) (now (a .out)) (omega arith)) (c .not-read .ensures (now (a .out)))
 
 not-read-requires-2 : tie.Need-not-read-requires-2
 not-read-requires-2 c κs = search needs
@@ -27,7 +27,7 @@ not-read-requires-2 c κs = search needs
 returns-2 : tie.Need-returns-2
 returns-2 c =
     let a = c .before .before .before .before .before .args in
-    not-read (now (a .entropy)) (now (a .payload)) (a .frames) (now (a .out)) (c .not-read2 .result) _ Refusal.TooLarge refl (refused-payload (now (a .entropy)) (now (a .payload)) (a .frames) (now (a .out)) (omega arith)) (c .not-read2 .ensures)
+    not-read (now (a .entropy)) (now (a .payload)) (a .frames) (now (a .out)) _ _ Refusal.TooLarge refl (refused-payload (now (a .entropy)) (now (a .payload)) (a .frames) (now (a .out)) (omega arith)) (c .not-read2 .ensures (now (a .out)))
 
 mul-if3 : tie.Need-mul-if3
 mul-if3 c = search needs
@@ -38,7 +38,7 @@ not-read-requires-3 c κs = search needs
 returns-3 : tie.Need-returns-3
 returns-3 c =
     let a = c .before .before .before .before .before .before .args in
-    not-read (now (a .entropy)) (now (a .payload)) (a .frames) (now (a .out)) (c .not-read3 .result) _ Refusal.ListLength refl (refused-list (now (a .entropy)) (now (a .payload)) (a .frames) (now (a .out)) (omega arith) (omega arith) (λ e. omega arith)) (c .not-read3 .ensures)
+    not-read (now (a .entropy)) (now (a .payload)) (a .frames) (now (a .out)) _ _ Refusal.ListLength refl (refused-list (now (a .entropy)) (now (a .payload)) (a .frames) (now (a .out)) (omega arith) (omega arith) (λ e. omega arith)) (c .not-read3 .ensures (now (a .out)))
 
 stereo-pair-from-entropy-requires : tie.Need-stereo-pair-from-entropy-requires
 stereo-pair-from-entropy-requires c κs = search needs
@@ -55,8 +55,8 @@ not-read-requires-4 c κs = search needs
 returns-4 : tie.Need-returns-4
 returns-4 c =
     let a = c .before .before .before .before .before .before .before .before .before .args in
-    not-read (now (a .entropy)) (now (a .payload)) (a .frames) (now (a .out)) (c .not-read4 .result) _ _ (c .before .enum-told2 .given .1)
-    (c .before .before .before .stereo-pair-from-entropy .ensures .0 ∙ refused-seed (now (a .entropy)) (now (a .payload)) (a .frames) (now (a .out)) (omega arith) (omega arith) (omega arith)) (c .not-read4 .ensures)
+    not-read (now (a .entropy)) (now (a .payload)) (a .frames) (now (a .out)) _ _ _ (c .before .enum-told2 .given .1)
+    (c .before .before .before .stereo-pair-from-entropy .ensures .0 ∙ refused-seed (now (a .entropy)) (now (a .payload)) (a .frames) (now (a .out)) (omega arith) (omega arith) (omega arith)) (c .not-read4 .ensures (now (a .out)))
 
 decode-packed-samples-stereo-requires : tie.Need-decode-packed-samples-stereo-requires
 decode-packed-samples-stereo-requires c κs = search needs

@@ -29,7 +29,8 @@ record Zeroing (before : List ℤ) (first behind end : ℕ) (out : List ℤ) (i 
   ends : Ends (length before) first behind end
 
 same : (before : List ℤ) (first behind end : ℕ) (out : List ℤ) (i : ℕ) → Zeroing before first behind end out i → length out ≡ length before
-same before first behind end out i l = ap length (l .list-is) ∙ zeroed-length before first (i - first)
+same before first behind end out i l =
+    ap length (l .list-is) ∙ zeroed-length before first (i - first) (omega (arith, l .from, l .here, l .ends .within))
 
 abbrev Inv-loop : tie.InvT-loop
 Inv-loop out₀ first behind run end i₀ out i = Zeroing out₀ first behind end out i
@@ -75,7 +76,7 @@ loop-less c = omega arith
 loop-again : tie.Need-loop-again Inv-loop μ-loop
 loop-again c =
     let l = c .before .loop .inv in
-    record { list-is = zeroed-more _ _ _ _ (l .from) (l .list-is); from = omega (arith, l .from); here = omega arith; ends = l .ends }
+    record { list-is = zeroed-more _ _ _ _ (l .from) (omega (arith, l .ends .within)) (l .list-is); from = omega (arith, l .from); here = omega arith; ends = l .ends }
 
 same-length : tie.Need-same-length Inv-loop μ-loop
 same-length c = same _ _ _ _ _ _ (c .before .loop .inv)

@@ -1,4 +1,4 @@
--- `packing::packing::pack_words` meets its contract: what is written and what is left, from the state that the locals hold, is the whole.
+-- `packing::writing::pack_words` meets its contract: what is written and what is left, from the state that the locals hold, is the whole.
 -- Assumes nothing.
 use mathlib.Core.Path.{_≡_, refl}
 use Prim.Native.Nat.{ℕ, suc, _+_, _-_, _*_, _/_, _%_, _≤_, _<_}
@@ -10,16 +10,18 @@ use mathlib.Core.List.{List}
 use denote.Ref.{now}
 use lib.IntN.{ℤ, pos}
 use lib.ListN.{length, take, drop, getD, length-drop, length-take, length-map}
+use Rattle.answers.specs.Limits.{maxElements, maxWordBits}
 use Rattle.entropy.specs.Medians.{pairOf}
-use Rattle.samples.specs.State.{State, start}
+use Rattle.word_state.specs.State.{State, start}
 use Rattle.bits.specs.Laid.{put}
 use Rattle.bits.proofs.WriteLaws.{put-lent}
 use Rattle.packing.specs.Packing.{wordOut}
 use Rattle.packing.specs.View.{Turned}
 use Rattle.packing.specs.declared.word.Turn.{Turn}
-use Rattle.packing.proofs.LoopLaws.{Loop, loop-start, loop-due-small, loop-other-small, spanned-at, loop-seen, word-room, run-room, loop-word, loop-run, loop-end}
-use Rattle.packing.proofs.packing.pack_words.Statement.{statement}
-use Rattle.packing.proofs.packing.pack_words.Tie as tie
+use Rattle.packing.proofs.LoopLaws.{Loop, loop-start, loop-due-small, loop-other-small, loop-seen, word-room, run-room, loop-word, loop-run, loop-end}
+use Rattle.packing.proofs.SpanLaws.{spanned-at}
+use Rattle.packing.proofs.writing.pack_words.Statement.{statement}
+use Rattle.packing.proofs.writing.pack_words.Tie as tie
 
 abbrev Inv-loop : tie.InvT-loop
 Inv-loop residuals out₀ medians₀ bits₀ last-zero₀ last-one₀ run-break₀ i₀ out medians bits last-zero last-one run-break i =
@@ -31,9 +33,9 @@ abbrev μ-loop : tie.MeasureT-loop
 
 -- what the invariant says in numbers
 record Facts (len size place i : ℕ) : Type 0 where
-  room : place + 111 ≤ 8 * size
+  room : place + maxWordBits ≤ 8 * size
   here : i < len
-  most : len ≤ 262144
+  most : len ≤ maxElements
 
 facts : (c : tie.In-loop Inv-loop μ-loop) → let l = c .before .loop in Facts (length (c .before .before .before .args .residuals .now)) (length (l .out)) (l .bits) (l .i)
 facts c =
@@ -84,7 +86,7 @@ record Lent (vs : List ℤ) (s : State) (out last : List ℕ) (place i : ℕ) (r
   turned : Turned (take (length out - place / 8) (drop (place / 8) out)) last (place % 8) s (getD vs i (pos 0)) (drop (suc i) vs) r
   bytes : putMid (place / 8) (length out - place / 8) out last ≡ put out place (wordOut s (getD vs i (pos 0)) (drop (suc i) vs) .bits)
   place-is : 8 * (place / 8) + r .place ≡ place + length (wordOut s (getD vs i (pos 0)) (drop (suc i) vs) .bits)
-  few : length (wordOut s (getD vs i (pos 0)) (drop (suc i) vs) .bits) ≤ 111
+  few : length (wordOut s (getD vs i (pos 0)) (drop (suc i) vs) .bits) ≤ maxWordBits
   size : length (putMid (place / 8) (length out - place / 8) out last) ≡ length out
   most : 0 < r .run → i + r .run ≤ length vs
 
@@ -98,8 +100,8 @@ lent c =
     record {
       turned = t;
       bytes = put-lent (l .out) (c .put-turn .last .0) (l .bits) (l .bits % 8)
-          (wordOut (l .inv .state) (getD (x .args .residuals .now) (l .i) (pos 0)) (drop (suc (l .i)) (x .args .residuals .now)) .bits) (l .inv .low-bytes) (omega arith) refl (t .laid .bytes) (c .put-turn .kept .0);
-      place-is = omega (arith, t .laid .place);
+          (wordOut (l .inv .state) (getD (x .args .residuals .now) (l .i) (pos 0)) (drop (suc (l .i)) (x .args .residuals .now)) .bits) (l .inv .low-bytes) (omega arith) refl (t .put-is .bytes) (c .put-turn .kept .0);
+      place-is = omega (arith, t .put-is .place);
       few = word-room _ _ _ _ _ _ _ _ _ (l .i) (l .inv) (x .pre .1 .0) (f .most) (f .here);
       size = same-len-mid (l .bits / 8) (length (l .out) - l .bits / 8) (l .out) (c .put-turn .last .0) (c .put-turn .kept .0);
       most = λ h. run-room _ _ _ _ _ _ _ _ _ (l .i) (l .inv) _ _ _ (f .here) (t .run h);

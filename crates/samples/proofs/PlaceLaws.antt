@@ -1,15 +1,16 @@
--- Places fit their slots: within the payload a word and a reading end within it, and behind its end a word that is given stays where it is. So a reading's
--- bits fit 32 bits, and so does the place after a word.
+-- The place after a word: within the payload the word ends within it, and at its end or behind it a
+-- word is refused, or is a zero that stays where it is. So a place of 32 bits stays one.
 -- Assumes nothing.
 use mathlib.Core.Path.{_≡_, refl, sym, ap, _∙_}
-use mathlib.Core.Bool.{Bool, true, false, cond, _||_}
+use mathlib.Core.Bool.{Bool, true, false, cond}
 use mathlib.Core.List.{List}
-use Prim.Native.Nat.{ℕ, zero, suc, _+_, _-_, _*_, _≤_}
+use Prim.Native.Nat.{ℕ, zero, suc, _+_, _-_, _≤_}
 use native.Mathlib.Omega.{arith}
 use borrow.Author.Tests.{ltb-false, leb-true, leb-false}
 use lib.Dec.{ltb, leb}
 use lib.IntN.{ℤ}
 use lib.ListN.{length, drop-of-length-le}
+use Rattle.answers.specs.Limits.{maxPayloadBytes}
 use Rattle.bits.specs.Bits.{ones, bitsOf}
 use Rattle.bits.specs.Fields.{getBits, unary}
 use Rattle.bits.specs.declared.Field.{Field}
@@ -18,18 +19,15 @@ use Rattle.bits.proofs.BitLaws.{length-bits}
 use Rattle.fields.specs.Counts.{runLength, prefix}
 use Rattle.fields.specs.Code.{truncatedBinary}
 use Rattle.fields.specs.declared.Prefix.{Prefix}
-use Rattle.fields.proofs.LocalLaws.{fieldEnd, truncated-binary-local}
+use Rattle.fields.proofs.Local.{fieldEnd}
+use Rattle.fields.proofs.LocalLaws.{truncated-binary-local}
 use Rattle.medians.specs.Interval.{lowOf, highOf}
-use Rattle.entropy.specs.Seed.{seedMedians}
-use Rattle.samples.specs.State.{State, start, due, cleared, unbroken, after, runDue}
+use Rattle.word_state.specs.State.{State, due, cleared, unbroken, after, runDue}
 use Rattle.samples.specs.Word.{Word, Report, given, refused, onField, signed, zoneOf, value, plain, fresh, word}
-use Rattle.samples.specs.Reading.{reading}
-use Rattle.samples.specs.View.{ReadTold, readToldOf, WordTold, wordToldOf, toldWord, oneWord, toldReading, readRefusal, unlessRefused, readEntry}
-use Rattle.samples.specs.declared.ReadAnswer.{ReadAnswer}
+use Rattle.samples.specs.View.{WordTold, viewWord, tellWord, oneWord}
 use Rattle.samples.specs.declared.WordAnswer.{WordAnswer}
-use Rattle.samples.proofs.WordBounds.{small-reading}
 use Rattle.samples.proofs.WordLaws.{word-paid, word-fresh}
-use Rattle.samples.proofs.LocalLaws.{word-inside, reading-inside}
+use Rattle.samples.proofs.LocalLaws.{word-inside}
 
 -- the place of a given word; a refused one has none
 abbrev placeOf : Word → ℕ
@@ -79,7 +77,8 @@ module _ (a : List Bool) where
 
   fresh-past : (p : ℕ) (s : State) → length a ≤ p → fresh a p s ≡ refused 3
   unfolding fresh
-  fresh-past p s h = rw (plain-past p (unbroken s) h, plain-past p s h, run-past p h) (either (s .runBreak) (runDue s))
+  fresh-past p s h =
+      rw (plain-past p (unbroken s) h, plain-past p s h, run-past p h) (either (s .runBreak) (runDue (s .left) (s .right) (s .lastZero) (s .lastOne)))
     where
       either : (b c : Bool) → cond b (refused 3) (cond c (refused 3) (refused 3)) ≡ refused 3
       either true c = refl
@@ -100,49 +99,14 @@ module _ (a : List Bool) where
 -- the place after a word that was given a place of 32 bits
 word-fits : (payload : List ℕ) (p : ℕ) (s : State) → p ≤ 4294967295 → oneWord payload p s .place ≤ 4294967295
 unfolding oneWord
-word-fits payload p s h = go (ltb 4194304 (length payload)) (ltb 1 (s .channel)) (word (bitsOf payload) p s) refl refl
+word-fits payload p s h = go (ltb maxPayloadBytes (length payload)) (ltb 1 (s .channel)) (word (bitsOf payload) p s) refl refl
   where
-    go : (b c : Bool) (w : Word) → ltb 4194304 (length payload) ≡ b → word (bitsOf payload) p s ≡ w → toldWord p s (cond b (refused 5) (cond c (refused 12) w)) .place ≤ 4294967295
+    go : (b c : Bool) (w : Word) → ltb maxPayloadBytes (length payload) ≡ b → word (bitsOf payload) p s ≡ w → tellWord p s (cond b (refused 5) (cond c (refused 12) w)) .place ≤ 4294967295
     go true c w e f = h
     go false true w e f = h
-    go false false (given v q t z) e f = word-near (bitsOf payload) 4294967295 p q s t v z (omega (arith, length-bits payload, ltb-false 4194304 (length payload) e)) h f
+    go false false (given v q t z) e f = word-near (bitsOf payload) 4294967295 p q s t v z (omega (arith, length-bits payload, ltb-false maxPayloadBytes (length payload) e)) h f
     go false false (refused n) e f = h
 
 -- the place that was told fits its slot
-pub place-fits : (payload : List ℕ) (p : ℕ) (s : State) (x : WordAnswer) → wordToldOf x ≡ oneWord payload p s → p ≤ 4294967295 → x .place ≤ 4294967295
+pub place-fits : (payload : List ℕ) (p : ℕ) (s : State) (x : WordAnswer) → viewWord x ≡ oneWord payload p s → p ≤ 4294967295 → x .place ≤ 4294967295
 place-fits payload p s x t h = rw (ap (λ (w : WordTold). w .place) t) (word-fits payload p s h)
-
--- what a reading counts is small
-pub record Small (t : ReadTold) : Type 0 where
-  pub bits-small : t .bits ≤ 33554432
-  pub written-small : t .written ≤ 262144
-
-module _ (entropy payload : List ℕ) (frames : ℕ) (list : List ℤ) where
-  -- a reading that comes to its words has frames and payload bytes within their limits
-  limits : readRefusal entropy payload frames list ≡ 0 → (frames ≤ 131072) × (length payload ≤ 4194304)
-  unfolding readRefusal
-  limits e = go (ltb 131072 frames) (ltb 4194304 (length payload)) refl refl _ e
-    where
-      go : (a b : Bool) → ltb 131072 frames ≡ a → ltb 4194304 (length payload) ≡ b → (n : ℕ) → cond (a || b) 5 n ≡ 0 → (frames ≤ 131072) × (length payload ≤ 4194304)
-      go true b i j n e = absurd (omega arith)
-      go false true i j n e = absurd (omega arith)
-      go false false i j n e = (omega (arith, ltb-false 131072 frames i), omega (arith, ltb-false 4194304 (length payload) j))
-
-  read-small : Small (readEntry entropy payload frames list)
-  unfolding readEntry
-  read-small = go (readRefusal entropy payload frames list) refl
-    where
-      first : State
-      first = start (seedMedians entropy .left) (seedMedians entropy .right)
-
-      go : (c : ℕ) → readRefusal entropy payload frames list ≡ c → Small (unlessRefused list c (toldReading list (reading (bitsOf payload) (2 * frames) 0 first)))
-      go zero e =
-          let l = limits e in record {
-            bits-small = omega (arith, length-bits payload, l .1, reading-inside (bitsOf payload) (2 * frames) 0 first (omega arith));
-            written-small = omega (arith, l .0, small-reading (bitsOf payload) (2 * frames) 0 first .most);
-          }
-      go (suc c) e = record { bits-small = omega arith; written-small = omega arith }
-
-  -- what was told fits its slots
-  pub read-fits : (after : List ℤ) (x : ReadAnswer) → readToldOf x after ≡ readEntry entropy payload frames list → Small (readToldOf x after)
-  read-fits after x t = rw t read-small
