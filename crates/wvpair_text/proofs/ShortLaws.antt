@@ -53,7 +53,7 @@ printed-short input h k =
       length-append (frameLines samples) (endLine (told .refusal) (told .bits)),
       lines-short samples (s .samples),
       length-take (told .written) (told .list),
-      end-short (told .refusal) (told .bits) (s .refusal) (omega (arith, s .bits, length-drop headBytes input)),
+      end-short (told .refusal) (told .bits) (omega (arith, s .refusal)) (omega (arith, s .bits, length-drop headBytes input)),
     )
 
 -- and of any input

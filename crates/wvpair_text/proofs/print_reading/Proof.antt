@@ -9,7 +9,7 @@ use lib.IntN.{ℤ, pos}
 use lib.ListN.{length, take, drop, replicate, length-take, length-drop, length-append}
 use lib.Seq.{length-take-le, take-all}
 use Rattle.answers.specs.Numbers.{outcomeNumber}
-use Rattle.samples.specs.View.{ReadTold, readToldOf}
+use Rattle.samples.specs.View.{ReadTold, viewReading}
 use Rattle.samples.specs.declared.ReadAnswer.{ReadAnswer}
 use Rattle.wvpair_text.specs.Lines.{endLine}
 use Rattle.wvpair_text.specs.Text.{readingOf}
@@ -48,7 +48,7 @@ abbrev frames : Read → ℕ
 frames k = k .before .before .before .before .before .before .before .args .frames
 
 -- what was read, by the reading definition
-known : (k : Read) → readToldOf (answer k) (list k) ≡ readingOf (input k)
+known : (k : Read) → viewReading (answer k) (list k) ≡ readingOf (input k)
 known k =
     let s = k .before .before .before .before .before .before .before in
     let n = 2 * frames k in
