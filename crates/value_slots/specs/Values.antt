@@ -1,11 +1,12 @@
--- The C interface: what each function answers, and the values that it lays into the slots. The definitions of the layers below say what the values are.
+-- The C interface of single values: what each call answers, and the values that it lays into the
+-- slots. The definitions of the layers below say what the values are.
 -- Assumes nothing.
 use Prim.Native.Nat.{ℕ}
 use mathlib.Core.List.{List, [], _∷_, _++_}
 use lib.IntN.{ℤ}
 use Rattle.logpack.specs.LogWord.{logWord}
 use Rattle.entropy.specs.Entropy.{entropyInfo, entropyRefusal}
-use Rattle.entropy.specs.Seed.{orElse}
+use Rattle.answers.specs.Guard.{orElse}
 use Rattle.decorrelation.specs.PassBytes.{termOfByte, deltaOfByte, weightOfByte}
 use Rattle.slots.specs.Slots.{slotRefusal}
 

@@ -1,36 +1,21 @@
--- `capi::values::wv_term_byte` meets its contract.
+-- `value_slots::term_byte` meets its contract.
 -- Assumes nothing.
 use mathlib.Core.List.{[], _∷_}
 use mir.Val.{toZ, ofZ}
 use mir.Syntax.{w8, w32}
 use mir.ValLaws.{toZ-ofZ}
-use Rattle.capi.specs.Answers.{termByteValues}
+use Rattle.value_slots.specs.Values.{termByteValues}
 use Rattle.logpack.proofs.Negation.{again}
 use Rattle.slots.proofs.SlotLaws.{wider, short, enough}
 use borrow.Author.Needs.{needs}
-use Rattle.capi.proofs.values.wv_term_byte.Statement.{statement}
-use Rattle.capi.proofs.values.wv_term_byte.Tie as tie
-
-number-requires : tie.Need-number-requires
-number-requires c κs = search needs
+use Rattle.value_slots.proofs.term_byte.Statement.{statement}
+use Rattle.value_slots.proofs.term_byte.Tie as tie
 
 returns : tie.Need-returns
 returns c = short 2 (termByteValues (c .before .before .args .byte)) _ _ (c .number .ensures) (c .before .if1 .taken)
 
-decode-term-byte-requires : tie.Need-decode-term-byte-requires
-decode-term-byte-requires c κs = search needs
-
 cast-t10 : tie.Need-cast-t10
 cast-t10 c = rw (toZ-ofZ w8 (c .before .before .decode-term-byte .result .term) (search needs)) (wider (search needs))
-
-slice-aggregate-lay : tie.Need-slice-aggregate-lay
-slice-aggregate-lay c = search needs
-
-lay-requires : tie.Need-lay-requires
-lay-requires c κs = search needs
-
-same-length : tie.Need-same-length
-same-length c = search needs
 
 returns-2 : tie.Need-returns-2
 returns-2 c =
@@ -41,15 +26,15 @@ returns-2 c =
     (rw (toZ-ofZ w8 term (search needs), toZ-ofZ w32 term (wider (search needs)), toZ-ofZ w32 delta (search needs), x .ensures))
     (c .before .before .before .before .before .before .before .if1 .left)
 
-pub wv-term-byte-spec : {M : Type 1} → statement M
-wv-term-byte-spec =
+pub term-byte-spec : {M : Type 1} → statement M
+term-byte-spec =
     tie.close
     (tie.spec
-    number-requires
+    (λ c κs. search needs)
     returns
-    decode-term-byte-requires
+    (λ c κs. search needs)
     cast-t10
-    slice-aggregate-lay
-    lay-requires
-    same-length
+    (λ c. search needs)
+    (λ c κs. search needs)
+    (λ c. search needs)
     returns-2)
