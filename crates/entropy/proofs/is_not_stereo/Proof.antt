@@ -6,23 +6,14 @@ use borrow.Author.Needs.{needs}
 use Rattle.entropy.proofs.is_not_stereo.Statement.{statement}
 use Rattle.entropy.proofs.is_not_stereo.Tie as tie
 
-is-mono-requires : tie.Need-is-mono-requires
-is-mono-requires c κs = search needs
-
 returns : tie.Need-returns
 unfolding notStereo
 returns c = rw (sym (c .before .is-mono .ensures) ∙ c .if1 .taken)
-
-any-negative-requires : tie.Need-any-negative-requires
-any-negative-requires c κs = search needs
 
 returns-2 : tie.Need-returns-2
 unfolding notStereo
 returns-2 c =
     rw (sym (c .before .before .before .is-mono .ensures) ∙ c .before .before .if1 .left, sym (c .before .any-negative .ensures) ∙ c .if2 .taken)
-
-any-negative-requires-2 : tie.Need-any-negative-requires-2
-any-negative-requires-2 c κs = search needs
 
 returns-3 : tie.Need-returns-3
 unfolding notStereo
@@ -33,9 +24,9 @@ pub is-not-stereo-spec : {M : Type 1} → statement M
 is-not-stereo-spec =
     tie.close
     (tie.spec
-    is-mono-requires
+    (λ c κs. search needs)
     returns
-    any-negative-requires
+    (λ c κs. search needs)
     returns-2
-    any-negative-requires-2
+    (λ c κs. search needs)
     returns-3)

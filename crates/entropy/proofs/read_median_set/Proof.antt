@@ -7,33 +7,6 @@ use borrow.Author.Needs.{needs}
 use Rattle.entropy.proofs.read_median_set.Statement.{statement}
 use Rattle.entropy.proofs.read_median_set.Tie as tie
 
-shared-slice-read-expand-log-word : tie.Need-shared-slice-read-expand-log-word
-shared-slice-read-expand-log-word c = search needs
-
-shared-slice-read-expand-log-word-2 : tie.Need-shared-slice-read-expand-log-word-2
-shared-slice-read-expand-log-word-2 c = search needs
-
-expand-log-word-requires : tie.Need-expand-log-word-requires
-expand-log-word-requires c κs = search needs
-
-shared-slice-read-expand-log-word-3 : tie.Need-shared-slice-read-expand-log-word-3
-shared-slice-read-expand-log-word-3 c = search needs
-
-shared-slice-read-expand-log-word-4 : tie.Need-shared-slice-read-expand-log-word-4
-shared-slice-read-expand-log-word-4 c = search needs
-
-expand-log-word-requires-2 : tie.Need-expand-log-word-requires-2
-expand-log-word-requires-2 c κs = search needs
-
-shared-slice-read-expand-log-word-5 : tie.Need-shared-slice-read-expand-log-word-5
-shared-slice-read-expand-log-word-5 c = search needs
-
-shared-slice-read-expand-log-word-6 : tie.Need-shared-slice-read-expand-log-word-6
-shared-slice-read-expand-log-word-6 c = search needs
-
-expand-log-word-requires-3 : tie.Need-expand-log-word-requires-3
-expand-log-word-requires-3 c κs = search needs
-
 returns : tie.Need-returns
 unfolding wordSet
 returns c =
@@ -53,13 +26,13 @@ pub read-median-set-spec : {M : Type 1} → statement M
 read-median-set-spec =
     tie.close
     (tie.spec
-    shared-slice-read-expand-log-word
-    shared-slice-read-expand-log-word-2
-    expand-log-word-requires
-    shared-slice-read-expand-log-word-3
-    shared-slice-read-expand-log-word-4
-    expand-log-word-requires-2
-    shared-slice-read-expand-log-word-5
-    shared-slice-read-expand-log-word-6
-    expand-log-word-requires-3
+    (λ c. search needs)
+    (λ c. search needs)
+    (λ c κs. search needs)
+    (λ c. search needs)
+    (λ c. search needs)
+    (λ c κs. search needs)
+    (λ c. search needs)
+    (λ c. search needs)
+    (λ c κs. search needs)
     returns)

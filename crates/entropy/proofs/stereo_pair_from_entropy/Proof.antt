@@ -6,28 +6,10 @@ use borrow.Author.Needs.{needs}
 use Rattle.entropy.proofs.stereo_pair_from_entropy.Statement.{statement}
 use Rattle.entropy.proofs.stereo_pair_from_entropy.Tie as tie
 
-expand-entropy-requires : tie.Need-expand-entropy-requires
-expand-entropy-requires c κs = search needs
-
-enum-told : tie.Need-enum-told
-enum-told c = search needs
-
-enum-told-2 : tie.Need-enum-told-2
-enum-told-2 c = search needs
-
-no-seed-requires : tie.Need-no-seed-requires
-no-seed-requires c κs = search needs
-
 returns : tie.Need-returns
 returns c =
     let x = c .before .before .before .before .expand-entropy in
     length-refused-raw _ _ _ _ _ (c .no-seed .ensures .0) (c .before .enum-told2 .given .1) (x .ensures .0) (c .no-seed .ensures .1)
-
-is-not-stereo-requires : tie.Need-is-not-stereo-requires
-is-not-stereo-requires c κs = search needs
-
-no-seed-requires-2 : tie.Need-no-seed-requires-2
-no-seed-requires-2 c κs = search needs
 
 returns-2 : tie.Need-returns-2
 returns-2 c =
@@ -54,13 +36,13 @@ pub stereo-pair-from-entropy-spec : {M : Type 1} → statement M
 stereo-pair-from-entropy-spec =
     tie.close
     (tie.spec
-    expand-entropy-requires
-    enum-told
-    enum-told-2
-    no-seed-requires
+    (λ c κs. search needs)
+    (λ c. search needs)
+    (λ c. search needs)
+    (λ c κs. search needs)
     returns
-    is-not-stereo-requires
-    no-seed-requires-2
+    (λ c κs. search needs)
+    (λ c κs. search needs)
     returns-2
     seed-set-requires
     seed-set-requires-2

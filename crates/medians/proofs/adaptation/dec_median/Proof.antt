@@ -6,24 +6,6 @@ use Rattle.medians.proofs.AdaptationLaws.{div-small, down-low, down-hig
 use Rattle.medians.proofs.adaptation.dec_median.Statement.{statement}
 use Rattle.medians.proofs.adaptation.dec_median.Tie as tie
 
-wide-requires : tie.Need-wide-requires
-wide-requires c κs = search needs
-
-sub-wide : tie.Need-sub-wide
-sub-wide c = search needs
-
-wide-requires-2 : tie.Need-wide-requires-2
-wide-requires-2 c κs = search needs
-
-add-held : tie.Need-add-held
-add-held c = search needs
-
-held-requires : tie.Need-held-requires
-held-requires c κs = search needs
-
-div-step : tie.Need-div-step
-div-step c = search needs
-
 mul-step : tie.Need-mul-step
 mul-step c = omega (arith, div-small (c .held .result) (c .before .before .before .args .divisor) (omega arith))
 
@@ -41,12 +23,12 @@ pub dec-median-spec : {M : Type 1} → statement M
 dec-median-spec =
     tie.close
     (tie.spec
-    wide-requires
-    sub-wide
-    wide-requires-2
-    add-held
-    held-requires
-    div-step
+    (λ c κs. search needs)
+    (λ c. search needs)
+    (λ c κs. search needs)
+    (λ c. search needs)
+    (λ c κs. search needs)
+    (λ c. search needs)
     mul-step
     returns
     returns-2)

@@ -6,35 +6,11 @@ use Rattle.medians.proofs.AdaptationLaws.{div-small, up-is}
 use Rattle.medians.proofs.adaptation.inc_median.Statement.{statement}
 use Rattle.medians.proofs.adaptation.inc_median.Tie as tie
 
-wide-requires : tie.Need-wide-requires
-wide-requires c κs = search needs
-
-wide-requires-2 : tie.Need-wide-requires-2
-wide-requires-2 c κs = search needs
-
-add-held : tie.Need-add-held
-add-held c = search needs
-
-held-requires : tie.Need-held-requires
-held-requires c κs = search needs
-
-div-step : tie.Need-div-step
-div-step c = search needs
-
 mul-step : tie.Need-mul-step
 mul-step c = omega (arith, div-small (c .held .result) (c .before .before .before .args .divisor) (omega arith))
 
-wide-requires-3 : tie.Need-wide-requires-3
-wide-requires-3 c κs = search needs
-
-wide-requires-4 : tie.Need-wide-requires-4
-wide-requires-4 c κs = search needs
-
 add-held-2 : tie.Need-add-held-2
 add-held-2 c = omega (arith, div-small (c .before .before .held .result) (c .before .before .before .before .before .args .divisor) (omega arith))
-
-held-requires-2 : tie.Need-held-requires-2
-held-requires-2 c κs = search needs
 
 returns : tie.Need-returns
 returns c =
@@ -46,14 +22,14 @@ pub inc-median-spec : {M : Type 1} → statement M
 inc-median-spec =
     tie.close
     (tie.spec
-    wide-requires
-    wide-requires-2
-    add-held
-    held-requires
-    div-step
+    (λ c κs. search needs)
+    (λ c κs. search needs)
+    (λ c. search needs)
+    (λ c κs. search needs)
+    (λ c. search needs)
     mul-step
-    wide-requires-3
-    wide-requires-4
+    (λ c κs. search needs)
+    (λ c κs. search needs)
     add-held-2
-    held-requires-2
+    (λ c κs. search needs)
     returns)

@@ -20,9 +20,6 @@ use Rattle.samples.proofs.PartLaws.{value-no-code, value-no-sign, value
 use Rattle.samples.proofs.coded.decode_signed_value.Statement.{statement}
 use Rattle.samples.proofs.coded.decode_signed_value.Tie as tie
 
-sample-interval-requires : tie.Need-sample-interval-requires
-sample-interval-requires c κs = search needs
-
 -- low and high are in order and have 31 bits
 ordered : (c : tie.After-struct-known) →
     (c .before .sample-interval .result .low ≤ c .before .sample-interval .result .high) × (c .before .sample-interval .result .high < 2147483648)
@@ -56,12 +53,6 @@ sub-read-truncated-binary c = ordered c .0
 read-truncated-binary-requires : tie.Need-read-truncated-binary-requires
 read-truncated-binary-requires c κs = (omega arith, omega (arith, ordered c))
 
-enum-known-code : tie.Need-enum-known-code
-enum-known-code c = search needs
-
-enum-told : tie.Need-enum-told
-enum-told c = search needs
-
 returns : tie.Need-returns
 returns c =
     let k = c .before .before .before in
@@ -69,15 +60,6 @@ returns c =
     let e = k .before .sample-interval .ensures in
     value-no-code (bitsOf (now (a .payload))) (a .place) (a .ones-count) (mediansOf (a .medians)) _ _ (e .low-is) (e .high-is)
     (sym (c .before .before .read-truncated-binary .ensures) ∙ c .enum-told .given .1)
-
-get-bit-requires : tie.Need-get-bit-requires
-get-bit-requires c κs = search needs
-
-enum-known-sign : tie.Need-enum-known-sign
-enum-known-sign c = search needs
-
-enum-told-2 : tie.Need-enum-told-2
-enum-told-2 c = search needs
 
 returns-2 : tie.Need-returns-2
 returns-2 c =
@@ -108,15 +90,15 @@ pub decode-signed-value-spec : {M : Type 1} → statement M
 decode-signed-value-spec =
     tie.close
     (tie.spec
-    sample-interval-requires
+    (λ c κs. search needs)
     sub-read-truncated-binary
     read-truncated-binary-requires
-    enum-known-code
-    enum-told
+    (λ c. search needs)
+    (λ c. search needs)
     returns
-    get-bit-requires
-    enum-known-sign
-    enum-told-2
+    (λ c κs. search needs)
+    (λ c. search needs)
+    (λ c. search needs)
     returns-2
     add-apply-sign
     apply-sign-requires

@@ -11,28 +11,10 @@ use Rattle.samples.proofs.JoinLaws.{plain-none, plain-missing, plain-sa
 use Rattle.samples.proofs.coded.read_coded.Statement.{statement}
 use Rattle.samples.proofs.coded.read_coded.Tie as tie
 
-read-folded-ones-count-requires : tie.Need-read-folded-ones-count-requires
-read-folded-ones-count-requires c κs = search needs
-
-enum-known-count : tie.Need-enum-known-count
-enum-known-count c = search needs
-
-not-coded-requires : tie.Need-not-coded-requires
-not-coded-requires c κs = search needs
-
 returns : tie.Need-returns
 returns c =
     let a = c .before .before .before .before .args in
     rw (c .not-coded .ensures) (plain-none (bitsOf (now (a .payload))) (a .place) (mediansOf (a .medians)) (a .last-zero) (a .last-one) _ (c .before .before .read-folded-ones-count .ensures) (c .before .match .keys2))
-
-decode-signed-value-requires : tie.Need-decode-signed-value-requires
-decode-signed-value-requires c κs = search needs
-
-enum-known-sample : tie.Need-enum-known-sample
-enum-known-sample c = search needs
-
-enum-told : tie.Need-enum-told
-enum-told c = search needs
 
 returns-2 : tie.Need-returns-2
 returns-2 c =
@@ -54,12 +36,12 @@ pub read-coded-spec : {M : Type 1} → statement M
 read-coded-spec =
     tie.close
     (tie.spec
-    read-folded-ones-count-requires
-    enum-known-count
-    not-coded-requires
+    (λ c κs. search needs)
+    (λ c. search needs)
+    (λ c κs. search needs)
     returns
-    decode-signed-value-requires
-    enum-known-sample
-    enum-told
+    (λ c κs. search needs)
+    (λ c. search needs)
+    (λ c. search needs)
     returns-2
     returns-3)

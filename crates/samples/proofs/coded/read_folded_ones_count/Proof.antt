@@ -13,29 +13,11 @@ returns c =
     let a = c .before .before .args in
     rw (c .if1 .taken) (count-zero (bitsOf (now (a .payload))) (a .place) (a .last-one))
 
-read-raw-prefix-requires : tie.Need-read-raw-prefix-requires
-read-raw-prefix-requires c κs = search needs
-
-enum-known-prefix : tie.Need-enum-known-prefix
-enum-known-prefix c = search needs
-
-not-counted-requires : tie.Need-not-counted-requires
-not-counted-requires c κs = search needs
-
 returns-2 : tie.Need-returns-2
 returns-2 c =
     let a = c .before .before .before .before .before .args in
     rw (c .not-counted .ensures, c .before .before .before .if1 .left)
     (count-none (bitsOf (now (a .payload))) (a .place) (a .last-one) _ (sym (c .before .before .read-raw-prefix .ensures)) (c .before .match .keys2))
-
-is-odd-requires : tie.Need-is-odd-requires
-is-odd-requires c κs = search needs
-
-one-if-requires : tie.Need-one-if-requires
-one-if-requires c κs = search needs
-
-add-t12 : tie.Need-add-t12
-add-t12 c = search needs
 
 returns-3 : tie.Need-returns-3
 returns-3 c =
@@ -49,11 +31,11 @@ read-folded-ones-count-spec =
     tie.close
     (tie.spec
     returns
-    read-raw-prefix-requires
-    enum-known-prefix
-    not-counted-requires
+    (λ c κs. search needs)
+    (λ c. search needs)
+    (λ c κs. search needs)
     returns-2
-    is-odd-requires
-    one-if-requires
-    add-t12
+    (λ c κs. search needs)
+    (λ c κs. search needs)
+    (λ c. search needs)
     returns-3)

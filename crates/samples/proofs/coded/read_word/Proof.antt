@@ -8,21 +8,6 @@ use Rattle.samples.proofs.JoinLaws.{coded-run, coded-word, coded-missin
 use Rattle.samples.proofs.coded.read_word.Statement.{statement}
 use Rattle.samples.proofs.coded.read_word.Tie as tie
 
-try-zero-run-path-stereo-requires : tie.Need-try-zero-run-path-stereo-requires
-try-zero-run-path-stereo-requires c κs = search needs
-
-enum-known-run : tie.Need-enum-known-run
-enum-known-run c = search needs
-
-enum-known-run-2 : tie.Need-enum-known-run-2
-enum-known-run-2 c = search needs
-
-read-coded-requires : tie.Need-read-coded-requires
-read-coded-requires c κs = search needs
-
-enum-told : tie.Need-enum-told
-enum-told c = search needs
-
 returns : tie.Need-returns
 returns c =
     let a = c .before .before .before .before .before .args in
@@ -42,11 +27,11 @@ pub read-word-spec : {M : Type 1} → statement M
 read-word-spec =
     tie.close
     (tie.spec
-    try-zero-run-path-stereo-requires
-    enum-known-run
-    enum-known-run-2
-    read-coded-requires
-    enum-told
+    (λ c κs. search needs)
+    (λ c. search needs)
+    (λ c. search needs)
+    (λ c κs. search needs)
+    (λ c. search needs)
     returns
     returns-2
     returns-3)
