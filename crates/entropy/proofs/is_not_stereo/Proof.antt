@@ -13,12 +13,15 @@ returns c = rw (sym (c .before .is-mono .ensures) ∙ c .if1 .taken)
 returns-2 : tie.Need-returns-2
 unfolding notStereo
 returns-2 c =
-    rw (sym (c .before .before .before .is-mono .ensures) ∙ c .before .before .if1 .left, sym (c .before .any-negative .ensures) ∙ c .if2 .taken)
+    let after-is-mono : tie.After-is-mono = search needs in
+    rw (sym (after-is-mono .is-mono .ensures) ∙ c .before .before .if1 .left, sym (c .before .any-negative .ensures) ∙ c .if2 .taken)
 
 returns-3 : tie.Need-returns-3
 unfolding notStereo
 returns-3 c =
-    rw (sym (c .before .before .before .before .is-mono .ensures) ∙ c .before .before .before .if1 .left, sym (c .before .before .any-negative .ensures) ∙ c .before .if2 .left, c .any-negative2 .ensures)
+    let after-is-mono : tie.After-is-mono = search needs in
+    let else1 : tie.Else1 = search needs in
+    rw (sym (after-is-mono .is-mono .ensures) ∙ else1 .if1 .left, sym (c .before .before .any-negative .ensures) ∙ c .before .if2 .left, c .any-negative2 .ensures)
 
 pub is-not-stereo-spec : {M : Type 1} → statement M
 is-not-stereo-spec =

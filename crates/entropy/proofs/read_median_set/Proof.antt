@@ -10,8 +10,10 @@ use Rattle.entropy.proofs.read_median_set.Tie as tie
 returns : tie.Need-returns
 unfolding wordSet
 returns c =
-    let first = c .before .before .before .before .before .before .expand-log-word in
-    let second = c .before .before .before .expand-log-word2 in
+    let after-expand-log-word : tie.After-expand-log-word = search needs in
+    let after-expand-log-word2 : tie.After-expand-log-word2 = search needs in
+    let first = after-expand-log-word .expand-log-word in
+    let second = after-expand-log-word2 .expand-log-word2 in
     let third = c .expand-log-word3 in
     rw (
       toZ-ofZ w32 (first .result) (search needs),

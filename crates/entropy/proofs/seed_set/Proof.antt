@@ -14,7 +14,9 @@ cast-t10 : tie.Need-cast-t10
 cast-t10 c = natural (getD (c .before .before .args .t1) 1 (pos 0)) (search needs) (none-negative (c .before .before .args .t1) (c .before .before .pre) .n1)
 
 cast-t14 : tie.Need-cast-t14
-cast-t14 c = natural (getD (c .before .before .before .args .t1) 2 (pos 0)) (search needs) (none-negative (c .before .before .before .args .t1) (c .before .before .before .pre) .n2)
+cast-t14 c =
+    let start : tie.Start = search needs in
+    natural (getD (start .args .t1) 2 (pos 0)) (search needs) (none-negative (start .args .t1) (start .pre) .n2)
 
 pub seed-set-spec : {M : Type 1} → statement M
 seed-set-spec =

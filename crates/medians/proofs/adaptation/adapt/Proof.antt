@@ -11,19 +11,22 @@ use Rattle.medians.proofs.adaptation.adapt.Tie as tie
 returns : tie.Need-returns
 unfolding adapt
 returns c =
-    let e : c .before .before .before .args .ones-count ≡ 0 = omega arith in
+    let start : tie.Start = search needs in
+    let e : start .args .ones-count ≡ 0 = omega arith in
     rw (e, c .dec-median .ensures)
 
 returns-2 : tie.Need-returns-2
 unfolding adapt
 returns-2 c =
-    let e : c .before .before .before .before .before .args .ones-count ≡ 1 = omega arith in
+    let start : tie.Start = search needs in
+    let e : start .args .ones-count ≡ 1 = omega arith in
     rw (e, c .before .inc-median .ensures, c .dec-median2 .ensures)
 
 returns-3 : tie.Need-returns-3
 unfolding adapt
 returns-3 c =
-    let e : c .before .before .before .before .before .before .before .args .ones-count ≡ 2 = omega arith in
+    let start : tie.Start = search needs in
+    let e : start .args .ones-count ≡ 2 = omega arith in
     rw (e, c .before .before .inc-median2 .ensures, c .before .inc-median3 .ensures, c .dec-median3 .ensures)
 
 returns-4 : tie.Need-returns-4

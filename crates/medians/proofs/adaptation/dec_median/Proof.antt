@@ -7,16 +7,20 @@ use Rattle.medians.proofs.adaptation.dec_median.Statement.{statement}
 use Rattle.medians.proofs.adaptation.dec_median.Tie as tie
 
 mul-step : tie.Need-mul-step
-mul-step c = omega (arith, div-small (c .held .result) (c .before .before .before .args .divisor) (omega arith))
+mul-step c =
+    let start : tie.Start = search needs in
+    omega (arith, div-small (c .held .result) (start .args .divisor) (omega arith))
 
 returns : tie.Need-returns
 returns c =
-    let a = c .before .before .before .before .args in
+    let start : tie.Start = search needs in
+    let a = start .args in
     down-low (a .divisor) (a .median) (c .before .held .result) (omega arith) (omega arith) (omega arith)
 
 returns-2 : tie.Need-returns-2
 returns-2 c =
-    let a = c .before .before .before .before .args in
+    let start : tie.Start = search needs in
+    let a = start .args in
     down-high (a .divisor) (a .median) (c .before .held .result) (omega arith) (omega arith) (omega arith)
 
 pub dec-median-spec : {M : Type 1} → statement M

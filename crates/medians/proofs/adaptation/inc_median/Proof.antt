@@ -7,15 +7,21 @@ use Rattle.medians.proofs.adaptation.inc_median.Statement.{statement}
 use Rattle.medians.proofs.adaptation.inc_median.Tie as tie
 
 mul-step : tie.Need-mul-step
-mul-step c = omega (arith, div-small (c .held .result) (c .before .before .before .args .divisor) (omega arith))
+mul-step c =
+    let start : tie.Start = search needs in
+    omega (arith, div-small (c .held .result) (start .args .divisor) (omega arith))
 
 add-held-2 : tie.Need-add-held-2
-add-held-2 c = omega (arith, div-small (c .before .before .held .result) (c .before .before .before .before .before .args .divisor) (omega arith))
+add-held-2 c =
+    let start : tie.Start = search needs in
+    omega (arith, div-small (c .before .before .held .result) (start .args .divisor) (omega arith))
 
 returns : tie.Need-returns
 returns c =
-    let a = c .before .before .before .before .before .before .args in
-    let e = up-is (a .divisor) (a .median) (c .before .before .before .held .result) (omega arith) (omega arith) in
+    let start : tie.Start = search needs in
+    let after-held : tie.After-held = search needs in
+    let a = start .args in
+    let e = up-is (a .divisor) (a .median) (after-held .held .result) (omega arith) (omega arith) in
     omega arith
 
 pub inc-median-spec : {M : Type 1} → statement M

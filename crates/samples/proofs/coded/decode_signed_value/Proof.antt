@@ -24,7 +24,8 @@ use Rattle.samples.proofs.coded.decode_signed_value.Tie as tie
 ordered : (c : tie.After-struct-known) →
     (c .before .sample-interval .result .low ≤ c .before .sample-interval .result .high) × (c .before .sample-interval .result .high < 2147483648)
 ordered c =
-    let a = c .before .before .before .args in
+    let start : tie.Start = search needs in
+    let a = start .args in
     let e = c .before .sample-interval .ensures in
     rw (e .low-is, e .high-is) (ends (mediansOf (a .medians)) (a .ones-count))
 
@@ -41,7 +42,7 @@ sign-is c = sym (c .before .before .get-bit .ensures) ∙ c .sign .given .1
 
 sum-lt : (c : tie.After-code) → c .before .before .before .before .sample-interval .result .low + c .code .given .0 .0 < 2147483648
 sum-lt c =
-    let k = c .before .before .before in
+    let k : tie.After-struct-known = search needs in
     let a = k .before .before .before .args in
     let i = k .before .sample-interval .result in
     let m = code-most (bitsOf (now (a .payload))) (a .place) (i .high - i .low) _ _ (omega (arith, ordered k)) (code-is c) in
@@ -55,7 +56,7 @@ read-truncated-binary-requires c κs = (omega arith, omega (arith, ordered c))
 
 returns : tie.Need-returns
 returns c =
-    let k = c .before .before .before in
+    let k : tie.After-struct-known = search needs in
     let a = k .before .before .before .args in
     let e = k .before .sample-interval .ensures in
     value-no-code (bitsOf (now (a .payload))) (a .place) (a .ones-count) (mediansOf (a .medians)) _ _ (e .low-is) (e .high-is)
@@ -63,7 +64,7 @@ returns c =
 
 returns-2 : tie.Need-returns-2
 returns-2 c =
-    let d = c .before .before .before .before in
+    let d : tie.After-code = search needs in
     let k = d .before .before .before in
     let a = k .before .before .before .args in
     let e = k .before .sample-interval .ensures in
@@ -71,14 +72,18 @@ returns-2 c =
     (sym (c .before .before .get-bit .ensures) ∙ c .enum-told2 .given .1)
 
 add-apply-sign : tie.Need-add-apply-sign
-add-apply-sign c = omega (arith, sum-lt (c .before .before .before .before .before))
+add-apply-sign c =
+    let after-code : tie.After-code = search needs in
+    omega (arith, sum-lt (after-code))
 
 apply-sign-requires : tie.Need-apply-sign-requires
-apply-sign-requires c κs = omega (arith, sum-lt (c .before .before .before .before .before))
+apply-sign-requires c κs =
+    let after-code : tie.After-code = search needs in
+    omega (arith, sum-lt (after-code))
 
 returns-3 : tie.Need-returns-3
 returns-3 c =
-    let d = c .before .before .before .before .before .before in
+    let d : tie.After-code = search needs in
     let k = d .before .before .before in
     let a = k .before .before .before .args in
     let e = k .before .sample-interval .ensures in

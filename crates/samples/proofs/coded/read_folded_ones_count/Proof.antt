@@ -15,16 +15,22 @@ returns c =
 
 returns-2 : tie.Need-returns-2
 returns-2 c =
-    let a = c .before .before .before .before .before .args in
-    rw (c .not-counted .ensures, c .before .before .before .if1 .left)
+    let start : tie.Start = search needs in
+    let else1 : tie.Else1 = search needs in
+    let a = start .args in
+    rw (c .not-counted .ensures, else1 .if1 .left)
     (count-none (bitsOf (now (a .payload))) (a .place) (a .last-one) _ (sym (c .before .before .read-raw-prefix .ensures)) (c .before .match .keys2))
 
 returns-3 : tie.Need-returns-3
 returns-3 c =
-    let a = c .before .before .before .before .before .before .before .before .args in
-    rw (c .before .before .before .before .before .before .if1 .left, c .one-if .ensures .0, c .before .is-odd .ensures)
+    let start : tie.Start = search needs in
+    let else1 : tie.Else1 = search needs in
+    let after-read-raw-prefix : tie.After-read-raw-prefix = search needs in
+    let after-prefix : tie.After-prefix = search needs in
+    let a = start .args in
+    rw (else1 .if1 .left, c .one-if .ensures .0, c .before .is-odd .ensures)
     (count-read (bitsOf (now (a .payload))) (a .place) (a .last-one) _ _
-    (sym (c .before .before .before .before .before .read-raw-prefix .ensures) ∙ c .before .before .before .prefix .given .1))
+    (sym (after-read-raw-prefix .read-raw-prefix .ensures) ∙ after-prefix .prefix .given .1))
 
 pub read-folded-ones-count-spec : {M : Type 1} → statement M
 read-folded-ones-count-spec =

@@ -13,7 +13,8 @@ use Rattle.samples.proofs.one_word.adapted.Tie as tie
 returns : tie.Need-returns
 unfolding after unbroken
 returns c =
-    let a = c .before .before .before .before .before .args in
+    let start : tie.Start = search needs in
+    let a = start .args in
     let ms = a .state .medians in
     let n = a .state .«next_channel» in
     let l : length ms ≡ 2 = search (needs, length-mapped) in

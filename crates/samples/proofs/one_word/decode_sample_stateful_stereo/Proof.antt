@@ -39,20 +39,24 @@ returns-3 c =
     c .zero .ensures ∙ ap (λ (t : State). tellWord (a .place) s (given (pos 0) (a .place) t none)) (c .before .paid .ensures)
     ∙ one-word (now (a .payload)) (a .place) s _ (omega arith) (omega arith) (sym (word-paid (bitsOf (now (a .payload))) (a .place) s (omega arith)))
 
+-- the entry, from where the word was read
+abbrev entry : tie.After-read-word → tie.Start
+entry c = c .before .before .before .before .before .before .before .before .before .before .before .before
+
 -- the word that was read is the entry's word
 read : (c : tie.After-read-word) →
-    let a = c .before .before .before .before .before .before .before .before .before .before .before .before .args in
+    let a = entry c .args in
     let s = stateOf (a .state) in
     tellWord (a .place) s (codedWord s (c .read-word .result)) ≡ oneWord (now (a .payload)) (a .place) s
 read c =
-    let a = c .before .before .before .before .before .before .before .before .before .before .before .before .args in
+    let a = entry c .args in
     let l : length (a .state .medians) ≡ 2 = search (needs, length-mapped) in
     one-coded (now (a .payload)) (a .place) (a .state) _ _ (omega arith) (omega arith) (omega arith) l (c .before .before .zero-run-eligible .ensures) (c .read-word .ensures)
 
 returns-4 : tie.Need-returns-4
 returns-4 c =
     let k = c .before .before .before .before .before in
-    let a = c .before .before .before .before .before .before .before .before .before .before .before .before .before .before .before .before .before .args in
+    let a = entry k .args in
     let s = stateOf (a .state) in
     let w = c .before .before .before .word .given in
     c .zero2 .ensures ∙ ap (λ (t : State). tellWord (a .place) s (given (pos 0) (w .0 .1 .0) t none)) (c .before .in-run .ensures)
@@ -61,7 +65,7 @@ returns-4 c =
 returns-5 : tie.Need-returns-5
 returns-5 c =
     let k = c .before .before .before .before .before in
-    let a = c .before .before .before .before .before .before .before .before .before .before .before .before .before .before .before .before .before .args in
+    let a = entry k .args in
     let s = stateOf (a .state) in
     let w = c .before .before .before .word2 .given in
     let f : SFits w32 (w .0 .0) = search needs in
@@ -72,14 +76,14 @@ returns-5 c =
 returns-6 : tie.Need-returns-6
 returns-6 c =
     let k = c .before .before .before in
-    let a = c .before .before .before .before .before .before .before .before .before .before .before .before .before .before .before .args in
+    let a = entry k .args in
     let s = stateOf (a .state) in
     c .refused3 .ensures ∙ ap (λ (x : Coded). tellWord (a .place) s (codedWord s x)) (sym (c .before .enum-told .given .1)) ∙ read k
 
 returns-7 : tie.Need-returns-7
 returns-7 c =
     let k = c .before .before .before in
-    let a = c .before .before .before .before .before .before .before .before .before .before .before .before .before .before .before .args in
+    let a = entry k .args in
     let s = stateOf (a .state) in
     c .refused4 .ensures ∙ ap (λ (x : Coded). tellWord (a .place) s (codedWord s x)) (sym (c .before .enum-told2 .given .1)) ∙ read k
 

@@ -31,24 +31,29 @@ loop-holds c =
     let l : length (a .seeds) ≡ 2 = search (needs, length-mapped) in
     loop-start (now (a .payload)) (now (a .out)) (a .seeds) l
 
+-- the loop's head, from where a word was read
+abbrev at-loop : tie.After-read-word Inv-loop μ-loop → tie.At-loop Inv-loop μ-loop
+at-loop c = c .before .before .before .before .before .before
+
 loop-less : tie.Need-loop-less Inv-loop μ-loop
 loop-less c =
-    let l = c .before .before .before .before .before .before .before .before .before .before .before .before .loop .inv in
+    let at-loop : tie.At-loop Inv-loop μ-loop = search needs in
+    let l = at-loop .loop .inv in
     let z = c .before .put-zeros .ensures in
     omega (arith, z .some, z .within, l .words .same)
 
 loop-again : tie.Need-loop-again Inv-loop μ-loop
 loop-again c =
-    let y = c .before .before .before .before in
+    let y : tie.After-behind Inv-loop μ-loop = search needs in
     let w = y .before .before in
-    let l = w .before .before .before .before .before .before .loop .inv in
+    let l = at-loop w .loop .inv in
     loop-run _ _ _ _ _ _ _ _ _ _ l _ _ (omega arith) (w .before .zero-run-eligible .ensures) (w .read-word .ensures) _ _ _ _ (y .behind .given .1) (c .before .put-zeros .ensures)
 
 loop-again-2 : tie.Need-loop-again-2 Inv-loop μ-loop
 loop-again-2 c =
     let y = c .before .before in
     let w = y .before .before in
-    let l = w .before .before .before .before .before .before .loop .inv in
+    let l = at-loop w .loop .inv in
     let v = y .value .given .0 .0 in
     let f : SFits w32 v = search needs in
     rw (toZ-ofZ f)
@@ -56,15 +61,15 @@ loop-again-2 c =
 
 returns : tie.Need-returns Inv-loop μ-loop
 returns c =
-    let w = c .before .before .before in
-    let l = w .before .before .before .before .before .before .loop .inv in
+    let w : tie.After-read-word Inv-loop μ-loop = search needs in
+    let l = at-loop w .loop .inv in
     let e = loop-stop _ _ _ _ _ _ _ _ _ _ l _ _ (omega arith) (w .before .zero-run-eligible .ensures) (w .read-word .ensures) 4 (λ s. ap (codedWord s) (c .before .enum-told .given .1)) in
     rw (c .stopped .ensures) e
 
 returns-2 : tie.Need-returns-2 Inv-loop μ-loop
 returns-2 c =
-    let w = c .before .before .before in
-    let l = w .before .before .before .before .before .before .loop .inv in
+    let w : tie.After-read-word Inv-loop μ-loop = search needs in
+    let l = at-loop w .loop .inv in
     let e = loop-stop _ _ _ _ _ _ _ _ _ _ l _ _ (omega arith) (w .before .zero-run-eligible .ensures) (w .read-word .ensures) 3 (λ s. ap (codedWord s) (c .before .enum-told2 .given .1)) in
     rw (c .stopped2 .ensures) e
 
