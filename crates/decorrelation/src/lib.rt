@@ -251,3 +251,15 @@ pub fn recorrelate_array(passes: [DecorrPass; 16], count: usize, buffer: &mut [i
 {
     array_answer(true, passes, count, buffer)
 }
+
+// What analysis by the first `count` passes of an array says of a buffer of that many elements, as `recorrelate_array` answers: 5, 9
+// and 7. Runs no pass.
+pub fn analysis_refusal(passes: [DecorrPass; 16], count: usize, elements: usize) -> Outcome
+    ensures { λ r. ⌜ outcomeNumber r ≡ analysisNumber (allValid (take count passes)) count elements ⌝ }
+{
+    if 16 < count {
+        return analysis_outcome(true, count, elements);
+    }
+    let valid = array_valid(passes, count);
+    analysis_outcome(valid, count, elements)
+}

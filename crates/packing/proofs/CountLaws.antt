@@ -8,16 +8,12 @@ use native.Mathlib.Nat.{div-mul-le-self, lt-div-mul-add, mul-le-mul-right, div-l
 use native.Mathlib.Omega.{arith}
 use borrow.Author.Tests.{lt-ltb, le-ltb, le-leb, leb-true, ltb-true, ltb-false}
 use lib.Dec.{ltb, leb}
-use Rattle.entropy.specs.Medians.{Medians}
+use Rattle.medians.proofs.IntervalLaws.{width-le}
+use Rattle.answers.specs.Limits.{residualSpan}
+use Rattle.entropy.specs.Medians.{Medians, Small}
 use Rattle.medians.specs.Interval.{g, base, width, lowOf, highOf}
-use Rattle.medians.specs.Adaptation.{up, down, adapt}
-use Rattle.samples.proofs.PartLaws.{clash}
-use Rattle.packing.specs.Counts.{Small, contains, least, count}
-
--- both parts of a true conjunction are true
-pub both : (a b : Bool) → (a && b) ≡ true → (a ≡ true) × (b ≡ true)
-both true b e = (refl, e)
-both false b e = clash e refl
+use Rattle.word_state.proofs.FlagLaws.{both}
+use Rattle.packing.specs.Counts.{contains, least, count}
 
 -- a test that is not true is false
 pub untrue : (b : Bool) → (b ≡ true → ⊥) → b ≡ false
@@ -84,12 +80,6 @@ found m v = first (ltb v (g (m .m0))) refl
 
 -- ---- intervals
 
--- an interval is at least 1 and at most 2 ^ 28 wide
-pub width-le : (m : Medians) (k : ℕ) → Small m → (0 < width m k) × (width m k ≤ 268435456)
-width-le m zero s = omega arith
-width-le m (suc zero) s = omega arith
-width-le m (suc (suc k)) s = omega arith
-
 -- the interval of k contains v, and meets neither wrap nor mask
 pub record Plain (m : Medians) (k v : ℕ) : Type 0 where
   pub low-is : lowOf m k ≡ base m k
@@ -100,7 +90,7 @@ pub record Plain (m : Medians) (k v : ℕ) : Type 0 where
   pub upto : v ≤ highOf m k
 
 -- a number in the span that lies within an interval meets neither, under medians of 32 bits
-no-wrap : (m : Medians) (k v : ℕ) → Small m → v < 1879048192 → Within m k v → Plain m k v
+no-wrap : (m : Medians) (k v : ℕ) → Small m → v < residualSpan → Within m k v → Plain m k v
 unfolding lowOf highOf
 no-wrap m k v s h w =
     let d = width-le m k s in
@@ -120,7 +110,7 @@ contained : (m : Medians) (k v : ℕ) → Plain m k v → contains m k v ≡ tru
 contained m k v p = rw (le-leb (lowOf m k) v (p .from), le-leb v (highOf m k) (p .upto))
 
 -- no interval before that of k contains v
-none-below : (m : Medians) (k v : ℕ) → Small m → v < 1879048192 → Within m k v → (j : ℕ) → j < k → contains m j v ≡ false
+none-below : (m : Medians) (k v : ℕ) → Small m → v < residualSpan → Within m k v → (j : ℕ) → j < k → contains m j v ≡ false
 unfolding highOf
 none-below m k v s h w j l = untrue (contains m j v) (λ t.
     let b = both (leb (lowOf m j) v) (leb v (highOf m j)) t in
@@ -130,7 +120,7 @@ none-below m k v s h w j l = untrue (contains m j v) (λ t.
     omega arith)
 
 -- the closed form finds the smallest count
-pub count-closed : (m : Medians) (v : ℕ) → Small m → v < 1879048192 → count m v ≡ closed m v
+pub count-closed : (m : Medians) (v : ℕ) → Small m → v < residualSpan → count m v ≡ closed m v
 unfolding count
 count-closed m v s h =
     let w = found m v in
@@ -145,29 +135,9 @@ pub record Smallest (m : Medians) (k v : ℕ) : Type 0 where
   pub prefix-fits : 2 * k + 1 < 4294967296
 
 -- every number in the span has one, under all medians of 32 bits
-pub smallest : (m : Medians) (v : ℕ) → Small m → v < 1879048192 → Smallest m (count m v) v
+pub smallest : (m : Medians) (v : ℕ) → Small m → v < residualSpan → Smallest m (count m v) v
 smallest m v s h =
     let w = found m v in
     let p = no-wrap m (closed m v) v s h w in
     rw (count-closed m v s h)
     (record { within = w; plain = p; contains-it = contained m (closed m v) v p; no-less = none-below m (closed m v) v s h w; prefix-fits = omega arith })
-
--- ---- adaptation stays within 32 bits
-
--- up is held within 32 bits
-up-small : (d m : ℕ) → up d m ≤ 4294967295
-unfolding up
-up-small d m = omega arith
-
--- down makes no median larger
-down-small : (d m : ℕ) → m ≤ 4294967295 → down d m ≤ 4294967295
-unfolding down
-down-small d m h = omega arith
-
--- medians of 32 bits adapt to medians of 32 bits
-pub adapt-small : (m : Medians) (k : ℕ) → Small m → Small (adapt m k)
-unfolding adapt
-adapt-small m zero s = record { small0 = down-small 128 (m .m0) (s .small0); small1 = s .small1; small2 = s .small2 }
-adapt-small m (suc zero) s = record { small0 = up-small 128 (m .m0); small1 = down-small 64 (m .m1) (s .small1); small2 = s .small2 }
-adapt-small m (suc (suc zero)) s = record { small0 = up-small 128 (m .m0); small1 = up-small 64 (m .m1); small2 = down-small 32 (m .m2) (s .small2) }
-adapt-small m (suc (suc (suc k))) s = record { small0 = up-small 128 (m .m0); small1 = up-small 64 (m .m1); small2 = up-small 32 (m .m2) }

@@ -12,7 +12,9 @@ use lib.Pow.{pow-mono, shl-exact}
 use lib.ListN.{length, take, drop, getD, set, length-append, length-set, take-append-drop, drop-of-length-le}
 use lib.Seq.{take-all, take-append-le, drop-append-add, drop-drop, take-at, length-take-le, set-split}
 use Rattle.bits.specs.Bits.{low, num, bitsOf}
-use Rattle.bits.specs.Laid.{bytesOf, laid, over, put}
+use Rattle.bits.specs.Laid.{bytesOf, bytesHolding, put}
+use Rattle.overlay.specs.Overlay.{overlay}
+use Rattle.overlay.proofs.OverlayLaws.{overlay-first}
 use Rattle.bits.proofs.BitLaws.{length-low, length-bits, num-append, num-lt, num-low, take-low, shl-one}
 use Rattle.bits.proofs.LaidLaws.{length-bytes}
 
@@ -94,7 +96,7 @@ laying-step buf w out left i h l =
     }
 
 -- bits laid into a buffer, where there are some
-put-is : (buf : List ℕ) (at : ℕ) (f : List Bool) → 0 < length f → over (laid (take at (bitsOf buf) ++ f)) buf ≡ put buf at f
+put-is : (buf : List ℕ) (at : ℕ) (f : List Bool) → 0 < length f → overlay buf 0 (bytesHolding (take at (bitsOf buf) ++ f)) ≡ put buf at f
 unfolding put
 put-is buf at [] h = absurd (omega arith)
 put-is buf at (b ∷ f) h = refl
@@ -102,12 +104,12 @@ put-is buf at (b ∷ f) h = refl
 -- all are stored
 pub laying-end : (buf : List ℕ) (at count value : ℕ) (out : List ℕ) (left i : ℕ) → at ≤ 8 * length buf → 0 < count → at + count ≤ 8 * i → i ≤ (at + count + 7) / 8
     → Laying buf (held buf at count value) out left i → out ≡ put buf at (low count value)
-unfolding laid over
+unfolding bytesHolding
 laying-end buf at count value out left i h n e m l =
     let w = held buf at count value in
     let k : i ≡ (length w + 7) / 8 = omega (arith, length-held buf at count value h) in
     l .bytes ∙ ap₂ (λ (x y : ℕ). bytesOf x w ++ drop y buf) k (k ∙ sym (length-bytes ((length w + 7) / 8) w))
-    ∙ put-is buf at (low count value) (omega (arith, length-low count value))
+    ∙ sym (overlay-first buf (bytesHolding w)) ∙ put-is buf at (low count value) (omega (arith, length-low count value))
 
 -- ---- the number that is laid
 

@@ -5,17 +5,18 @@ use Prim.Native.Nat.{ℕ, suc, _+_, _-_, _*_, _/_, _%_, _≤_, _<_}
 use native.Mathlib.Nat.{div-add-mod', div-eq-of-lt, lt-div-mul-add}
 use native.Mathlib.Decide.{decLe}
 use native.Mathlib.Omega.{arith}
-use Rattle.entropy.specs.Medians.{Medians}
+use Rattle.answers.specs.Limits.{residualSpan}
+use Rattle.entropy.specs.Medians.{Medians, Small}
 use Rattle.medians.specs.Interval.{g, base, width}
 use Rattle.medians.specs.Adaptation.{up, down, adapt}
 use Rattle.medians.proofs.AdaptationLaws.{adapt-many}
-use Rattle.packing.specs.Counts.{Small, count}
+use Rattle.packing.specs.Counts.{count}
 use Rattle.packing.specs.View.{LocatedIs, Above}
 use Rattle.packing.specs.declared.locating.Located.{Located}
 use Rattle.packing.proofs.CountLaws.{closed, closed-first, closed-second, closed-many, count-closed, smallest}
 
 -- a number whose count is k lies where k's interval was before the wrap
-located : (m : Medians) (v k : ℕ) (r : Located) → Small m → v < 1879048192 → closed m v ≡ k → r .count ≡ k → base m k + r .code ≡ v → r .last ≡ width m k - 1
+located : (m : Medians) (v k : ℕ) (r : Located) → Small m → v < residualSpan → closed m v ≡ k → r .count ≡ k → base m k + r .code ≡ v → r .last ≡ width m k - 1
     → record { m0 = r .m0; m1 = r .m1; m2 = r .m2 } ≡ adapt m k → LocatedIs m v r
 located m v k r s h e n c l a =
     let i : count m v ≡ k = count-closed m v s h ∙ e in
@@ -38,14 +39,14 @@ triple : (m : Medians) (a b c : ℕ) → a ≡ m .m0 → b ≡ m .m1 → c ≡ m
 triple m a b c x y z = rw (x, y, z)
 
 -- in the first interval
-pub located-first : (m : Medians) (v : ℕ) (r : Located) → Small m → v < 1879048192 → v < g (m .m0) → r .count ≡ 0 → r .code ≡ v → r .last ≡ g (m .m0) - 1
+pub located-first : (m : Medians) (v : ℕ) (r : Located) → Small m → v < residualSpan → v < g (m .m0) → r .count ≡ 0 → r .code ≡ v → r .last ≡ g (m .m0) - 1
     → r .m0 ≡ down 128 (m .m0) → r .m1 ≡ m .m1 → r .m2 ≡ m .m2 → LocatedIs m v r
 unfolding adapt
 located-first m v r s h l n c e a b d =
     located m v 0 r s h (closed-first m v l) n (omega arith) e (triple (adapt m 0) (r .m0) (r .m1) (r .m2) a b d)
 
 -- in the second
-pub located-second : (m : Medians) (v : ℕ) (r : Located) → Small m → v < 1879048192 → g (m .m0) ≤ v → v - g (m .m0) < g (m .m1) → r .count ≡ 1
+pub located-second : (m : Medians) (v : ℕ) (r : Located) → Small m → v < residualSpan → g (m .m0) ≤ v → v - g (m .m0) < g (m .m1) → r .count ≡ 1
     → r .code ≡ v - g (m .m0) → r .last ≡ g (m .m1) - 1 → r .m0 ≡ up 128 (m .m0) → r .m1 ≡ down 64 (m .m1) → r .m2 ≡ m .m2 → LocatedIs m v r
 unfolding adapt
 located-second m v r s h g l n c e a b d =

@@ -10,20 +10,26 @@ use lib.Dec.{ltb, eqb}
 use lib.IntN.{ℤ}
 use lib.Signed.{mag}
 use lib.ListN.{length, length-append}
+use Rattle.entropy.specs.Medians.{Small}
+use Rattle.answers.specs.Limits.{maxWordBits, residualSpan}
 use Rattle.bits.specs.Bits.{val, low}
 use Rattle.bits.specs.Fields.{unaryField}
 use Rattle.fields.specs.Code.{bitLength}
-use Rattle.packing.specs.Counts.{Small, count}
+use Rattle.packing.specs.Counts.{count}
 use Rattle.packing.specs.Written.{runField, prefixField, codeBits, codeField}
 use Rattle.bits.proofs.BitLaws.{length-low}
 use Rattle.fields.proofs.LengthLaws.{long, long-le}
 use Rattle.bits.proofs.RoundTrip.{length-unary}
 use Rattle.medians.specs.Interval.{lowOf, highOf}
 use Rattle.packing.proofs.CountLaws.{smallest}
-use Rattle.samples.specs.State.{State, due, other, paid, inRun, unbroken, cleared, flagged, runDue}
-use Rattle.samples.specs.Word.{onZeros}
+use Rattle.word_state.specs.State.{State, due, other, paid, inRun, unbroken, cleared, flagged, runHere, onZeros}
 use Rattle.packing.specs.Packing.{zeros, ahead, sign, Out, behind, silent, valueField, valueOut, plainOut, freshOut, wordOut}
-use Rattle.packing.proofs.StepLaws.{zeros-le, val-le}
+use Rattle.packing.proofs.InStepLaws.{zeros-le}
+
+-- a bit is at most 1
+pub val-le : (b : Bool) → val b ≤ 1
+val-le false = omega arith
+val-le true = omega arith
 
 -- a run length of w bits takes 2w bits at the most, and 0 takes one
 pub run-long : (n w : ℕ) → 0 < w → n < 2 ^ w → n < 2 ^ 32 → length (runField n) ≤ 2 * w
@@ -72,7 +78,7 @@ code-long M c w h f = go (eqb M 0) refl
         bits (2 ^ b - M - 1) (ltb c (2 ^ b - M - 1)) (l .some) (long-le M b w l h)
 
 -- code and sign take 29 bits at the most
-value-long : (s : State) (v : ℤ) → Small (due s) → mag v < 1879048192 → length (valueOut (count (due s) (mag v)) s v .bits) ≤ 29
+value-long : (s : State) (v : ℤ) → Small (due s) → mag v < residualSpan → length (valueOut (count (due s) (mag v)) s v .bits) ≤ 29
 unfolding valueOut valueField
 value-long s v m h =
     let k = count (due s) (mag v) in
@@ -82,7 +88,7 @@ value-long s v m h =
     omega (arith, length-append (codeField M c) (low 1 (sign v)), length-low 1 (sign v), code-long M c 28 l (omega arith))
 
 -- with a prefix 110
-plain-long : (s : State) (v : ℤ) (vs : List ℤ) → Small (due s) → mag v < 1879048192 → length (plainOut s v vs .bits) ≤ 110
+plain-long : (s : State) (v : ℤ) (vs : List ℤ) → Small (due s) → mag v < residualSpan → length (plainOut s v vs .bits) ≤ 110
 unfolding plainOut cleared flagged
 plain-long s v vs m h = go (s .lastZero)
   where
@@ -100,7 +106,7 @@ plain-long s v vs m h = go (s .lastZero)
         omega (arith, length-append (prefixField r) (valueOut k f v .bits), value-long f v m h, prefix-long r (omega (arith, val-le (ahead (other s) vs))))
 
 -- document 01 (K10): with a run length 111
-pub word-long : (s : State) (v : ℤ) (vs : List ℤ) → Small (due s) → mag v < 1879048192 → length (v ∷ vs) < 2 ^ 32 → length (wordOut s v vs .bits) ≤ 111
+pub word-long : (s : State) (v : ℤ) (vs : List ℤ) → Small (due s) → mag v < residualSpan → length (v ∷ vs) < 2 ^ 32 → length (wordOut s v vs .bits) ≤ maxWordBits
 unfolding wordOut freshOut unbroken
 word-long s v vs m h few = go (s .debt)
   where
@@ -108,20 +114,16 @@ word-long s v vs m h few = go (s .debt)
     n = zeros (v ∷ vs)
 
     out : ℕ → Out
-    out j = onZeros j (λ d. silent (inRun d s)) (plainOut s v vs)
+    out j = onZeros j (λ d. silent (inRun d s)) (plainOut (unbroken s) v vs)
 
-    run : (j : ℕ) → j < 2 ^ 32 → length (runField j ++ out j .bits) ≤ 111
-    run zero l = omega (arith, length-append (runField 0) (plainOut s v vs .bits), run-zero-long, plain-long s v vs m h)
+    run : (j : ℕ) → j < 2 ^ 32 → length (runField j ++ out j .bits) ≤ maxWordBits
+    run zero l = omega (arith, length-append (runField 0) (plainOut (unbroken s) v vs .bits), run-zero-long, plain-long (unbroken s) v vs m h)
     run (suc d) l = omega (arith, length-append (runField (suc d)) [], run-long (suc d) 32 (omega arith) l l)
 
-    due? : (t : Bool) → length (cond t (behind (runField n) (out n)) (plainOut s v vs) .bits) ≤ 111
-    due? true = run n (omega (arith, zeros-le (v ∷ vs)))
-    due? false = omega (arith, plain-long s v vs m h)
+    here? : (t : Bool) → length (cond t (behind (runField n) (out n)) (plainOut (unbroken s) v vs) .bits) ≤ maxWordBits
+    here? true = run n (omega (arith, zeros-le (v ∷ vs)))
+    here? false = omega (arith, plain-long (unbroken s) v vs m h)
 
-    broken? : (t : Bool) → length (cond t (plainOut (unbroken s) v vs) (cond (runDue s) (behind (runField n) (out n)) (plainOut s v vs)) .bits) ≤ 111
-    broken? true = omega (arith, plain-long (unbroken s) v vs m h)
-    broken? false = due? (runDue s)
-
-    go : (j : ℕ) → length (onZeros j (λ d. silent (paid d s)) (freshOut s v vs) .bits) ≤ 111
-    go zero = broken? (s .runBreak)
+    go : (j : ℕ) → length (onZeros j (λ d. silent (paid d s)) (freshOut s v vs) .bits) ≤ maxWordBits
+    go zero = here? (runHere s)
     go (suc d) = omega arith

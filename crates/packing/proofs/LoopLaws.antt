@@ -10,21 +10,21 @@ use lib.IntN.{ℤ, pos, negsuc}
 use lib.ListN.{length, drop, getD, set, length-append, length-drop, length-set, drop-of-length-le}
 use lib.Seq.{drop-cons, drop-drop}
 use lib.Signed.{mag}
+use Rattle.answers.specs.Limits.{maxElements, maxWordBits}
+use Rattle.entropy.proofs.SeedBounds.{none-small}
 use Rattle.bits.specs.Laid.{put}
 use Rattle.bits.proofs.LaidLaws.{Bytes, put-put, put-nil}
 use Rattle.entropy.specs.declared.AdaptiveMedians.{AdaptiveMedians}
-use Rattle.entropy.specs.Medians.{Medians, MedianPair, mediansOf, pairOf, zeroSet}
-use Rattle.samples.specs.State.{State, start, side, flip, paid, inRun}
-use Rattle.samples.proofs.HeldLaws.{noSet, there, turned, picked}
-use Rattle.samples.proofs.PartLaws.{clash}
-use Rattle.packing.specs.Counts.{Small}
+use Rattle.entropy.specs.Medians.{Medians, MedianPair, mediansOf, pairOf, zeroSet, Small}
+use Rattle.word_state.specs.State.{State, start, side, flip, paid, inRun}
+use Rattle.word_state.proofs.StateLaws.{noSet, there, turned, picked}
+use Rattle.word_state.proofs.FlagLaws.{clash}
 use Rattle.packing.specs.Packing.{zeros, spanned, Out, behind, silent, wordOut, packed}
-use Rattle.packing.specs.View.{Seen, Next, RunIs, PackedIs}
-use Rattle.packing.specs.declared.packing.Packed.{Packed}
+use Rattle.packing.specs.View.{Seen, Next, RunTakes, PackedIs}
+use Rattle.packing.specs.declared.writing.Packed.{Packed}
 use Rattle.packing.proofs.LongLaws.{word-long}
-use Rattle.packing.proofs.ReadingLaws.{spanned-parts, start-inv}
-use Rattle.packing.proofs.SizeLaws.{kept}
-use Rattle.packing.proofs.StepLaws.{Inv, due-small, other-small, zeros-le, zeros-head, none-small}
+use Rattle.packing.proofs.InStepLaws.{Inv, start-inv, due-small, other-small, zeros-le, zeros-head, kept}
+use Rattle.packing.proofs.SpanLaws.{spanned-at}
 
 -- ---- the definition, word by word
 
@@ -105,7 +105,7 @@ pub record Loop (before : List ℕ) (vs : List ℤ) (s₀ : State) (out : List �
   pub joined : behind w (packed state (drop i vs)) ≡ packed s₀ vs
   pub bytes : out ≡ put before 0 w
   pub place-is : place ≡ length w
-  pub room : place ≤ 111 * i
+  pub room : place ≤ maxWordBits * i
   pub here : i ≤ length vs
   pub same : length out ≡ length before
   pub low-bytes : Bytes out
@@ -141,12 +141,6 @@ replaced (a ∷ []) x c l h = absurd (omega arith)
 replaced (a ∷ b ∷ l) x zero e h = record { at-left = refl; at-right = refl }
 replaced (a ∷ b ∷ l) x (suc zero) e h = record { at-left = refl; at-right = refl }
 replaced (a ∷ b ∷ l) x (suc (suc c)) e h = absurd (omega arith)
-
--- a residual of a list in the span is in the span
-pub spanned-at : (vs : List ℤ) (i : ℕ) → spanned vs ≡ true → i < length vs → mag (getD vs i (pos 0)) < 1879048192
-spanned-at [] i h l = absurd (omega arith)
-spanned-at (v ∷ vs) zero h l = spanned-parts v vs h .0
-spanned-at (v ∷ vs) (suc i) h l = spanned-at vs i (spanned-parts v vs h .1) (omega arith)
 
 -- nothing is written yet
 pub loop-start : (before : List ℕ) (vs : List ℤ) (sets : List AdaptiveMedians) → Bytes before → length sets ≡ 2 → Small (pairOf sets .left) → Small (pairOf sets .right)
@@ -220,19 +214,19 @@ module _ (before : List ℕ) (vs : List ℤ) (s₀ : State) (out : List ℕ) (se
   more-joined h = sym (packing-on (l .w) (l .state) head tail) ∙ ap (λ (x : List ℤ). behind (l .w) (packed (l .state) x)) (sym (split h)) ∙ l .joined
 
   -- what is left is short of 2 ^ 32
-  few : length vs ≤ 262144 → i < length vs → length (head ∷ tail) < 2 ^ 32
+  few : length vs ≤ maxElements → i < length vs → length (head ∷ tail) < 2 ^ 32
   few n h = omega (arith, length-drop (suc i) vs)
 
   -- the word takes 111 bits at the most
-  pub word-room : spanned vs ≡ true → length vs ≤ 262144 → i < length vs → length (wordOut (l .state) head tail .bits) ≤ 111
+  pub word-room : spanned vs ≡ true → length vs ≤ maxElements → i < length vs → length (wordOut (l .state) head tail .bits) ≤ maxWordBits
   word-room s n h = word-long (l .state) head tail (due-small (in-step h)) (spanned-at vs i s h) (few n h)
 
   -- a run ends within the residuals
-  pub run-room : (run : ℕ) (z o : Bool) → i < length vs → RunIs (l .state) (wordOut (l .state) head tail .next) (head ∷ tail) run z o → i + run ≤ length vs
+  pub run-room : (run : ℕ) (z o : Bool) → i < length vs → RunTakes (l .state) (wordOut (l .state) head tail .next) (head ∷ tail) run z o → i + run ≤ length vs
   run-room run z o h t = omega (arith, t .length-is, zeros-le (head ∷ tail), length-drop (suc i) vs)
 
   -- a turn that writes a word
-  pub loop-word : (after : List ℕ) (q : ℕ) (x : AdaptiveMedians) (z o : Bool) → spanned vs ≡ true → length vs ≤ 262144 → i < length vs
+  pub loop-word : (after : List ℕ) (q : ℕ) (x : AdaptiveMedians) (z o : Bool) → spanned vs ≡ true → length vs ≤ maxElements → i < length vs
       → Next (l .state) (wordOut (l .state) head tail .next) (mediansOf x) z o → after ≡ put out place (wordOut (l .state) head tail .bits)
       → q ≡ place + length (wordOut (l .state) head tail .bits) → length after ≡ length out → Bytes after → Loop before vs s₀ after (set sets (i % 2) x) q z o false (i + 1)
   loop-word after q x z o s n h t e p k b =
@@ -257,12 +251,12 @@ module _ (before : List ℕ) (vs : List ℤ) (s₀ : State) (out : List ℕ) (se
         zero-is = t .zero-is;
         one-is = t .one-is;
         break-is = t .break-is;
-        inv = rw j (kept (l .state) head tail (in-step h) (spanned-at vs i s h) (few n h));
+        inv = rw j (kept (l .state) head tail (in-step h));
       }
 
   -- a turn that writes a run
-  pub loop-run : (after : List ℕ) (q run : ℕ) (z o : Bool) → spanned vs ≡ true → length vs ≤ 262144 → i < length vs → 0 < run
-      → RunIs (l .state) (wordOut (l .state) head tail .next) (head ∷ tail) run z o → after ≡ put out place (wordOut (l .state) head tail .bits)
+  pub loop-run : (after : List ℕ) (q run : ℕ) (z o : Bool) → spanned vs ≡ true → length vs ≤ maxElements → i < length vs → 0 < run
+      → RunTakes (l .state) (wordOut (l .state) head tail .next) (head ∷ tail) run z o → after ≡ put out place (wordOut (l .state) head tail .bits)
       → q ≡ place + length (wordOut (l .state) head tail .bits) → length after ≡ length out → Bytes after
       → Loop before vs s₀ after (zeroSet ∷ zeroSet ∷ []) q z o true (i + run)
   unfolding inRun

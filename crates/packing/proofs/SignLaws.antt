@@ -6,7 +6,7 @@ use native.Mathlib.Omega.{arith}
 use borrow.Author.Tests.{ltb-true}
 use lib.IntN.{ℤ, pos, negsuc}
 use lib.Signed.{ltZ}
-use Rattle.samples.proofs.PartLaws.{clash}
+use Rattle.word_state.proofs.FlagLaws.{clash}
 use Rattle.packing.specs.Packing.{sign}
 
 -- a residual below 0 has sign bit 1

@@ -8,10 +8,11 @@ use native.Mathlib.Omega.{arith}
 use lib.IntN.{ℤ, pos, negsuc}
 use lib.ListN.{length-append}
 use lib.Signed.{mag}
+use Rattle.answers.specs.Limits.{residualSpan}
 use Rattle.bits.specs.Bits.{low}
 use Rattle.bits.proofs.BitLaws.{length-low}
-use Rattle.entropy.specs.Medians.{Medians}
-use Rattle.packing.specs.Counts.{Small, count}
+use Rattle.entropy.specs.Medians.{Medians, Small}
+use Rattle.packing.specs.Counts.{count}
 use Rattle.packing.specs.Packing.{sign, prefixOf, valueField}
 use Rattle.packing.specs.Written.{prefixField, codeField}
 use Rattle.packing.specs.View.{Gathers, LocatedIs, PutIs, WordIs}
@@ -25,10 +26,10 @@ use Rattle.packing.proofs.WrittenLaws.{known}
 pub record Fits (r : Located) : Type 0 where
   pub within : r .code ≤ r .last
   pub wide : r .last < 268435456
-  pub few : r .count < 1879048192
+  pub few : r .count < residualSpan
 
 -- so it is for every residual in the span
-pub located-fits : (m : Medians) (x : ℕ) (r : Located) → Small m → x < 1879048192 → LocatedIs m x r → Fits r
+pub located-fits : (m : Medians) (x : ℕ) (r : Located) → Small m → x < residualSpan → LocatedIs m x r → Fits r
 located-fits m x r s h l =
     let k = smallest m x s h in
     record { within = omega (arith, l .code-is, l .last-is, k .plain); wide = rw (l .last-is) (k .plain .wide); few = omega (arith, l .count-is, k .within) }
@@ -67,6 +68,6 @@ word-put before after at m v lz lo more x s p place r c xe l se g pe h =
     known (codeField (r .last) (r .code) ++ low 1 s) c g .bits ∙ rw (l .last-is, l .code-is, xe, se) in
     let q : p ≡ prefixOf (count m (mag v)) lo more = pe ∙ ap (λ (n : ℕ). prefixOf n lo more) (l .count-is ∙ ap (count m) xe) in
     record {
-      laid = rw (f, q) at h;
+      put-is = rw (f, q) at h;
       medians-are = rw xe at (l .medians-are);
     }

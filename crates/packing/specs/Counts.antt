@@ -1,16 +1,10 @@
 -- Document 01, "Packing" (K3): "the smallest count k whose interval contains v".
 -- Assumes nothing.
 use mathlib.Core.Bool.{Bool, cond, _&&_}
-use Prim.Native.Nat.{ℕ, zero, suc, _≤_}
+use Prim.Native.Nat.{ℕ, zero, suc}
 use lib.Dec.{leb}
 use Rattle.entropy.specs.Medians.{Medians}
 use Rattle.medians.specs.Interval.{lowOf, highOf}
-
--- each median is a number of 32 bits
-pub record Small (m : Medians) : Type 0 where
-  pub small0 : m .m0 ≤ 4294967295
-  pub small1 : m .m1 ≤ 4294967295
-  pub small2 : m .m2 ≤ 4294967295
 
 -- the interval of count k contains v
 abbrev pub contains : Medians → ℕ → ℕ → Bool

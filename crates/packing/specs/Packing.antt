@@ -6,11 +6,11 @@ use Prim.Native.Nat.{ℕ, zero, suc, _+_, _-_, _*_}
 use lib.Dec.{ltb}
 use lib.IntN.{ℤ, pos, negsuc}
 use lib.Signed.{mag}
+use Rattle.answers.specs.Limits.{residualSpan}
 use Rattle.bits.specs.Bits.{val, low}
 use Rattle.entropy.specs.Medians.{Medians}
 use Rattle.medians.specs.Interval.{lowOf, highOf}
-use Rattle.samples.specs.State.{State, due, other, paid, inRun, unbroken, cleared, flagged, after, runDue}
-use Rattle.samples.specs.Word.{onZeros}
+use Rattle.word_state.specs.State.{State, due, other, paid, inRun, unbroken, cleared, flagged, after, runHere, onZeros}
 use Rattle.packing.specs.Counts.{count}
 use Rattle.packing.specs.Written.{runField, prefixField, codeField}
 
@@ -34,7 +34,7 @@ sign (negsuc n) = 1
 -- every residual lies within demand 3's span, -1,879,048,192 to 1,879,048,191
 unfoldable pub spanned : List ℤ → Bool
 spanned [] = true
-spanned (v ∷ vs) = ltb (mag v) 1879048192 && spanned vs
+spanned (v ∷ vs) = ltb (mag v) residualSpan && spanned vs
 
 -- bits, and the state after them
 pub record Out : Type 0 where
@@ -68,14 +68,13 @@ plainOut s v vs =
     (behind (prefixField (prefixOf (count (due s) (mag v)) (s .lastOne) (ahead (other s) vs)))
     (valueOut (count (due s) (mag v)) (flagged (ahead (other s) vs) s) v))
 
--- "Where a run length is due, write the length of the unbroken stretch of zero residuals that starts here. If that is 0, or none is due", the word (K2)
+-- "Where a run length is due, write the length of the unbroken stretch of zero residuals that starts here. If that is 0, or none is due", the word (K2);
+-- run_break is clear then (W2)
 unfoldable pub freshOut : State → ℤ → List ℤ → Out
 freshOut s v vs =
-    cond (s .runBreak)
+    cond (runHere s)
+    (behind (runField (zeros (v ∷ vs))) (onZeros (zeros (v ∷ vs)) (λ d. silent (inRun d s)) (plainOut (unbroken s) v vs)))
     (plainOut (unbroken s) v vs)
-    (cond (runDue s)
-    (behind (runField (zeros (v ∷ vs))) (onZeros (zeros (v ∷ vs)) (λ d. silent (inRun d s)) (plainOut s v vs)))
-    (plainOut s v vs))
 
 -- a debt of d means that the next d residuals are zeros already written
 unfoldable pub wordOut : State → ℤ → List ℤ → Out

@@ -1,23 +1,26 @@
 -- What the code's structs stand for.
 -- Assumes nothing.
 use mathlib.Core.Path.{_≡_}
-use mathlib.Core.Bool.{Bool, false, not, cond, _&&_}
+use mathlib.Core.Bool.{Bool, false, cond}
 use mathlib.Core.List.{List, [], _∷_, _++_}
 use Prim.Native.Nat.{ℕ, zero, suc, _+_, _-_, _≤_, _<_}
-use lib.Dec.{leb, ltb}
+use lib.Dec.{ltb}
 use lib.IntN.{ℤ, pos, negsuc}
 use lib.ListN.{length, drop}
 use lib.Signed.{mag}
 use Rattle.bits.specs.Bits.{num}
 use Rattle.bits.specs.Laid.{put}
-use Rattle.entropy.specs.Medians.{Medians, MedianPair, pairOf}
+use Rattle.answers.specs.declared.Outcome.{Outcome}
+use Rattle.answers.specs.Limits.{residualSpan}
+use Rattle.entropy.specs.Medians.{Medians, MedianPair, pairOf, zeroPair, Small}
 use Rattle.medians.specs.Interval.{g, lowOf, highOf}
 use Rattle.medians.specs.Adaptation.{up, adapt}
-use Rattle.packing.specs.Counts.{Small, count}
-use Rattle.samples.specs.State.{State, start, due, other, side, flip, inRun}
+use Rattle.packing.specs.Counts.{count}
+use Rattle.word_state.specs.State.{State, start, due, other, side, flip, inRun}
 use Rattle.packing.specs.Packing.{zeros, valueField, prefixOf, wordOut, packed}
 use Rattle.packing.specs.Written.{runField, prefixField}
-use Rattle.packing.specs.declared.packing.Packed.{Packed}
+use Rattle.packing.specs.declared.PackAnswer.{PackAnswer}
+use Rattle.packing.specs.declared.writing.Packed.{Packed}
 use Rattle.packing.specs.declared.word.Before.{Before}
 use Rattle.packing.specs.declared.word.Turn.{Turn}
 use Rattle.packing.specs.declared.word.Word.{Word}
@@ -39,7 +42,7 @@ pub record LocatedIs (m : Medians) (v : ℕ) (r : Located) : Type 0 where
 -- v lies past the first two intervals by `rest`, and the first two medians move up
 pub record Above (m : Medians) (v rest m0 m1 c : ℕ) : Type 0 where
   pub small : Small m
-  pub span : v < 1879048192
+  pub span : v < residualSpan
   pub past : g (m .m0) + g (m .m1) + rest ≡ v
   pub first : m0 ≡ up 128 (m .m0)
   pub second : m1 ≡ up 64 (m .m1)
@@ -63,16 +66,12 @@ wordField lastZero lastOne more m v =
 
 -- such a word written, and the medians after it
 pub record WordIs (before after : List ℕ) (at : ℕ) (m : Medians) (v : ℤ) (lastZero lastOne more : Bool) (r : Word) : Type 0 where
-  pub laid : PutIs before after at (wordField lastZero lastOne more m v) (r .place)
+  pub put-is : PutIs before after at (wordField lastZero lastOne more m v) (r .place)
   pub medians-are : record { m0 = r .m0; m1 = r .m1; m2 = r .m2 } ≡ adapt m (count m (mag v))
-
--- whether a run length is due, by the first medians of both channels and the flags
-abbrev pub runTest : ℕ → ℕ → Bool → Bool → Bool → Bool
-runTest a b lastZero lastOne runBreak = leb a 1 && leb b 1 && not lastZero && not lastOne && not runBreak
 
 -- the run length written where it is due
 pub record BeforeIs (before after : List ℕ) (at : ℕ) (asked : Bool) (vs : List ℤ) (r : Before) : Type 0 where
-  pub laid : PutIs before after at (cond asked (runField (zeros vs)) []) (r .place)
+  pub put-is : PutIs before after at (cond asked (runField (zeros vs)) []) (r .place)
   pub run-is : r .run ≡ cond asked (zeros vs) 0
 
 -- what the loop holds of a state that owes no zeros: the medians of the channel due and of the other, and the flags
@@ -95,7 +94,7 @@ pub record Next (s t : State) (m : Medians) (lastZero lastOne : Bool) : Type 0 w
   pub break-is : t .runBreak ≡ false
 
 -- a run takes it to t
-pub record RunIs (s t : State) (vs : List ℤ) (run : ℕ) (lastZero lastOne : Bool) : Type 0 where
+pub record RunTakes (s t : State) (vs : List ℤ) (run : ℕ) (lastZero lastOne : Bool) : Type 0 where
   pub length-is : run ≡ zeros vs
   pub state-is : t ≡ inRun (run - 1) s
   pub no-zero : s .lastZero ≡ false
@@ -105,9 +104,9 @@ pub record RunIs (s t : State) (vs : List ℤ) (run : ℕ) (lastZero lastOne : B
 
 -- what a turn of the loop writes for the residual v before vs in the state s is what the definition writes for it
 pub record Turned (before after : List ℕ) (at : ℕ) (s : State) (v : ℤ) (vs : List ℤ) (r : Turn) : Type 0 where
-  pub laid : PutIs before after at (wordOut s v vs .bits) (r .place)
+  pub put-is : PutIs before after at (wordOut s v vs .bits) (r .place)
   pub word : r .run ≡ 0 → Next s (wordOut s v vs .next) (record { m0 = r .m0; m1 = r .m1; m2 = r .m2 }) (r .«last_zero») (r .«last_one»)
-  pub run : 0 < r .run → RunIs s (wordOut s v vs .next) (v ∷ vs) (r .run) (r .«last_zero») (r .«last_one»)
+  pub run : 0 < r .run → RunTakes s (wordOut s v vs .next) (v ∷ vs) (r .run) (r .«last_zero») (r .«last_one»)
 
 -- in every state that has these medians and flags
 pub record TurnIs (before after : List ℕ) (at : ℕ) (d o : Medians) (lastZero lastOne runBreak : Bool) (v : ℤ) (vs : List ℤ) (r : Turn) : Type 0 where
@@ -120,9 +119,15 @@ pub record PackedIs (before after : List ℕ) (seeds : MedianPair) (vs : List �
   pub medians-are : pairOf (r .medians)
       ≡ record { left = packed (start (seeds .left) (seeds .right)) vs .next .left; right = packed (start (seeds .left) (seeds .right)) vs .next .right }
 
+-- what the entry hands back on refusal
+pub record Refuses (o : Outcome) (r : PackAnswer) : Type 0 where
+  pub outcome-is : r .outcome ≡ o
+  pub no-bits : r .bits ≡ 0
+  pub no-medians : pairOf (r .medians) ≡ zeroPair
+
 -- 1 for a residual outside the span
 abbrev pub excessOf : ℤ → ℕ
-excessOf v = cond (ltb (mag v) 1879048192) 0 1
+excessOf v = cond (ltb (mag v) residualSpan) 0 1
 
 -- 1 for a residual other than 0
 abbrev pub otherOf : ℤ → ℕ

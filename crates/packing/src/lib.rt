@@ -1,10 +1,10 @@
 // Implements document 01, "Packing": the residuals of a stereo recording as the words that reading reads. From the bottom: a word's bits gathered in one
 // number and laid byte by byte (`laying`), the fields as numbers or laid (`written`), where a residual lies among the intervals (`locating`), stretches
-// of zeros and the span (`zeros`), one word with what goes before it (`word`), all words and the entry (`packing`).
+// of zeros and the span (`zeros`), one word with what goes before it (`word`), all words and the entry (`writing`).
 mod laying;
 mod locating;
-pub mod packing;
 mod word;
+pub mod writing;
 mod written;
 mod zeros;
 

@@ -3,8 +3,8 @@
 ghost use mathlib.Core.Path.{_≡_};
 ghost use Prim.Native.Nat.{_<_};
 ghost use lib.Signed.{mag};
-ghost use Rattle.entropy.specs.Medians.{mediansOf};
-ghost use Rattle.packing.specs.Counts.{Small};
+ghost use Rattle.answers.specs.Limits.{residualSpan};
+ghost use Rattle.entropy.specs.Medians.{mediansOf, Small};
 ghost use Rattle.packing.specs.Packing.{sign};
 ghost use Rattle.packing.specs.View.{AboveIs, LocatedIs};
 use entropy::AdaptiveMedians;
@@ -40,7 +40,7 @@ pub fn sign_bit(residual: i32) -> u32
 
 // Where a magnitude lies that is `rest` past the first two intervals, `m0` and `m1` being the first two medians after it and `c` the third before.
 fn locate_above(rest: u32, m0: u32, m1: u32, c: u32) -> Located
-    requires { ⌜ rest < 1879048192 ⌝ }
+    requires { ⌜ rest < residualSpan ⌝ }
     ensures { λ r. ⌜ AboveIs rest m0 m1 c r ⌝ }
 {
     let third = c / 16 + 1;
@@ -69,7 +69,7 @@ fn locate_above(rest: u32, m0: u32, m1: u32, c: u32) -> Located
 
 // Where a magnitude lies among the intervals of a set of medians.
 pub fn locate(medians: AdaptiveMedians, magnitude: u32) -> Located
-    requires { ⌜ Small (mediansOf medians) × (magnitude < 1879048192) ⌝ }
+    requires { ⌜ Small (mediansOf medians) × (magnitude < residualSpan) ⌝ }
     ensures { λ r. ⌜ LocatedIs (mediansOf medians) magnitude r ⌝ }
 {
     let m = medians.values;

@@ -7,12 +7,12 @@ ghost use Prim.Native.Nat.{suc, _+_, _-_, _*_, _^_, _≤_, _<_};
 ghost use lib.IntN.{pos};
 ghost use lib.ListN.{length, drop, getD};
 ghost use lib.Signed.{mag};
+ghost use Rattle.answers.specs.Limits.{residualSpan, maxElements, maxWordBits};
 ghost use Rattle.bits.specs.Bits.{low, val};
-ghost use Rattle.entropy.specs.Medians.{mediansOf};
-ghost use Rattle.packing.specs.Counts.{Small};
+ghost use Rattle.entropy.specs.Medians.{mediansOf, Small};
 ghost use Rattle.packing.specs.Packing.{ahead, prefixOf};
 ghost use Rattle.packing.specs.Written.{prefixField};
-ghost use Rattle.packing.specs.View.{PutIs, BeforeIs, WordIs, TurnIs, runTest};
+ghost use Rattle.packing.specs.View.{PutIs, BeforeIs, WordIs, TurnIs};
 use crate::laying::lay;
 use crate::locating::locate;
 use crate::locating::magnitude;
@@ -25,6 +25,7 @@ use crate::written::put_run;
 use crate::zeros::zeros_from;
 use bits::write::put_bits;
 use entropy::AdaptiveMedians;
+use word_state::zero_run_eligible;
 
 // Where a word ends, and the medians of its channel after it.
 pub struct Word {
@@ -67,7 +68,7 @@ fn less(count: u32, last_one: bool) -> u32
 
 // The value of a prefix: twice that, and the flag that tells of the next word.
 fn prefix_of(count: u32, last_one: bool, more: bool) -> u32
-    requires { ⌜ count < 1879048192 ⌝ }
+    requires { ⌜ count < residualSpan ⌝ }
     ensures { λ r. ⌜ r ≡ prefixOf count «last_one» more ⌝ }
 {
     let twice = 2 * less(count, last_one);
@@ -108,7 +109,7 @@ fn put_word(
     more: bool,
 ) -> Word
     requires { ⌜ (at ≤ 8) × (at + 110 ≤ 8 * length (now out)) ⌝ }
-    requires { ⌜ Small (mediansOf medians) × (mag residual < 1879048192) ⌝ }
+    requires { ⌜ Small (mediansOf medians) × (mag residual < residualSpan) ⌝ }
     ensures { λ r. ⌜ WordIs (now (out .entry)) (now (out .exit)) at (mediansOf medians) residual «last_zero» «last_one» more r ⌝ }
 {
     let located = locate(medians, magnitude(residual));
@@ -140,28 +141,9 @@ fn is_ahead(medians: AdaptiveMedians, residuals: &[i32], next: usize) -> bool
     false
 }
 
-// Whether a run length is due, `a` and `b` being the first medians of both channels.
-fn run_due(a: u32, b: u32, last_zero: bool, last_one: bool, run_break: bool) -> bool
-    ensures { λ r. ⌜ r ≡ runTest a b «last_zero» «last_one» «run_break» ⌝ }
-{
-    if a > 1 {
-        return false;
-    }
-    if b > 1 {
-        return false;
-    }
-    if last_zero {
-        return false;
-    }
-    if last_one {
-        return false;
-    }
-    !run_break
-}
-
 // The run length, where one is due.
 fn put_before(out: &mut [u8], at: usize, residuals: &[i32], i: usize, due: bool) -> Before
-    requires { ⌜ (at < 8) × (at + 111 ≤ 8 * length (now out)) × (i ≤ length (now residuals)) × (length (now residuals) ≤ 262144) ⌝ }
+    requires { ⌜ (at < 8) × (at + maxWordBits ≤ 8 * length (now out)) × (i ≤ length (now residuals)) × (length (now residuals) ≤ maxElements) ⌝ }
     ensures { λ r. ⌜ BeforeIs (now (out .entry)) (now (out .exit)) at due (drop i (now (residuals .entry))) r ⌝ }
 {
     if due {
@@ -216,13 +198,11 @@ pub fn put_turn(
     last_one: bool,
     run_break: bool,
 ) -> Turn
-    requires { ⌜ (at < 8) × (at + 111 ≤ 8 * length (now out)) × (i < length (now residuals)) × (length (now residuals) ≤ 262144) ⌝ }
-    requires { ⌜ Small (mediansOf due) × Small (mediansOf other) × (mag (getD (now residuals) i (pos 0)) < 1879048192) ⌝ }
+    requires { ⌜ (at < 8) × (at + maxWordBits ≤ 8 * length (now out)) × (i < length (now residuals)) × (length (now residuals) ≤ maxElements) ⌝ }
+    requires { ⌜ Small (mediansOf due) × Small (mediansOf other) × (mag (getD (now residuals) i (pos 0)) < residualSpan) ⌝ }
     ensures { λ r. ⌜ TurnIs (now (out .entry)) (now (out .exit)) at (mediansOf due) (mediansOf other) «last_zero» «last_one» «run_break» (getD (now (residuals .entry)) i (pos 0)) (drop (suc i) (now (residuals .entry))) r ⌝ }
 {
-    let d = due.values;
-    let o = other.values;
-    let asked = run_due(d[0], o[0], last_zero, last_one, run_break);
+    let asked = zero_run_eligible(due, other, run_break, last_zero, last_one);
     let before = put_before(out, at, residuals, i, asked);
     if before.run > 0 {
         return run_turn(before, last_zero, last_one);

@@ -4,9 +4,11 @@ ghost use mathlib.Core.Path.{_≡_};
 ghost use Prim.Native.Nat.{_+_, _≤_};
 ghost use lib.Dec.{leb};
 ghost use lib.ListN.{length, drop};
+ghost use Rattle.answers.specs.Limits.{maxElements};
 ghost use Rattle.packing.specs.Packing.{spanned, zeros};
 ghost use Rattle.packing.specs.View.{excessOf, otherOf, SkipIs};
 use crate::locating::magnitude;
+use answers::limits::RESIDUAL_SPAN;
 
 // 1 for a residual other than 0, 0 for 0.
 fn other(residual: i32) -> u32
@@ -63,7 +65,7 @@ pub fn zeros_from(residuals: &[i32], first: usize) -> usize
 fn excess(residual: i32) -> u32
     ensures { λ r. ⌜ r ≡ excessOf residual ⌝ }
 {
-    if magnitude(residual) < 1879048192 {
+    if magnitude(residual) < RESIDUAL_SPAN {
         0
     } else {
         1
@@ -72,7 +74,7 @@ fn excess(residual: i32) -> u32
 
 // Whether every residual lies within the span.
 pub fn in_span(residuals: &[i32]) -> bool
-    requires { ⌜ length (now residuals) ≤ 262144 ⌝ }
+    requires { ⌜ length (now residuals) ≤ maxElements ⌝ }
     ensures { λ r. ⌜ r ≡ spanned (now (residuals .entry)) ⌝ }
 {
     let mut outside: u32 = 0;

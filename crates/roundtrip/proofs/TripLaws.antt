@@ -9,6 +9,7 @@ use borrow.Author.Tests.{le-ltb, eq-eqb, ne-eqb, ltb-false}
 use lib.Dec.{ltb}
 use lib.IntN.{ℤ}
 use lib.ListN.{length, take, drop}
+use Rattle.entropy.proofs.SeedBounds.{seeds-small}
 use Rattle.answers.specs.declared.Outcome.{Outcome}
 use Rattle.answers.specs.declared.Refusal.{Refusal}
 use Rattle.answers.specs.Numbers.{outcomeNumber}
@@ -19,10 +20,9 @@ use Rattle.passes.specs.declared.DecorrPass.{DecorrPass}
 use Rattle.passes.specs.Run.{Fit, Chain, decorrelated, analysed}
 use Rattle.passes.proofs.RunInverse.{decorrelated-analysed}
 use Rattle.decorrelation.specs.Lists.{Answer, allValid, analysisNumber, decorrelationNumber, pickNumber, answerBy, arrayAnswer, arrayBy, chained, followed}
-use Rattle.bits.proofs.LaidLaws.{length-laid}
+use Rattle.bits.proofs.LaidLaws.{length-holding}
 use Rattle.entropy.specs.Seed.{seedMedians}
 use Rattle.packing.specs.Entry.{PackTold, packToldOf, packedFrom, packEntry, packedBytes}
-use Rattle.packing.proofs.EntryLaws.{seeds-small}
 use Rattle.packing.proofs.SizeLaws.{bytes-enough}
 use Rattle.packing.specs.declared.PackAnswer.{PackAnswer}
 use Rattle.packing.proofs.TripLaws.{packing-accepted, pack-refused, packed-is, bytes-few, read-what-was-packed}
@@ -93,8 +93,8 @@ trip-ends v entropy frames buffer after w k u =
     let b : w .bits ≡ length f = ap (λ (a : PackTold). a .bits) (k ∙ packed-is v entropy frames buffer acc) in
     let q = bytes-enough (m .left) (m .right) v frames (s .0) (s .1) (acc .span) (acc .frames-few) (acc .list-is) in
     record {
-      within = omega (arith, q, length-laid f, acc .room);
-      few = omega (arith, q, length-laid f, acc .frames-few);
+      within = omega (arith, q, length-holding f, acc .room);
+      few = omega (arith, q, length-holding f, acc .frames-few);
     }
 
 -- ---- the ways out

@@ -7,7 +7,7 @@ use mir.Syntax.{w32}
 use mir.Val.{SFits}
 use lib.IntN.{pos}
 use lib.Signed.{mag}
-use Rattle.samples.proofs.SignLaws.{neg-is, pos-is}
+use Rattle.word_state.proofs.SignLaws.{neg-is, pos-is}
 use Rattle.packing.proofs.locating.magnitude.Statement.{statement}
 use Rattle.packing.proofs.locating.magnitude.Tie as tie
 

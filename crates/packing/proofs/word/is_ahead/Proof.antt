@@ -8,7 +8,7 @@ use mir.Facts.{toZ-ofZ}
 use mir.Syntax.{w32}
 use mir.Val.{SFits}
 use Rattle.entropy.specs.Medians.{mediansOf}
-use Rattle.packing.proofs.TurnLaws.{ahead-some, ahead-end}
+use Rattle.packing.proofs.AheadLaws.{ahead-some, ahead-end}
 use borrow.Author.Needs.{needs}
 use Rattle.packing.proofs.word.is_ahead.Statement.{statement}
 use Rattle.packing.proofs.word.is_ahead.Tie as tie

@@ -5,10 +5,11 @@ use Prim.Native.Nat.{_≤_}
 use native.Mathlib.Omega.{arith}
 use denote.Ref.{now}
 use lib.ListN.{length-drop, drop}
+use Rattle.answers.specs.Limits.{maxElements}
 use Rattle.bits.proofs.LaidLaws.{put-nil}
 use Rattle.packing.proofs.LongLaws.{run-long}
 use Rattle.packing.proofs.TurnLaws.{before-run}
-use Rattle.packing.proofs.StepLaws.{zeros-le}
+use Rattle.packing.proofs.InStepLaws.{zeros-le}
 use borrow.Author.Needs.{needs}
 use Rattle.packing.proofs.word.put_before.Statement.{statement}
 use Rattle.packing.proofs.word.put_before.Tie as tie
@@ -16,7 +17,7 @@ use Rattle.packing.proofs.word.put_before.Tie as tie
 zeros-from-requires : tie.Need-zeros-from-requires
 zeros-from-requires c κs = search needs
 
-few : (c : tie.After-zeros-from) → c .zeros-from .result ≤ 262144
+few : (c : tie.After-zeros-from) → c .zeros-from .result ≤ maxElements
 few c =
     let a = c .before .before .before .args in
     omega (arith, c .zeros-from .ensures, zeros-le (drop (a .i) (now (a .residuals))), length-drop (a .i) (now (a .residuals)))
@@ -39,7 +40,7 @@ returns c =
     rw (x .before .if1 .taken) (before-run (now (a .out)) _ (a .at) (drop (a .i) (now (a .residuals))) (x .zeros-from .result) _ (x .zeros-from .ensures) (c .before .before .put-run .ensures))
 
 returns-2 : tie.Need-returns-2
-returns-2 c = rw (c .if1 .left) (record { laid = record { bytes = sym (put-nil _ _); place = omega arith }; run-is = refl })
+returns-2 c = rw (c .if1 .left) (record { put-is = record { bytes = sym (put-nil _ _); place = omega arith }; run-is = refl })
 
 pub put-before-spec : {M : Type 1} → statement M
 put-before-spec =

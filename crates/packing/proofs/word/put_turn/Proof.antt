@@ -14,23 +14,23 @@ use mir.Syntax.{w32}
 use mir.Val.{SFits}
 use Rattle.entropy.specs.Medians.{mediansOf}
 use Rattle.packing.specs.Packing.{ahead}
-use Rattle.packing.specs.View.{runTest, BeforeIs, WordIs}
+use Rattle.packing.specs.View.{BeforeIs, WordIs}
 use Rattle.packing.specs.declared.word.Turn.{Turn}
-use Rattle.packing.proofs.TurnLaws.{before-few, turn-run, turn-word}
+use Rattle.packing.proofs.TurnLaws.{before-few, asked, turn-run, turn-word}
 use borrow.Author.Needs.{needs}
 use Rattle.packing.proofs.word.put_turn.Statement.{statement}
 use Rattle.packing.proofs.word.put_turn.Tie as tie
 
 abbrev start : tie.After-put-before → tie.Start
-start c = c .before .before .before .before .before .before
+start c = c .before .before .before .before
 
 -- the run length, by the code's test
 before-is : (c : tie.After-put-before) → let a = start c .args in let vs = now (a .residuals) in
-    BeforeIs (now (a .out)) (c .put-before .last .0) (a .at) (runTest (mediansOf (a .due) .m0) (mediansOf (a .other) .m0) (a .last-zero) (a .last-one) (a .run-break))
+    BeforeIs (now (a .out)) (c .put-before .last .0) (a .at) (asked (mediansOf (a .due)) (mediansOf (a .other)) (a .last-zero) (a .last-one) (a .run-break))
     (getD vs (a .i) (pos 0) ∷ drop (suc (a .i)) vs) (c .put-before .result)
 before-is c =
     let a = start c .args in
-    rw (← c .before .before .run-due .ensures, ← drop-cons (now (a .residuals)) (a .i) (pos 0) (omega arith)) (c .put-before .ensures)
+    rw (← c .before .before .zero-run-eligible .ensures, ← drop-cons (now (a .residuals)) (a .i) (pos 0) (omega arith)) (c .put-before .ensures)
 
 -- whether the next word's count is above 0
 more-is : (c : tie.After-is-ahead) → let a = start (c .before .before .before .before .before) .args in
@@ -48,14 +48,8 @@ word-is c =
     let f : SFits w32 (getD (now (a .residuals)) (a .i) (pos 0)) = search needs in
     rw (← more-is (c .before .before .before), ← toZ-ofZ f) (c .put-word .ensures)
 
-array-read-run-due : tie.Need-array-read-run-due
-array-read-run-due c = search needs
-
-array-read-run-due-2 : tie.Need-array-read-run-due-2
-array-read-run-due-2 c = search needs
-
-run-due-requires : tie.Need-run-due-requires
-run-due-requires c κs = search needs
+zero-run-eligible-requires : tie.Need-zero-run-eligible-requires
+zero-run-eligible-requires c κs = search needs
 
 put-before-requires : tie.Need-put-before-requires
 put-before-requires c κs = search needs
@@ -126,9 +120,7 @@ pub put-turn-spec : {M : Type 1} → statement M
 put-turn-spec =
     tie.close
     (tie.spec
-    array-read-run-due
-    array-read-run-due-2
-    run-due-requires
+    zero-run-eligible-requires
     put-before-requires
     run-turn-requires
     same-length

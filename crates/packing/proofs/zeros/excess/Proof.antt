@@ -3,7 +3,7 @@
 use mir.Facts.{toZ-ofZ}
 use mir.Syntax.{w32}
 use mir.Val.{SFits}
-use Rattle.packing.proofs.EntryLaws.{excess-in, excess-out}
+use Rattle.packing.proofs.SpanLaws.{excess-in, excess-out}
 use borrow.Author.Needs.{needs}
 use Rattle.packing.proofs.zeros.excess.Statement.{statement}
 use Rattle.packing.proofs.zeros.excess.Tie as tie

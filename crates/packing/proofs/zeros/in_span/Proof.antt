@@ -10,7 +10,7 @@ use mir.Facts.{toZ-ofZ}
 use mir.Syntax.{w32}
 use mir.Val.{SFits}
 use Rattle.packing.specs.View.{excessOf}
-use Rattle.packing.proofs.EntryLaws.{excess-le, Spans, spans-step, spans-end}
+use Rattle.packing.proofs.SpanLaws.{excess-le, Spans, spans-step, spans-end}
 use Rattle.packing.proofs.zeros.in_span.Statement.{statement}
 use Rattle.packing.proofs.zeros.in_span.Tie as tie
 

@@ -1,0 +1,66 @@
+-- `packing::writing::refusal_before_span` meets its contract.
+-- Assumes nothing.
+use mathlib.Core.Path.{_≡_, sym, ap, _∙_}
+use denote.Ref.{now}
+use Rattle.answers.specs.Numbers.{outcomeNumber}
+use Rattle.entropy.specs.Seed.{seedRefusal}
+use Rattle.packing.proofs.RefusalLaws.{before-frames, before-list, before-seeds, before-room, before-none}
+use borrow.Author.Needs.{needs}
+use Rattle.packing.proofs.writing.refusal_before_span.Statement.{statement}
+use Rattle.packing.proofs.writing.refusal_before_span.Tie as tie
+
+returns : tie.Need-returns
+returns c = before-frames _ _ _ _ (c .if1 .taken)
+
+mul-if2 : tie.Need-mul-if2
+mul-if2 c = search needs
+
+returns-2 : tie.Need-returns-2
+returns-2 c = before-list _ _ _ _ (c .before .if1 .left) (c .if2 .taken)
+
+stereo-pair-from-entropy-requires : tie.Need-stereo-pair-from-entropy-requires
+stereo-pair-from-entropy-requires c κs = search needs
+
+enum-told : tie.Need-enum-told
+enum-told c = search needs
+
+enum-told-2 : tie.Need-enum-told-2
+enum-told-2 c = search needs
+
+returns-3 : tie.Need-returns-3
+returns-3 c =
+    let x = c .before .before in
+    before-seeds _ _ _ _ (x .before .before .if1 .left) (x .before .if2 .left) _ _ (c .enum-told2 .given .1) (x .stereo-pair-from-entropy .ensures .0)
+
+-- the entropy payload is accepted
+seeded : (t : tie.After-enum-told) → 0 ≡ seedRefusal (now (t .before .before .before .before .before .before .args .entropy))
+seeded t = sym (ap outcomeNumber (t .enum-told .given .1)) ∙ t .before .before .stereo-pair-from-entropy .ensures .0
+
+mul-if3 : tie.Need-mul-if3
+mul-if3 c = search needs
+
+returns-4 : tie.Need-returns-4
+returns-4 c =
+    let x = c .before .before .before in
+    before-room _ _ _ _ (x .before .before .if1 .left) (x .before .if2 .left) (seeded (c .before)) (c .if3 .taken)
+
+returns-5 : tie.Need-returns-5
+returns-5 c =
+    let x = c .before .before .before in
+    before-none _ _ _ _
+    (record { frames-few = x .before .before .if1 .left; list-is = x .before .if2 .left; seeded = seeded (c .before); enough = c .if3 .left })
+
+pub refusal-before-span-spec : {M : Type 1} → statement M
+refusal-before-span-spec =
+    tie.close
+    (tie.spec
+    returns
+    mul-if2
+    returns-2
+    stereo-pair-from-entropy-requires
+    enum-told
+    enum-told-2
+    returns-3
+    mul-if3
+    returns-4
+    returns-5)

@@ -1,0 +1,91 @@
+-- Reading what packing wrote, whatever bytes follow, returns the residuals, the bits written and the medians: over the definitions of both entries.
+-- Assumes nothing.
+use mathlib.Core.Path.{_≡_, sym, ap, _∙_}
+use mathlib.Core.Bool.{Bool, true}
+use mathlib.Core.List.{List, [], _∷_, _++_, append-nil}
+use Prim.Native.Nat.{ℕ, _+_, _*_, _^_, _≤_, _<_}
+use native.Mathlib.Omega.{arith}
+use borrow.Author.Tests.{le-ltb, eq-eqb}
+use lib.IntN.{ℤ}
+use lib.ListN.{length, drop, length-append, drop-of-length-le}
+use Rattle.entropy.proofs.SeedBounds.{seeds-small}
+use Rattle.bits.specs.Bits.{bitsOf}
+use Rattle.bits.specs.Laid.{bytesHolding}
+use Rattle.bits.proofs.Trip.{at-bytes}
+use Rattle.bits.proofs.RoundTrip.{At, at-first, at-second}
+use Rattle.entropy.specs.Medians.{Medians, Small}
+use Rattle.entropy.specs.Seed.{seedRefusal, seedMedians}
+use Rattle.word_state.specs.State.{State, start}
+use Rattle.samples.specs.Reading.{Reading, reading}
+use Rattle.samples.specs.View.{toldReading, readRefusal, readEntry}
+use Rattle.packing.specs.Packing.{spanned, Out, wordOut, packed}
+use Rattle.packing.specs.Entry.{PackTold, packedFrom, packEntry, packedBytes}
+use Rattle.packing.proofs.AcceptedLaws.{packing-accepted, packed-is, bytes-are}
+use Rattle.packing.proofs.InStepLaws.{Inv, start-inv, kept}
+use Rattle.packing.proofs.SpanLaws.{spanned-parts}
+use Rattle.roundtrip.proofs.WordTrips.{word-at}
+
+-- ---- all words
+
+-- n words read, all of them accepted
+abbrev accepted : List ℤ → ℕ → State → Reading
+accepted vs p s = record { refusal = 0; samples = vs; place = p; state = s }
+
+-- words that stand at a place are read: the residuals, the place behind them and the state after them
+read-packed : {bits : List Bool} {p : ℕ} (s : State) (vs : List ℤ) → Inv s vs → spanned vs ≡ true → length vs < 2 ^ 32
+    → At bits p (packed s vs .bits) → reading bits (length vs) p s ≡ accepted vs (p + length (packed s vs .bits)) (packed s vs .next)
+unfolding reading packed
+read-packed {bits} {p} s [] i h few a = ap (λ (n : ℕ). accepted [] n s) (omega arith)
+read-packed {bits} {p} s (v ∷ vs) i h few a =
+    let o = wordOut s v vs in
+    let r = packed (o .next) vs in
+    let b = spanned-parts v vs h in
+    let t = word-at s v vs i (b .0) few (at-first (o .bits) (r .bits) a) in
+    let n = read-packed {p = p + length (o .bits)} (o .next) vs (kept s v vs i) (b .1) (omega arith) (at-second (o .bits) (r .bits) a) in
+    rw (t .reads, n) (ap (λ (n : ℕ). accepted (v ∷ vs) n (r .next)) (omega (arith, length-append (o .bits) (r .bits))))
+
+-- the packed bytes, whatever bytes follow them
+read-back : (l r : Medians) (vs : List ℤ) (behind : List ℕ) → Small l → Small r → spanned vs ≡ true → length vs < 2 ^ 32
+    → reading (bitsOf (bytesHolding (packed (start l r) vs .bits) ++ behind)) (length vs) 0 (start l r)
+    ≡ accepted vs (length (packed (start l r) vs .bits)) (packed (start l r) vs .next)
+read-back l r vs behind sl sr h few =
+    read-packed (start l r) vs (start-inv l r vs sl sr) h few (at-bytes (packed (start l r) vs .bits) behind)
+    ∙ ap (λ (n : ℕ). accepted vs n (packed (start l r) vs .next)) (omega arith)
+
+-- ---- the entries
+
+-- reading accepts such a payload and list
+reads : (entropy payload : List ℕ) (frames : ℕ) (list : List ℤ) → frames ≤ 131072 → length payload ≤ 4194304 → length list ≡ 2 * frames → 0 ≡ seedRefusal entropy
+    → readEntry entropy payload frames list
+    ≡ toldReading list (reading (bitsOf payload) (2 * frames) 0 (start (seedMedians entropy .left) (seedMedians entropy .right)))
+unfolding readEntry readRefusal
+reads entropy payload frames list f p l s =
+    rw (le-ltb 131072 frames f, le-ltb 4194304 (length payload) p, eq-eqb (length list) (2 * frames) l, ← s)
+
+-- a reading of as many samples as the list has leaves no element of it
+whole : (residuals list : List ℤ) (frames : ℕ) (w : Out) → length residuals ≡ 2 * frames → length list ≡ 2 * frames
+    → toldReading list (accepted residuals (length (w .bits)) (w .next))
+    ≡ record { refusal = 0; bits = length (w .bits); medians = record { left = w .next .left; right = w .next .right }; written = 2 * frames; list = residuals }
+whole residuals list frames w e l =
+    let d : drop (length residuals) list ≡ [] = drop-of-length-le list {i = length residuals} (omega arith) in
+    rw (d, append-nil residuals, e)
+
+-- Whatever bytes or none follow the packed bytes, within the payload limit, reading returns the residuals; the bits used are the bits written, and the
+-- medians after are the writer's.
+pub read-what-was-packed : (residuals : List ℤ) (entropy : List ℕ) (frames : ℕ) (buffer behind : List ℕ) (list : List ℤ) → let p = packEntry residuals entropy frames buffer in
+    p .refusal ≡ 0 → length (packedBytes p ++ behind) ≤ 4194304 → length list ≡ 2 * frames
+    → readEntry entropy (packedBytes p ++ behind) frames list ≡ record { refusal = 0; bits = p .bits; medians = p .medians; written = 2 * frames; list = residuals }
+read-what-was-packed residuals entropy frames buffer behind list e n l =
+    let a = packing-accepted residuals entropy frames buffer e in
+    let s = seeds-small entropy in
+    let w = packedFrom entropy residuals in
+    let b = bytes-are residuals entropy frames buffer a in
+    let m = seedMedians entropy in
+    let j : reading (bitsOf (bytesHolding (w .bits) ++ behind)) (2 * frames) 0 (start (m .left) (m .right)) ≡ accepted residuals (length (w .bits)) (w .next) =
+    ap (λ (k : ℕ). reading (bitsOf (bytesHolding (w .bits) ++ behind)) k 0 (start (m .left) (m .right))) (sym (a .list-is))
+    ∙ read-back (m .left) (m .right) residuals behind (s .0) (s .1) (a .span) (omega (arith, a .list-is, a .frames-few)) in
+    ap (λ (x : List ℕ). readEntry entropy (x ++ behind) frames list) b
+    ∙ reads entropy (bytesHolding (w .bits) ++ behind) frames list (a .frames-few) (rw b at n) l (a .seeded)
+    ∙ ap (toldReading list) j
+    ∙ whole residuals list frames w (a .list-is) l
+    ∙ ap (λ (x : PackTold). record { refusal = 0; bits = x .bits; medians = x .medians; written = 2 * frames; list = residuals }) (sym (packed-is residuals entropy frames buffer a))
