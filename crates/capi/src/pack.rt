@@ -2,7 +2,7 @@
 use answers::Refusal;
 use answers::number;
 use answers::outcome_number;
-use packing::packing::encode_packed_samples_stereo_from_entropy;
+use packing::writing::encode_packed_samples_stereo_from_entropy;
 use word_slots::lay_told;
 ghost use mathlib.Core.Path.{_≡_};
 ghost use Rattle.capi.specs.Pack.{packLeft, packCall};
