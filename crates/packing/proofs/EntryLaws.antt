@@ -1,4 +1,5 @@
--- The packing entry: what an answer tells of the input, each way out, and the answer of an accepted list.
+-- The packing entry: what an answer tells of the input, each way out, and the answer of an accepted
+-- list.
 -- Assumes nothing.
 use mathlib.Core.Path.{_≡_, refl, sym, ap, _∙_}
 use mathlib.Core.Bool.{Bool, true, false, cond}
@@ -10,7 +11,7 @@ use lib.ListN.{length, take}
 use Rattle.answers.specs.declared.Outcome.{Outcome}
 use Rattle.answers.specs.declared.Refusal.{Refusal}
 use Rattle.answers.specs.Guard.{orElse, unlessRefused}
-use Rattle.answers.specs.Limits.{maxFrames, bytesPerFrame, maxWordBits, maxElements}
+use Rattle.answers.specs.Limits.{bytesPerFrame, maxWordBits, maxElements}
 use Rattle.answers.specs.Numbers.{outcomeNumber}
 use Rattle.answers.proofs.GuardLaws.{refused-first, guard-refused, guard-accepted}
 use Rattle.answers.proofs.NumberLaws.{number-positive}
@@ -18,8 +19,8 @@ use Rattle.bits.specs.Laid.{bytesHolding}
 use Rattle.overlay.specs.Overlay.{overlay}
 use Rattle.overlay.proofs.OverlayLaws.{overlay-take}
 use Rattle.bits.proofs.LaidLaws.{put-start, length-holding}
-use Rattle.entropy.specs.Medians.{MedianPair, pairOf, Small}
-use Rattle.entropy.specs.Seed.{seedRefusal, seedMedians}
+use Rattle.entropy.specs.Medians.{MedianPair, pairOf}
+use Rattle.entropy.specs.Seed.{seedMedians}
 use Rattle.entropy.proofs.SeedBounds.{seeds-small}
 use Rattle.word_state.specs.State.{start}
 use Rattle.packing.specs.Packing.{spanned, packed}

@@ -1,4 +1,5 @@
--- Analysis and decorrelation by the first n passes of an array: what they accept, and what they then leave.
+-- Analysis and decorrelation by the first n passes of an array: what they accept, and what they
+-- then leave.
 -- Assumes nothing.
 use mathlib.Core.Path.{_≡_, refl}
 use mathlib.Core.Bool.{Bool, true, false}

@@ -1,4 +1,5 @@
--- Reading what packing wrote, whatever bytes follow, returns the residuals, the bits written and the medians: over the definitions of both entries.
+-- Reading what packing wrote, whatever bytes follow, returns the residuals, the bits written and
+-- the medians: over the definitions of both entries.
 -- Assumes nothing.
 use mathlib.Core.Path.{_≡_, sym, ap, _∙_}
 use mathlib.Core.Bool.{Bool, true}
@@ -33,7 +34,8 @@ use Rattle.roundtrip.proofs.WordTrips.{word-at}
 abbrev accepted : List ℤ → ℕ → State → Reading
 accepted vs p s = record { refusal = 0; samples = vs; place = p; state = s }
 
--- words that stand at a place are read: the residuals, the place behind them and the state after them
+-- words that stand at a place are read: the residuals, the place behind them and the state after
+-- them
 read-packed : {bits : List Bool} {p : ℕ} (s : State) (vs : List ℤ) → Inv s vs → spanned vs ≡ true → length vs < 2 ^ 32
     → At bits p (packed s vs .bits) → reading bits (length vs) p s ≡ accepted vs (p + length (packed s vs .bits)) (packed s vs .next)
 unfolding reading packed
@@ -70,8 +72,8 @@ whole : (residuals list : List ℤ) (frames : ℕ) (w : Out) → length residual
     ≡ record { refusal = 0; bits = length (w .bits); medians = record { left = w .next .left; right = w .next .right }; written = 2 * frames; list = residuals }
 whole residuals list frames w e l = rw (overlay-whole list residuals (omega arith), e)
 
--- Whatever bytes or none follow the packed bytes, within the payload limit, reading returns the residuals; the bits used are the bits written, and the
--- medians after are the writer's.
+-- Whatever bytes or none follow the packed bytes, within the payload limit, reading returns the
+-- residuals; the bits used are the bits written, and the medians after are the writer's.
 pub read-what-was-packed : (residuals : List ℤ) (entropy : List ℕ) (frames : ℕ) (buffer behind : List ℕ) (list : List ℤ) → let p = packEntry residuals entropy frames buffer in
     p .refusal ≡ 0 → length (packedBytes p ++ behind) ≤ maxPayloadBytes → length list ≡ 2 * frames
     → readEntry entropy (packedBytes p ++ behind) frames list ≡ record { refusal = 0; bits = p .bits; medians = p .medians; written = 2 * frames; list = residuals }

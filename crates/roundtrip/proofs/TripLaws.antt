@@ -18,7 +18,7 @@ use Rattle.answers.proofs.NumberLaws.{number-positive}
 use Rattle.samples.specs.View.{ReadTold, viewReading, readEntry}
 use Rattle.samples.specs.declared.ReadAnswer.{ReadAnswer}
 use Rattle.passes.specs.declared.DecorrPass.{DecorrPass}
-use Rattle.passes.specs.Run.{Fit, Chain, decorrelated, analysed}
+use Rattle.passes.specs.Run.{Fit, Chain, decorrelated}
 use Rattle.passes.proofs.RunInverse.{analysed-length, decorrelated-analysed}
 use Rattle.decorrelation.specs.Lists.{Answer, allValid, analysisNumber, arrayAnswer}
 use Rattle.packing.specs.Entry.{PackTold, viewPacking, refusalBeforeSpan, spanRefusal, packEntry, packedBytes}

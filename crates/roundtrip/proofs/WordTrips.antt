@@ -1,4 +1,5 @@
--- A word that was packed is read back: the residual, the place behind the word, and the state that packing goes on with.
+-- A word that was packed is read back: the residual, the place behind the word, and the state that
+-- packing goes on with.
 -- Assumes nothing.
 use mathlib.Core.Path.{_≡_, refl, ap, ap₂, _∙_}
 use mathlib.Core.Bool.{Bool, true, false, cond}

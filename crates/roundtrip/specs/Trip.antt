@@ -1,4 +1,5 @@
--- Demand 3 at run time: what the entry that analyses, packs, reads back, decorrelates and compares answers, and what its lent storage then holds.
+-- Demand 3 at run time: what the entry that analyses, packs, reads back, decorrelates and compares
+-- answers, and what its lent storage then holds.
 -- Assumes nothing.
 use mathlib.Core.Path.{_≡_}
 use mathlib.Core.Bool.{Bool, true, false, cond, _&&_}
@@ -16,7 +17,8 @@ use Rattle.decorrelation.specs.Lists.{allValid, analysisNumber}
 use Rattle.packing.specs.Entry.{PackTold, refusalBeforeSpan, spanRefusal, packEntry}
 use Rattle.roundtrip.specs.declared.TripAnswer.{TripAnswer}
 
--- the refusal's number (0: accepted), the bits written, whether the recording came back with as many bits used; and both lent storages
+-- the refusal's number (0: accepted), the bits written, whether the recording came back with as
+-- many bits used; and both lent storages
 pub record TripTold : Type 0 where
   pub refusal : ℕ
   pub bits : ℕ
@@ -36,7 +38,8 @@ refuseTrip scratch bytes number = record { refusal = number; bits = 0; same = fa
 abbrev pub tellTrip : List ℤ → PackTold → TripTold
 tellTrip recording p = record { refusal = 0; bits = p .bits; same = true; scratch = recording; bytes = p .bytes }
 
--- what analysis by the first `count` passes refuses (5, 9, 7), and then packing before it looks at a residual (6, 1, 2, 11)
+-- what analysis by the first `count` passes refuses (5, 9, 7), and then packing before it looks at
+-- a residual (6, 1, 2, 11)
 abbrev pub earlyRefusal : List DecorrPass → ℕ → ℕ → List ℕ → ℕ → ℕ
 earlyRefusal passes count elements entropy room =
     orElse (analysisNumber (allValid (take count passes)) count elements) (refusalBeforeSpan elements entropy (elements / 2) room)
@@ -50,8 +53,8 @@ tripRefusal passes count recording entropy scratch buffer =
 abbrev pub found : List DecorrPass → ℕ → List ℤ → List ℤ
 found passes count recording = analysed (take count passes) recording .buffer
 
--- A refusal that is known before leaves both storages as they were. 10 is known once the residuals are found: the scratch list holds them, and the
--- packed bytes keep their values
+-- A refusal that is known before leaves both storages as they were. 10 is known once the residuals
+-- are found: the scratch list holds them, and the packed bytes keep their values
 unfoldable pub tripEntry : List DecorrPass → ℕ → List ℤ → List ℕ → List ℤ → List ℕ → TripTold
 tripEntry passes count recording entropy scratch buffer =
     unlessRefused (tripRefusal passes count recording entropy scratch buffer) (refuseTrip scratch buffer)

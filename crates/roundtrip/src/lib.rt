@@ -1,5 +1,6 @@
-// Implements demand 3 at run time: analyse, pack, read back, decorrelate, compare, on lent storage. That the answer is always
-// `same` where nothing is refused is the entry's contract, from demand 3's theorem (`demand-3`).
+// Implements demand 3 at run time: analyse, pack, read back, decorrelate, compare, on lent storage.
+// That the answer is always `same` where nothing is refused is the entry's contract, from demand
+// 3's theorem (`demand-3`).
 ghost use mathlib.Core.Path.{_≡_};
 ghost use mathlib.Core.Bool.{false};
 ghost use lib.ListN.{length};
@@ -16,8 +17,9 @@ use packing::writing::encode_packed_samples_stereo_from_entropy;
 use packing::writing::refusal_before_span;
 use samples::reading::decode_packed_samples_stereo_from_entropy;
 
-// What the round trip answers: why it refused, if it did, the bits written, and whether the recording came back: reading and
-// decorrelation accept, as many bits are used as were written, and every sample is the recording's.
+// What the round trip answers: why it refused, if it did, the bits written, and whether the
+// recording came back: reading and decorrelation accept, as many bits are used as were written, and
+// every sample is the recording's.
 pub struct TripAnswer {
     pub outcome: Outcome,
     pub bits: usize,
@@ -95,9 +97,10 @@ fn refused(outcome: Outcome) -> TripAnswer
     }
 }
 
-// Runs the first `count` passes' analysis on the recording, packs the residuals, reads the packed bytes back, decorrelates what
-// was read and compares. Refuses with 6 a scratch list of another length, then as analysis does (5, 9, 7), then as packing does
-// (6, 1, 2, 11), and both lent storages keep their values; then with 10 a residual outside the span, which is known once the
+// Runs the first `count` passes' analysis on the recording, packs the residuals, reads the packed
+// bytes back, decorrelates what was read and compares. Refuses with 6 a scratch list of another
+// length, then as analysis does (5, 9, 7), then as packing does (6, 1, 2, 11), and both lent
+// storages keep their values; then with 10 a residual outside the span, which is known once the
 // scratch list holds the residuals: the packed bytes keep their values.
 pub fn round_trip(
     passes: [DecorrPass; 16],

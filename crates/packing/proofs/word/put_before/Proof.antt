@@ -14,9 +14,6 @@ use borrow.Author.Needs.{needs}
 use Rattle.packing.proofs.word.put_before.Statement.{statement}
 use Rattle.packing.proofs.word.put_before.Tie as tie
 
-zeros-from-requires : tie.Need-zeros-from-requires
-zeros-from-requires c κs = search needs
-
 few : (c : tie.After-zeros-from) → c .zeros-from .result ≤ maxElements
 few c =
     let a = c .before .before .before .args in
@@ -30,9 +27,6 @@ put-run-requires c κs =
     let r = c .before .zeros-from .result in
     omega (arith, run-long r 32 (omega arith) (omega (arith, few (c .before))) (omega (arith, few (c .before))))
 
-same-length : tie.Need-same-length
-same-length c = search needs
-
 returns : tie.Need-returns
 returns c =
     let x = c .before .before .before .before in
@@ -45,4 +39,4 @@ returns-2 c = rw (c .if1 .left) (record { put-is = record { bytes = sym (put-nil
 pub put-before-spec : {M : Type 1} → statement M
 put-before-spec =
     tie.close
-    (tie.spec zeros-from-requires cast-put-run put-run-requires same-length returns returns-2)
+    (tie.spec (λ c κs. search needs) cast-put-run put-run-requires (λ c. search needs) returns returns-2)

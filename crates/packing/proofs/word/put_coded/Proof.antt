@@ -11,22 +11,10 @@ use borrow.Author.Needs.{needs}
 use Rattle.packing.proofs.word.put_coded.Statement.{statement}
 use Rattle.packing.proofs.word.put_coded.Tie as tie
 
-lay-requires : tie.Need-lay-requires
-lay-requires c κs = search needs
-
-add-result : tie.Need-add-result
-add-result c = search needs
-
-same-length : tie.Need-same-length
-same-length c = search needs
-
 returns : tie.Need-returns
 returns c =
     let a = c .before .before .before .before .before .before .args in
     rw (c .before .before .before .before .if1 .taken) (put-low-is (now (a .out)) _ (a .at) (a .coded .count) (a .coded .value) (c .before .before .lay .ensures))
-
-gather-ones-requires : tie.Need-gather-ones-requires
-gather-ones-requires c κs = search needs
 
 lay-requires-2 : tie.Need-lay-requires-2
 lay-requires-2 c κs =
@@ -36,9 +24,6 @@ lay-requires-2 c κs =
 
 add-result-2 : tie.Need-add-result-2
 add-result-2 c = let x = c .before .before .before .before .before .before .before .before in omega (arith, x .pre .0, ones-size _ _ _ _ (c .before .before .before .before .gather-ones .ensures))
-
-same-length-2 : tie.Need-same-length-2
-same-length-2 c = search needs
 
 returns-2 : tie.Need-returns-2
 returns-2 c =
@@ -59,9 +44,6 @@ small x = let p = pow-mono {i = x .args .coded .count} {j = 29} (omega (arith, x
 cast-put-bits : tie.Need-cast-put-bits
 cast-put-bits c = record { fits = omega (arith, small (c .before .before .before .before .before .before .before .before)) }
 
-cast-put-bits-2 : tie.Need-cast-put-bits-2
-cast-put-bits-2 c = search needs
-
 put-bits-requires : tie.Need-put-bits-requires
 put-bits-requires c κs =
     let x = c .before .before .before .before .before .before .before .before in
@@ -74,9 +56,6 @@ add-result-3 c =
     let e = c .before .before .before .before .before .before .put-escaped in
     omega (arith, x .pre .0, e .ensures .1, prefix-long (x .args .prefix) (omega arith))
 
-same-length-3 : tie.Need-same-length-3
-same-length-3 c = search needs
-
 returns-3 : tie.Need-returns-3
 returns-3 c =
     let x = c .before .before .before .before .before .before .before .before .before .before .before in
@@ -88,19 +67,19 @@ pub put-coded-spec : {M : Type 1} → statement M
 put-coded-spec =
     tie.close
     (tie.spec
-    lay-requires
-    add-result
-    same-length
+    (λ c κs. search needs)
+    (λ c. search needs)
+    (λ c. search needs)
     returns
-    gather-ones-requires
+    (λ c κs. search needs)
     lay-requires-2
     add-result-2
-    same-length-2
+    (λ c. search needs)
     returns-2
     put-escaped-requires
     cast-put-bits
-    cast-put-bits-2
+    (λ c. search needs)
     put-bits-requires
     add-result-3
-    same-length-3
+    (λ c. search needs)
     returns-3)

@@ -48,18 +48,6 @@ word-is c =
     let f : SFits w32 (getD (now (a .residuals)) (a .i) (pos 0)) = search needs in
     rw (← more-is (c .before .before .before), ← toZ-ofZ f) (c .put-word .ensures)
 
-zero-run-eligible-requires : tie.Need-zero-run-eligible-requires
-zero-run-eligible-requires c κs = search needs
-
-put-before-requires : tie.Need-put-before-requires
-put-before-requires c κs = search needs
-
-run-turn-requires : tie.Need-run-turn-requires
-run-turn-requires c κs = search needs
-
-same-length : tie.Need-same-length
-same-length c = search needs
-
 returns : tie.Need-returns
 returns c =
     let b = c .before .before .before .before .before in
@@ -72,18 +60,6 @@ returns c =
           (now (a .out)) _ (a .at) _ _ (before-is b) (omega arith) (ap (λ (t : Turn). t .place) e) (ap (λ (t : Turn). t .run) e) (ap (λ (t : Turn). t .«last_zero») e) (ap (λ (t : Turn). t .«last_one») e);
     }
 
-add-is-ahead : tie.Need-add-is-ahead
-add-is-ahead c = search needs
-
-is-ahead-requires : tie.Need-is-ahead-requires
-is-ahead-requires c κs = search needs
-
-mul-residual : tie.Need-mul-residual
-mul-residual c = search needs
-
-shared-slice-copy-out-residual : tie.Need-shared-slice-copy-out-residual
-shared-slice-copy-out-residual c = search needs
-
 put-word-requires : tie.Need-put-word-requires
 put-word-requires c κs =
     let b = c .before .before .before .before .before .before .before in
@@ -91,15 +67,6 @@ put-word-requires c κs =
     let f : SFits w32 (getD (now (x .args .residuals)) (x .args .i) (pos 0)) = search needs in
     let n = before-few _ _ _ _ _ _ (before-is b) (omega arith) in
     ((omega arith, omega (arith, b .put-before .kept .0)), (x .pre .1 .0, rw (toZ-ofZ f) (x .pre .1 .2)))
-
-zero-after-requires : tie.Need-zero-after-requires
-zero-after-requires c κs = search needs
-
-one-after-requires : tie.Need-one-after-requires
-one-after-requires c κs = search needs
-
-same-length-2 : tie.Need-same-length-2
-same-length-2 c = search needs
 
 returns-2 : tie.Need-returns-2
 returns-2 c =
@@ -120,17 +87,17 @@ pub put-turn-spec : {M : Type 1} → statement M
 put-turn-spec =
     tie.close
     (tie.spec
-    zero-run-eligible-requires
-    put-before-requires
-    run-turn-requires
-    same-length
+    (λ c κs. search needs)
+    (λ c κs. search needs)
+    (λ c κs. search needs)
+    (λ c. search needs)
     returns
-    add-is-ahead
-    is-ahead-requires
-    mul-residual
-    shared-slice-copy-out-residual
+    (λ c. search needs)
+    (λ c κs. search needs)
+    (λ c. search needs)
+    (λ c. search needs)
     put-word-requires
-    zero-after-requires
-    one-after-requires
-    same-length-2
+    (λ c κs. search needs)
+    (λ c κs. search needs)
+    (λ c. search needs)
     returns-2)

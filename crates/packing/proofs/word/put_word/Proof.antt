@@ -15,9 +15,6 @@ use borrow.Author.Needs.{needs}
 use Rattle.packing.proofs.word.put_word.Statement.{statement}
 use Rattle.packing.proofs.word.put_word.Tie as tie
 
-magnitude-requires : tie.Need-magnitude-requires
-magnitude-requires c κs = search needs
-
 -- magnitude and sign of the residual itself
 mag-is : (c : tie.After-magnitude) → c .magnitude .result ≡ mag (c .before .before .args .residual)
 mag-is c = let f : SFits w32 (c .before .before .args .residual) = search needs in c .magnitude .ensures ∙ ap mag (toZ-ofZ f)
@@ -28,16 +25,13 @@ sign-is c = let f : SFits w32 (c .before .before .before .before .args .residual
 locate-requires : tie.Need-locate-requires
 locate-requires c κs = let x = c .before .before in (x .pre .1 .0, rw (mag-is c) (x .pre .1 .1))
 
-sign-bit-requires : tie.Need-sign-bit-requires
-sign-bit-requires c κs = search needs
-
 fits : (c : tie.After-locate) → Fits (c .locate .result)
 fits c =
     let x = c .before .before .before in
     located-fits (mediansOf (x .args .medians)) (c .before .magnitude .result) (c .locate .result) (x .pre .1 .0) (rw (mag-is (c .before)) (x .pre .1 .1)) (c .locate .ensures)
 
 gather-code-requires : tie.Need-gather-code-requires
-gather-code-requires c κs = let k = fits (c .before) in (k .within, k .wide, rw (sign-is c) (sign-lt (c .before .before .before .before .args .residual)))
+gather-code-requires c κs = let k = fits (c .before) in (k .within, (k .wide, rw (sign-is c) (sign-lt (c .before .before .before .before .args .residual))))
 
 prefix-of-requires : tie.Need-prefix-of-requires
 prefix-of-requires c κs = let k = fits (c .before .before .before) in k .few
@@ -47,9 +41,6 @@ put-coded-requires c κs =
     let k = fits (c .before .before .before .before) in
     let d = coded _ _ _ _ (k .wide) (c .before .before .gather-code .ensures) in
     (omega (arith, c .before .before .before .before .before .before .before .pre .0), d .below)
-
-same-length : tie.Need-same-length
-same-length c = search needs
 
 returns : tie.Need-returns
 returns c =
@@ -62,11 +53,11 @@ pub put-word-spec : {M : Type 1} → statement M
 put-word-spec =
     tie.close
     (tie.spec
-    magnitude-requires
+    (λ c κs. search needs)
     locate-requires
-    sign-bit-requires
+    (λ c κs. search needs)
     gather-code-requires
     prefix-of-requires
     put-coded-requires
-    same-length
+    (λ c. search needs)
     returns)

@@ -1,4 +1,5 @@
--- `packing::writing::pack_words` meets its contract: what is written and what is left, from the state that the locals hold, is the whole.
+-- `packing::writing::pack_words` meets its contract: what is written and what is left, from the
+-- state that the locals hold, is the whole.
 -- Assumes nothing.
 use mathlib.Core.Path.{_≡_, refl}
 use Prim.Native.Nat.{ℕ, suc, _+_, _-_, _*_, _/_, _%_, _≤_, _<_}
@@ -56,21 +57,6 @@ part-put-turn-start c = let f = facts c in omega arith
 
 part-put-turn-end : tie.Need-part-put-turn-end Inv-loop μ-loop
 part-put-turn-end c = let f = facts c in omega arith
-
-mul-put-turn : tie.Need-mul-put-turn Inv-loop μ-loop
-mul-put-turn c = omega arith
-
-array-copy-out-put-turn : tie.Need-array-copy-out-put-turn Inv-loop μ-loop
-array-copy-out-put-turn c = omega arith
-
-sub-put-turn-2 : tie.Need-sub-put-turn-2 Inv-loop μ-loop
-sub-put-turn-2 c = omega arith
-
-mul-put-turn-2 : tie.Need-mul-put-turn-2 Inv-loop μ-loop
-mul-put-turn-2 c = omega arith
-
-array-copy-out-put-turn-2 : tie.Need-array-copy-out-put-turn-2 Inv-loop μ-loop
-array-copy-out-put-turn-2 c = omega arith
 
 put-turn-requires : tie.Need-put-turn-requires Inv-loop μ-loop
 put-turn-requires c κs =
@@ -140,12 +126,6 @@ loop-again c =
     (loop-run _ _ _ _ _ _ _ _ _ (l .i) (l .inv) _ _ _ _ _ (x .pre .1 .0) (f .most) (f .here) some (t .turned .run some) (t .bytes) (t .place-is) (t .size)
     (λ i. omega (arith, c .before .before .before .before .slice-known2 .given i)))
 
-mul-medians : tie.Need-mul-medians Inv-loop μ-loop
-mul-medians c = omega arith
-
-array-set-from-medians : tie.Need-array-set-from-medians Inv-loop μ-loop
-array-set-from-medians c = omega arith
-
 add-i-2 : tie.Need-add-i-2 Inv-loop μ-loop
 add-i-2 c = omega (arith, facts (c .before .before .before .before .before .before .before .before .before))
 
@@ -182,19 +162,19 @@ pack-words-spec =
     sub-put-turn
     part-put-turn-start
     part-put-turn-end
-    mul-put-turn
-    array-copy-out-put-turn
-    sub-put-turn-2
-    mul-put-turn-2
-    array-copy-out-put-turn-2
+    (λ c. omega arith)
+    (λ c. omega arith)
+    (λ c. omega arith)
+    (λ c. omega arith)
+    (λ c. omega arith)
     put-turn-requires
     mul-bits
     add-bits
     add-i
     loop-less
     loop-again
-    mul-medians
-    array-set-from-medians
+    (λ c. omega arith)
+    (λ c. omega arith)
     add-i-2
     loop-less-2
     loop-again-2

@@ -15,15 +15,6 @@ use borrow.Author.Needs.{needs}
 use Rattle.packing.proofs.written.gather_code.Statement.{statement}
 use Rattle.packing.proofs.written.gather_code.Tie as tie
 
-mul-bit-length : tie.Need-mul-bit-length
-mul-bit-length c = search needs
-
-add-bit-length : tie.Need-add-bit-length
-add-bit-length c = search needs
-
-bit-length-requires : tie.Need-bit-length-requires
-bit-length-requires c κs = search needs
-
 -- what is known of the interval's bit length
 parts : (c : tie.After-bit-length) → Uniform (c .before .args .last) (c .before .args .code) (c .bit-length .result)
 parts c = uniform (c .before .args .last) (c .before .args .code) (c .bit-length .result) (omega arith) (omega arith) (c .bit-length .ensures)
@@ -33,12 +24,6 @@ shifted c = let u = parts c in omega (arith, pow-mono {i = c .bit-length .result
 
 sub-digits : tie.Need-sub-digits
 sub-digits c = let u = parts c in omega arith
-
-cast-digits : tie.Need-cast-digits
-cast-digits c = search needs
-
-cast-extras : tie.Need-cast-extras
-cast-extras c = search needs
 
 shl-extras : tie.Need-shl-extras
 shl-extras c = let u = parts c in omega arith
@@ -50,16 +35,10 @@ sub-extras-2 : tie.Need-sub-extras-2
 sub-extras-2 c = let u = parts c in rw (shifted c) (omega arith)
 
 code-value-requires : tie.Need-code-value-requires
-code-value-requires c κs = let u = parts c in rw (shifted c) (omega arith, u .extras, u .sum)
+code-value-requires c κs = let u = parts c in rw (shifted c) (omega arith, (u .extras, u .sum))
 
 code-count-requires : tie.Need-code-count-requires
 code-count-requires c κs = let u = parts (c .before) in omega arith
-
-wide-requires : tie.Need-wide-requires
-wide-requires c κs = search needs
-
-wide-requires-2 : tie.Need-wide-requires-2
-wide-requires-2 c κs = search needs
 
 -- the code's bits are those of the definition
 is-code : (c : tie.After-wide2) → let a = c .before .before .before .before .before .args in let b = c .before .before .before .before .bit-length .result in
@@ -103,19 +82,19 @@ pub gather-code-spec : {M : Type 1} → statement M
 gather-code-spec =
     tie.close
     (tie.spec
-    mul-bit-length
-    add-bit-length
-    bit-length-requires
+    (λ c. search needs)
+    (λ c. search needs)
+    (λ c κs. search needs)
     sub-digits
-    cast-digits
-    cast-extras
+    (λ c. search needs)
+    (λ c. search needs)
     shl-extras
     sub-extras
     sub-extras-2
     code-value-requires
     code-count-requires
-    wide-requires
-    wide-requires-2
+    (λ c κs. search needs)
+    (λ c κs. search needs)
     shl-t16
     add-t17
     add-t18

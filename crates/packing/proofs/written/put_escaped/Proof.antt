@@ -19,17 +19,11 @@ put-unary-requires c κs =
     let v = c .before .before .args .prefix in
     omega (arith, length-two (unaryField 16) (runField (v - 16)) _ (prefix-escaped v (omega arith)))
 
-sub-put-run : tie.Need-sub-put-run
-sub-put-run c = search needs
-
 put-run-requires : tie.Need-put-run-requires
 put-run-requires c κs =
     let v = c .before .before .before .before .before .before .args .prefix in
     let u = c .before .before .before .put-unary in
     omega (arith, u .ensures .1, u .kept .0, length-unary 16, length-two (unaryField 16) (runField (v - 16)) _ (prefix-escaped v (omega arith)))
-
-same-length : tie.Need-same-length
-same-length c = search needs
 
 returns : tie.Need-returns
 returns c =
@@ -43,4 +37,4 @@ returns c =
 
 pub put-escaped-spec : {M : Type 1} → statement M
 put-escaped-spec =
-    tie.close (tie.spec put-unary-requires sub-put-run put-run-requires same-length returns)
+    tie.close (tie.spec put-unary-requires (λ c. search needs) put-run-requires (λ c. search needs) returns)

@@ -18,14 +18,8 @@ use Rattle.packing.proofs.written.put_run.Tie as tie
 put-unary-requires : tie.Need-put-unary-requires
 put-unary-requires c κs = let n = c .before .before .before .args .run in omega (arith, ap length (run-short n (omega arith)))
 
-same-length : tie.Need-same-length
-same-length c = search needs
-
 returns : tie.Need-returns
 returns c = rw (run-short (c .before .before .before .before .before .before .args .run) (omega arith)) (c .before .before .put-unary .ensures)
-
-bit-length-requires : tie.Need-bit-length-requires
-bit-length-requires c κs = search needs
 
 parts : (c : tie.After-bit-length) → RunParts (c .before .before .before .args .run) (c .bit-length .result)
 parts c = run-parts _ _ (c .before .if1 .left) (omega arith) (c .bit-length .ensures)
@@ -43,15 +37,9 @@ put-bits-requires c κs =
 sub-result : tie.Need-sub-result
 sub-result c = let r = parts (c .before .before .before .before .before .before .before .before) in omega arith
 
-cast-result : tie.Need-cast-result
-cast-result c = search needs
-
 add-result : tie.Need-add-result
 add-result c =
     let r = parts (c .before .before .before .before .before .before .before .before) in omega (arith, c .before .before .before .before .before .before .put-unary2 .ensures .1, length-unary (c .before .before .before .before .before .before .before .before .bit-length .result))
-
-same-length-2 : tie.Need-same-length-2
-same-length-2 c = search needs
 
 returns-2 : tie.Need-returns-2
 returns-2 c =
@@ -70,14 +58,14 @@ put-run-spec =
     tie.close
     (tie.spec
     put-unary-requires
-    same-length
+    (λ c. search needs)
     returns
-    bit-length-requires
+    (λ c κs. search needs)
     put-unary-requires-2
     sub-put-bits
     put-bits-requires
     sub-result
-    cast-result
+    (λ c. search needs)
     add-result
-    same-length-2
+    (λ c. search needs)
     returns-2)

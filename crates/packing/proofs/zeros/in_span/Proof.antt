@@ -23,15 +23,6 @@ abbrev μ-loop : tie.MeasureT-loop
 loop-holds : tie.Need-loop-holds Inv-loop μ-loop
 loop-holds c = record { is = refl; few = omega arith; here = omega arith }
 
-mul-excess : tie.Need-mul-excess Inv-loop μ-loop
-mul-excess c = search needs
-
-shared-slice-copy-out-excess : tie.Need-shared-slice-copy-out-excess Inv-loop μ-loop
-shared-slice-copy-out-excess c = search needs
-
-excess-requires : tie.Need-excess-requires Inv-loop μ-loop
-excess-requires c κs = search needs
-
 -- the residual that was looked at
 next : (c : tie.After-excess Inv-loop μ-loop) → c .excess .result ≡ excessOf (getD (c .before .before .before .before .args .residuals .now) (c .before .before .before .loop .i) (pos 0))
 next c =
@@ -43,12 +34,6 @@ add-outside : tie.Need-add-outside Inv-loop μ-loop
 add-outside c =
     let l = c .before .before .before .loop in
     omega (arith, l .inv, next c, excess-le (getD (c .before .before .before .before .args .residuals .now) (l .i) (pos 0)))
-
-add-i : tie.Need-add-i Inv-loop μ-loop
-add-i c = search needs
-
-loop-less : tie.Need-loop-less Inv-loop μ-loop
-loop-less c = search needs
 
 loop-again : tie.Need-loop-again Inv-loop μ-loop
 loop-again c =
@@ -65,11 +50,11 @@ in-span-spec =
     Inv-loop
     μ-loop
     loop-holds
-    mul-excess
-    shared-slice-copy-out-excess
-    excess-requires
+    (λ c. search needs)
+    (λ c. search needs)
+    (λ c κs. search needs)
     add-outside
-    add-i
-    loop-less
+    (λ c. search needs)
+    (λ c. search needs)
     loop-again
     returns)
