@@ -17,20 +17,23 @@ abbrev μ-loop : tie.MeasureT-loop
 μ-loop out₀ at value count end left₀ i₀ out left i = end - 8 * i
 
 -- what the code joins before the loop
-start : (c : tie.After-wide Inv-loop μ-loop) → let a = c .before .before .before .args in
+joins : (c : tie.After-wide Inv-loop μ-loop) → let a = c .before .before .before .args in
     Begun (now (a .out)) (a .at) (a .count) (a .value) (c .wide .result % (1 * 2 ^ a .at % 2 ^ 64) + a .value * 2 ^ a .at % 2 ^ 64)
-start c =
-    let a = c .before .before .before .args in
-    rw (c .wide .ensures) (begun (now (a .out)) (a .at) (a .count) (a .value) (omega arith) (omega arith) (c .before .before .before .pre .1) (omega arith) (omega arith))
+joins c =
+    let start : tie.Start Inv-loop μ-loop = search needs in
+    let a = start .args in
+    rw (c .wide .ensures) (begun (now (a .out)) (a .at) (a .count) (a .value) (omega arith) (omega arith) (start .pre .1) (omega arith) (omega arith))
 
 rem-left : tie.Need-rem-left Inv-loop μ-loop
-rem-left c = rw (start c .power) (pow-pos (c .before .before .before .args .at))
+rem-left c =
+    let start : tie.Start Inv-loop μ-loop = search needs in
+    rw (joins c .power) (pow-pos (start .args .at))
 
 add-left : tie.Need-add-left Inv-loop μ-loop
-add-left c = record { fits = start c .fits }
+add-left c = record { fits = joins c .fits }
 
 loop-holds : tie.Need-loop-holds Inv-loop μ-loop
-loop-holds c = (omega arith, laying-start _ _ _ (start c .begins))
+loop-holds c = (omega arith, laying-start _ _ _ (joins c .begins))
 
 loop-again : tie.Need-loop-again Inv-loop μ-loop
 loop-again c =
@@ -39,7 +42,8 @@ loop-again c =
 
 returns : tie.Need-returns Inv-loop μ-loop
 returns c =
-    let a = c .before .before .before .before .before .args in
+    let start : tie.Start Inv-loop μ-loop = search needs in
+    let a = start .args in
     let l = c .before .loop in
     laying-end (now (a .out)) (a .at) (a .count) (a .value) (l .out) (l .left) (l .i) (omega arith) (omega arith) (omega arith) (omega arith) (l .inv .1)
 

@@ -10,23 +10,24 @@ use Rattle.packing.proofs.locating.locate.Tie as tie
 
 returns : tie.Need-returns
 returns c =
-    let s = c .before .before .before in
+    let s : tie.Start = search needs in
     located-first (mediansOf (s .args .medians)) (s .args .magnitude) _ (s .pre .0) (omega arith) (omega arith) refl refl refl (c .dec-median .ensures) refl refl
 
 returns-2 : tie.Need-returns-2
 returns-2 c =
-    let s = c .before .before .before .before .before in
+    let s : tie.Start = search needs in
     located-second (mediansOf (s .args .medians)) (s .args .magnitude) _ (s .pre .0) (omega arith) (omega arith) (omega arith) refl refl refl (c .before .before .inc-median .ensures) (c .dec-median2 .ensures) refl
 
 returns-3 : tie.Need-returns-3
 returns-3 c =
-    let s = c .before .before .before .before .before .before in
+    let s : tie.Start = search needs in
+    let after-inc-median : tie.After-inc-median = search needs in
     c .locate-above .ensures .lies (mediansOf (s .args .medians)) (s .args .magnitude)
     (record {
       small = s .pre .0;
       span = omega arith;
       past = omega arith;
-      first = c .before .before .before .inc-median .ensures;
+      first = after-inc-median .inc-median .ensures;
       second = c .before .inc-median2 .ensures;
       third = refl;
     })

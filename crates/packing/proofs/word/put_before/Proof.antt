@@ -16,7 +16,8 @@ use Rattle.packing.proofs.word.put_before.Tie as tie
 
 few : (c : tie.After-zeros-from) → c .zeros-from .result ≤ maxElements
 few c =
-    let a = c .before .before .before .args in
+    let start : tie.Start = search needs in
+    let a = start .args in
     omega (arith, c .zeros-from .ensures, zeros-le (drop (a .i) (now (a .residuals))), length-drop (a .i) (now (a .residuals)))
 
 cast-put-run : tie.Need-cast-put-run
@@ -29,7 +30,7 @@ put-run-requires c κs =
 
 returns : tie.Need-returns
 returns c =
-    let x = c .before .before .before .before in
+    let x : tie.After-zeros-from = search needs in
     let a = x .before .before .before .args in
     rw (x .before .if1 .taken) (before-run (now (a .out)) _ (a .at) (drop (a .i) (now (a .residuals))) (x .zeros-from .result) _ (x .zeros-from .ensures) (c .before .before .put-run .ensures))
 

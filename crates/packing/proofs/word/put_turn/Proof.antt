@@ -36,7 +36,8 @@ before-is c =
 more-is : (c : tie.After-is-ahead) → let a = start (c .before .before .before .before .before) .args in
     c .is-ahead .result ≡ ahead (mediansOf (a .other)) (drop (suc (a .i)) (now (a .residuals)))
 more-is c =
-    let a = start (c .before .before .before .before .before) .args in
+    let after-put-before : tie.After-put-before = search needs in
+    let a = start after-put-before .args in
     c .is-ahead .ensures ∙ ap (λ (n : ℕ). ahead (mediansOf (a .other)) (drop n (now (a .residuals)))) (add-one (a .i))
 
 -- the word
@@ -44,13 +45,15 @@ word-is : (c : tie.After-put-word) → let b = c .before .before .before .before
     WordIs (b .put-before .last .0) (c .put-word .last .0) (b .put-before .result .place) (mediansOf (a .due)) (getD (now (a .residuals)) (a .i) (pos 0)) (a .last-zero) (a .last-one)
     (ahead (mediansOf (a .other)) (drop (suc (a .i)) (now (a .residuals)))) (c .put-word .result)
 word-is c =
-    let a = start (c .before .before .before .before .before .before .before .before) .args in
+    let after-put-before : tie.After-put-before = search needs in
+    let after-is-ahead : tie.After-is-ahead = search needs in
+    let a = start after-put-before .args in
     let f : SFits w32 (getD (now (a .residuals)) (a .i) (pos 0)) = search needs in
-    rw (← more-is (c .before .before .before), ← toZ-ofZ f) (c .put-word .ensures)
+    rw (← more-is (after-is-ahead), ← toZ-ofZ f) (c .put-word .ensures)
 
 returns : tie.Need-returns
 returns c =
-    let b = c .before .before .before .before .before in
+    let b : tie.After-put-before = search needs in
     let a = start b .args in
     let vs = now (a .residuals) in
     let e = c .run-turn .ensures in
@@ -62,7 +65,7 @@ returns c =
 
 put-word-requires : tie.Need-put-word-requires
 put-word-requires c κs =
-    let b = c .before .before .before .before .before .before .before in
+    let b : tie.After-put-before = search needs in
     let x = start b in
     let f : SFits w32 (getD (now (x .args .residuals)) (x .args .i) (pos 0)) = search needs in
     let n = before-few _ _ _ _ _ _ (before-is b) (omega arith) in
@@ -70,8 +73,9 @@ put-word-requires c κs =
 
 returns-2 : tie.Need-returns-2
 returns-2 c =
-    let b = c .before .before .before .before .before .before .before .before .before .before .before .before in
-    let w = c .before .before .before .before in
+    let b : tie.After-put-before = search needs in
+    let after-is-ahead : tie.After-is-ahead = search needs in
+    let w : tie.After-put-word = search needs in
     let x = start b in
     let a = x .args in
     let vs = now (a .residuals) in
@@ -79,8 +83,8 @@ returns-2 c =
       turned = λ s seen.
           turn-word s (mediansOf (a .due)) (mediansOf (a .other)) (a .last-zero) (a .last-one) (a .run-break) (getD vs (a .i) (pos 0)) (drop (suc (a .i)) vs) seen
           (now (a .out)) _ _ (a .at) _ _ _ (omega arith) (before-is b) (omega arith) (word-is w) refl refl refl refl refl
-          (c .before .zero-after .ensures ∙ rw (more-is (c .before .before .before .before .before .before .before)))
-          (c .one-after .ensures ∙ rw (more-is (c .before .before .before .before .before .before .before)));
+          (c .before .zero-after .ensures ∙ rw (more-is after-is-ahead))
+          (c .one-after .ensures ∙ rw (more-is after-is-ahead));
     }
 
 pub put-turn-spec : {M : Type 1} → statement M

@@ -20,7 +20,7 @@ use Rattle.packing.proofs.writing.encode_packed_samples_stereo_from_ent
 
 returns : tie.Need-returns
 returns c =
-    let tested = c .before .before .before in
+    let tested : tie.After-refusal-before-span = search needs in
     refuses-before _ _ _ _ (c .refused .result) _ _ (c .before .enum-told2 .given .1) (tested .refusal-before-span .ensures) (c .refused .ensures)
 
 abbrev start : tie.After-enum-told → tie.Start
@@ -53,7 +53,7 @@ pack-words-requires c κs =
 
 returns-3 : tie.Need-returns-3
 returns-3 c =
-    let p = c .before .before .before in
+    let p : tie.After-pack-words = search needs in
     let seeded = p .before .before .before in
     let t = seeded .before .before .before in
     accepts _ _ _ _ _ _ _ _ (record { before = ready-at t; span = span-at (seeded .before) }) (seeded .stereo-pair-from-entropy .ensures .1) (p .pack-words .ensures) refl refl refl

@@ -26,12 +26,12 @@ seeded t = sym (ap outcomeNumber (t .enum-told .given .1)) ∙ t .before .before
 
 returns-4 : tie.Need-returns-4
 returns-4 c =
-    let x = c .before .before .before in
+    let x : tie.After-stereo-pair-from-entropy = search needs in
     before-room _ _ _ _ (x .before .before .if1 .left) (x .before .if2 .left) (seeded (c .before)) (c .if3 .taken)
 
 returns-5 : tie.Need-returns-5
 returns-5 c =
-    let x = c .before .before .before in
+    let x : tie.After-stereo-pair-from-entropy = search needs in
     before-none _ _ _ _
     (record { frames-few = x .before .before .if1 .left; list-is = x .before .if2 .left; seeded = seeded (c .before); enough = c .if3 .left })
 

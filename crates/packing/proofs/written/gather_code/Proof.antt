@@ -44,24 +44,29 @@ code-count-requires c κs = let u = parts (c .before) in omega arith
 is-code : (c : tie.After-wide2) → let a = c .before .before .before .before .before .args in let b = c .before .before .before .before .bit-length .result in
     codeBits (b - 1 + 1) (2 * 2 ^ (b - 1) % 2 ^ 32 - a .last - 1) (a .code) ≡ codeField (a .last) (a .code)
 is-code c =
-    let a = c .before .before .before .before .before .args in
-    let b = c .before .before .before .before .bit-length .result in
-    let u = parts (c .before .before .before .before) in
+    let start : tie.Start = search needs in
+    let after-bit-length : tie.After-bit-length = search needs in
+    let a = start .args in
+    let b = after-bit-length .bit-length .result in
+    let u = parts after-bit-length in
     let e : b - 1 + 1 ≡ b = omega arith in
-    rw (shifted (c .before .before .before .before), e) (sym (u .is))
+    rw (shifted (after-bit-length), e) (sym (u .is))
 
 few : (c : tie.After-wide2) → c .before .before .code-count .result ≤ 28
 few c =
-    let a = c .before .before .before .before .before .args in
+    let start : tie.Start = search needs in
+    let a = start .args in
     omega (arith, c .before .before .code-count .ensures, ap length (is-code c), code-long (a .last) (a .code) 28 (omega arith) (omega arith))
 
 whole : (c : tie.After-wide2) → let a = c .before .before .before .before .before .args in
     Joined (codeField (a .last) (a .code)) (low 1 (a .sign)) (c .before .wide .result) (c .before .before .code-count .result) (c .wide2 .result)
 whole c =
-    let a = c .before .before .before .before .before .args in
+    let start : tie.Start = search needs in
+    let after-code-value : tie.After-code-value = search needs in
+    let a = start .args in
     let l : a .sign < 2 ^ 1 = omega arith in
     joined (codeField (a .last) (a .code)) (low 1 (a .sign)) (c .before .wide .result) (c .before .before .code-count .result) (c .wide2 .result)
-    (c .before .wide .ensures ∙ c .before .before .before .code-value .ensures ∙ ap num (is-code c))
+    (c .before .wide .ensures ∙ after-code-value .code-value .ensures ∙ ap num (is-code c))
     (c .before .before .code-count .ensures ∙ ap length (is-code c))
     (c .wide2 .ensures ∙ sym (num-low 1 (a .sign) ∙ mod-eq-of-lt l))
     (omega (arith, length-low 1 (a .sign), code-long (a .last) (a .code) 28 (omega arith) (omega arith)))
@@ -76,7 +81,9 @@ add-t18 : tie.Need-add-t18
 add-t18 c = omega (arith, few c)
 
 returns : tie.Need-returns
-returns c = record { value-is = whole c .number; count-is = ap (λ (n : ℕ). c .before .before .code-count .result + n) (sym (length-low 1 (c .before .before .before .before .before .args .sign))) ∙ whole c .size }
+returns c =
+    let start : tie.Start = search needs in
+    record { value-is = whole c .number; count-is = ap (λ (n : ℕ). c .before .before .code-count .result + n) (sym (length-low 1 (start .args .sign))) ∙ whole c .size }
 
 pub gather-code-spec : {M : Type 1} → statement M
 gather-code-spec =

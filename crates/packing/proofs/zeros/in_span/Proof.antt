@@ -26,18 +26,23 @@ loop-holds c = record { is = refl; few = omega arith; here = omega arith }
 -- the residual that was looked at
 next : (c : tie.After-excess Inv-loop μ-loop) → c .excess .result ≡ excessOf (getD (c .before .before .before .before .args .residuals .now) (c .before .before .before .loop .i) (pos 0))
 next c =
-    let v = getD (c .before .before .before .before .args .residuals .now) (c .before .before .before .loop .i) (pos 0) in
+    let start : tie.Start Inv-loop μ-loop = search needs in
+    let at-loop : tie.At-loop Inv-loop μ-loop = search needs in
+    let v = getD (start .args .residuals .now) (at-loop .loop .i) (pos 0) in
     let f : SFits w32 v = search needs in
     rw (toZ-ofZ f) at (c .excess .ensures)
 
 add-outside : tie.Need-add-outside Inv-loop μ-loop
 add-outside c =
-    let l = c .before .before .before .loop in
-    omega (arith, l .inv, next c, excess-le (getD (c .before .before .before .before .args .residuals .now) (l .i) (pos 0)))
+    let start : tie.Start Inv-loop μ-loop = search needs in
+    let at-loop : tie.At-loop Inv-loop μ-loop = search needs in
+    let l = at-loop .loop in
+    omega (arith, l .inv, next c, excess-le (getD (start .args .residuals .now) (l .i) (pos 0)))
 
 loop-again : tie.Need-loop-again Inv-loop μ-loop
 loop-again c =
-    let l = c .before .before .before .loop in
+    let at-loop : tie.At-loop Inv-loop μ-loop = search needs in
+    let l = at-loop .loop in
     rw (next c) (spans-step _ _ _ (omega arith) (l .inv))
 
 returns : tie.Need-returns Inv-loop μ-loop

@@ -27,21 +27,27 @@ loop-holds c = let s = c .skip .ensures in omega arith
 
 returns : tie.Need-returns Inv-loop μ-loop
 returns c =
-    let l = c .before .before .before .loop in
-    let vs = c .before .before .before .before .before .args .residuals .now in
+    let start : tie.Start Inv-loop μ-loop = search needs in
+    let at-loop : tie.At-loop Inv-loop μ-loop = search needs in
+    let l = at-loop .loop in
+    let vs = start .args .residuals .now in
     omega (arith, l .inv, zeros-stop vs (l .i) (omega arith) (λ e. c .if1 .taken (ap (ofZ w32) e)))
 
 loop-again : tie.Need-loop-again Inv-loop μ-loop
 loop-again c =
-    let l = c .before .before .before .loop in
-    let vs = c .before .before .before .before .before .args .residuals .now in
+    let start : tie.Start Inv-loop μ-loop = search needs in
+    let at-loop : tie.At-loop Inv-loop μ-loop = search needs in
+    let l = at-loop .loop in
+    let vs = start .args .residuals .now in
     let f : SFits w32 (getD vs (l .i) (pos 0)) = search needs in
     let e : getD vs (l .i) (pos 0) ≡ pos 0 = sym (toZ-ofZ f) ∙ ap (toZ w32) (c .if1 .left) in
     let m : zeros (drop (l .i + 1) vs) ≡ zeros (drop (suc (l .i)) vs) = ap (λ (n : ℕ). zeros (drop n vs)) (add-one (l .i)) in
     omega (arith, l .inv, zeros-more vs (l .i) (omega arith) e)
 
 returns-2 : tie.Need-returns-2 Inv-loop μ-loop
-returns-2 c = omega (arith, c .before .loop .inv, zeros-past (c .before .before .before .args .residuals .now) (c .before .loop .i) (omega arith))
+returns-2 c =
+    let start : tie.Start Inv-loop μ-loop = search needs in
+    omega (arith, c .before .loop .inv, zeros-past (start .args .residuals .now) (c .before .loop .i) (omega arith))
 
 pub zeros-from-spec : {M : Type 1} → statement M
 zeros-from-spec =
