@@ -1,4 +1,5 @@
--- Whether a next word's count is above 0, by the code's test of its magnitude against the first median.
+-- Whether a next word's count is above 0, by the code's test of its magnitude against the first
+-- median.
 -- Assumes nothing.
 use mathlib.Core.Path.{_≡_, sym}
 use mathlib.Core.Bool.{true, false, cond}

@@ -1,8 +1,8 @@
--- For every number in the span and all medians of 32 bits there is a smallest count whose interval contains it. A closed form finds it, and its interval
--- meets neither the wrap nor the mask.
+-- For every number in the span and all medians of 32 bits there is a smallest count whose interval
+-- contains it. A closed form finds it, and its interval meets neither the wrap nor the mask.
 -- Assumes nothing.
 use mathlib.Core.Path.{_≡_, refl, ap}
-use mathlib.Core.Bool.{Bool, true, false, cond, _&&_}
+use mathlib.Core.Bool.{Bool, true, false, cond}
 use Prim.Native.Nat.{ℕ, zero, suc, _+_, _-_, _*_, _/_, _≤_, _<_}
 use native.Mathlib.Nat.{div-mul-le-self, lt-div-mul-add, mul-le-mul-right, div-le-self}
 use native.Mathlib.Omega.{arith}
@@ -126,7 +126,8 @@ count-closed m v s h =
     let w = found m v in
     least-is (λ k. contains m k v) (suc v) (closed m v) (omega arith) (contained m (closed m v) v (no-wrap m (closed m v) v s h w)) (none-below m (closed m v) v s h w)
 
--- document 01 (K3): what the count k of v is. Its interval contains v, within 31 bits; that of no smaller one does; and its prefix is below 2 ^ 32
+-- document 01 (K3): what the count k of v is. Its interval contains v, within 31 bits; that of no
+-- smaller one does; and its prefix is below 2 ^ 32
 pub record Smallest (m : Medians) (k v : ℕ) : Type 0 where
   pub within : Within m k v
   pub plain : Plain m k v

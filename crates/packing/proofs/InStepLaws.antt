@@ -1,4 +1,5 @@
--- State and residuals in step: no more zeros are owed than stand next, a set flag tells of the next count, medians have 32 bits; so it stays after each word.
+-- State and residuals in step: no more zeros are owed than stand next, a set flag tells of the next
+-- count, medians have 32 bits; so it stays after each word.
 -- Assumes nothing.
 use mathlib.Core.Path.{_≡_, refl}
 use mathlib.Core.Bool.{Bool, true, false, not, cond}
@@ -11,7 +12,7 @@ use lib.ListN.{length}
 use lib.Signed.{mag}
 use Rattle.entropy.proofs.SeedBounds.{none-small}
 use Rattle.medians.proofs.AdaptationLaws.{adapt-small}
-use Rattle.entropy.specs.Medians.{Medians, mediansOf, zeroSet, Small}
+use Rattle.entropy.specs.Medians.{Medians, Small}
 use Rattle.medians.specs.Adaptation.{adapt}
 use Rattle.word_state.specs.State.{State, start, due, other, flip, side, paid, inRun, unbroken, cleared, flagged, after, runDue, runHere, onZeros}
 use Rattle.word_state.proofs.FlagLaws.{clash, both, due-flags}

@@ -13,6 +13,8 @@ pub mod WordLaws
 pub mod AheadLaws
 pub mod TurnLaws
 pub mod SizeLaws
+pub mod PackedLaws
+pub mod SetLaws
 pub mod LoopLaws
 pub mod RefusalLaws
 pub mod EntryLaws

@@ -1,4 +1,5 @@
--- The span: residuals outside it are counted, and a list with none of them is in the span, and so is each of its residuals.
+-- The span: residuals outside it are counted, and a list with none of them is in the span, and so
+-- is each of its residuals.
 -- Assumes nothing.
 use mathlib.Core.Path.{_≡_, sym, ap, _∙_}
 use mathlib.Core.Bool.{Bool, true, false, cond, _&&_, and-true, and-false}

@@ -1,4 +1,5 @@
--- A turn of the packing loop writes what the definition writes for its residual, in every state that has its medians and flags.
+-- A turn of the packing loop writes what the definition writes for its residual, in every state
+-- that has its medians and flags.
 -- Assumes nothing.
 use mathlib.Core.Path.{_≡_, refl, sym, ap, _∙_, subst}
 use mathlib.Core.Bool.{Bool, true, false, not, cond, _&&_}

@@ -1,4 +1,5 @@
--- What the writers of the fields cite: the parts of each field, its length, and the number that its bits are.
+-- What the writers of the fields cite: the parts of each field, its length, and the number that its
+-- bits are.
 -- Assumes nothing.
 use mathlib.Core.Path.{_≡_, refl, sym, ap, ap₂, _∙_}
 use mathlib.Core.Bool.{Bool}
@@ -122,7 +123,8 @@ module _ (d x c : ℕ) where
   pub long-size : x ≤ c → d + 1 ≡ length (codeBits (d + 1) x c)
   long-size h = rw (code-long h) (sym (length-append (low d ((c + x) / 2)) (low 1 (c + x)) ∙ ap₂ (λ (a b : ℕ). a + b) (length-low d ((c + x) / 2)) (length-low 1 (c + x))))
 
--- a code inside an interval whose last code is M, by the bit length of M with its low bit set: one rule for M = 0 too
+-- a code inside an interval whose last code is M, by the bit length of M with its low bit set: one
+-- rule for M = 0 too
 pub record Uniform (M c b : ℕ) : Type 0 where
   pub some : 0 < b
   pub most : b ≤ 28

@@ -15,6 +15,7 @@ unfoldable pub least : (ℕ → Bool) → ℕ → ℕ
 least p zero = zero
 least p (suc n) = cond (p zero) zero (suc (least (λ j. p (suc j)) n))
 
--- the smallest count whose interval contains v. No count above v is tried: each interval is one wide or more, so that of count k starts at k or above
+-- the smallest count whose interval contains v. No count above v is tried: each interval is one
+-- wide or more, so that of count k starts at k or above
 unfoldable pub count : Medians → ℕ → ℕ
 count m v = least (λ k. contains m k v) (suc v)

@@ -1,4 +1,5 @@
--- Document 01, "Packing" (K1 to K6): "Walk the same state." The bits that each residual is written as, and the state after it.
+-- Document 01, "Packing" (K1 to K6): "Walk the same state." The bits that each residual is written
+-- as, and the state after it.
 -- Assumes nothing.
 use mathlib.Core.Bool.{Bool, true, false, cond, _&&_}
 use mathlib.Core.List.{List, [], _∷_, _++_}
@@ -49,14 +50,16 @@ behind f o = record { bits = f ++ o .bits; next = o .next }
 abbrev pub silent : State → Out
 silent s = record { bits = []; next = s }
 
--- code and sign of v, where its count is k: v, or -v - 1 for a negative v, lies in the interval of k
+-- code and sign of v, where its count is k: v, or -v - 1 for a negative v, lies in the interval of
+-- k
 unfoldable pub valueField : Medians → ℕ → ℤ → List Bool
 valueField m k v = codeField (highOf m k - lowOf m k) (mag v - lowOf m k) ++ low 1 (sign v)
 
 unfoldable pub valueOut : ℕ → State → ℤ → Out
 valueOut k s v = record { bits = valueField (due s) k v; next = after k s }
 
--- the value of a prefix (W3, K5): the reader's count is its half, plus 1 if last_one, and its low bit tells of the next word
+-- the value of a prefix (W3, K5): the reader's count is its half, plus 1 if last_one, and its low
+-- bit tells of the next word
 abbrev pub prefixOf : ℕ → Bool → Bool → ℕ
 prefixOf k lastOne more = 2 * (k - val lastOne) + val more
 
@@ -68,8 +71,8 @@ plainOut s v vs =
     (behind (prefixField (prefixOf (count (due s) (mag v)) (s .lastOne) (ahead (other s) vs)))
     (valueOut (count (due s) (mag v)) (flagged (ahead (other s) vs) s) v))
 
--- "Where a run length is due, write the length of the unbroken stretch of zero residuals that starts here. If that is 0, or none is due", the word (K2);
--- run_break is clear then (W2)
+-- "Where a run length is due, write the length of the unbroken stretch of zero residuals that
+-- starts here. If that is 0, or none is due", the word (K2); run_break is clear then (W2)
 unfoldable pub freshOut : State → ℤ → List ℤ → Out
 freshOut s v vs =
     cond (runHere s)

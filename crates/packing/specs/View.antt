@@ -32,7 +32,8 @@ pub record Gathers (f : List Bool) (r : Gathered) : Type 0 where
   pub value-is : r .value ≡ num f
   pub count-is : r .count ≡ length f
 
--- where v lies among the intervals of the medians m: its count, its code, the last code of its interval, and the medians after it
+-- where v lies among the intervals of the medians m: its count, its code, the last code of its
+-- interval, and the medians after it
 pub record LocatedIs (m : Medians) (v : ℕ) (r : Located) : Type 0 where
   pub count-is : r .count ≡ count m v
   pub code-is : r .code ≡ v - lowOf m (count m v)
@@ -74,7 +75,8 @@ pub record BeforeIs (before after : List ℕ) (at : ℕ) (asked : Bool) (vs : Li
   pub put-is : PutIs before after at (cond asked (runField (zeros vs)) []) (r .place)
   pub run-is : r .run ≡ cond asked (zeros vs) 0
 
--- what the loop holds of a state that owes no zeros: the medians of the channel due and of the other, and the flags
+-- what the loop holds of a state that owes no zeros: the medians of the channel due and of the
+-- other, and the flags
 pub record Seen (s : State) (d o : Medians) (lastZero lastOne runBreak : Bool) : Type 0 where
   pub owes : s .debt ≡ 0
   pub due-is : due s ≡ d
@@ -102,7 +104,8 @@ pub record RunTakes (s t : State) (vs : List ℤ) (run : ℕ) (lastZero lastOne 
   pub zero-is : lastZero ≡ false
   pub one-is : lastOne ≡ false
 
--- what a turn of the loop writes for the residual v before vs in the state s is what the definition writes for it
+-- what a turn of the loop writes for the residual v before vs in the state s is what the definition
+-- writes for it
 pub record Turned (before after : List ℕ) (at : ℕ) (s : State) (v : ℤ) (vs : List ℤ) (r : Turn) : Type 0 where
   pub put-is : PutIs before after at (wordOut s v vs .bits) (r .place)
   pub word : r .run ≡ 0 → Next s (wordOut s v vs .next) (record { m0 = r .m0; m1 = r .m1; m2 = r .m2 }) (r .«last_zero») (r .«last_one»)

@@ -1,5 +1,6 @@
-// Lays bits that are gathered in one number, byte by byte, into the lent rest of a buffer. A word's prefix, code and sign go in by one call, so that each
-// byte is stored once; bytes behind the last one that holds a bit are not stored at all.
+// Lays bits that are gathered in one number, byte by byte, into the lent rest of a buffer. A word's
+// prefix, code and sign go in by one call, so that each byte is stored once; bytes behind the last
+// one that holds a bit are not stored at all.
 ghost use mathlib.Core.Path.{_≡_};
 ghost use Prim.Native.Nat.{_+_, _*_, _^_, _≤_, _<_};
 ghost use lib.ListN.{length};
@@ -14,8 +15,8 @@ fn wide(x: u8) -> u64
 
 // The `count` bits of `value`, from `at` on.
 pub fn lay(out: &mut [u8], at: usize, value: u64, count: usize)
-    requires { ⌜ (at ≤ 8) × (0 < count) × (count ≤ 56) × (at + count ≤ 8 * length (now out)) ⌝ }
-    requires { ⌜ value < 2 ^ count ⌝ }
+    requires room { ⌜ (at ≤ 8) × (0 < count) × (count ≤ 56) × (at + count ≤ 8 * length (now out)) ⌝ }
+    requires value { ⌜ value < 2 ^ count ⌝ }
     ensures { λ _. ⌜ now (out .exit) ≡ put (now (out .entry)) at (low count value) ⌝ }
 {
     let end = at + count;

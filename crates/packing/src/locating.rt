@@ -1,5 +1,6 @@
-// Where a residual lies: its smallest count by a closed form, its code in that count's interval, and the medians after it, all found by one walk past the
-// intervals. Residuals are in the span, so no end of an interval that holds one meets the 31-bit mask.
+// Where a residual lies: its smallest count by a closed form, its code in that count's interval,
+// and the medians after it, all found by one walk past the intervals. Residuals are in the span, so
+// no end of an interval that holds one meets the 31-bit mask.
 ghost use mathlib.Core.Path.{_≡_};
 ghost use Prim.Native.Nat.{_<_};
 ghost use lib.Signed.{mag};
@@ -38,7 +39,8 @@ pub fn sign_bit(residual: i32) -> u32
     if residual < 0 { 1 } else { 0 }
 }
 
-// Where a magnitude lies that is `rest` past the first two intervals, `m0` and `m1` being the first two medians after it and `c` the third before.
+// Where a magnitude lies that is `rest` past the first two intervals, `m0` and `m1` being the first
+// two medians after it and `c` the third before.
 fn locate_above(rest: u32, m0: u32, m1: u32, c: u32) -> Located
     requires { ⌜ rest < residualSpan ⌝ }
     ensures { λ r. ⌜ AboveIs rest m0 m1 c r ⌝ }
@@ -69,7 +71,8 @@ fn locate_above(rest: u32, m0: u32, m1: u32, c: u32) -> Located
 
 // Where a magnitude lies among the intervals of a set of medians.
 pub fn locate(medians: AdaptiveMedians, magnitude: u32) -> Located
-    requires { ⌜ Small (mediansOf medians) × (magnitude < residualSpan) ⌝ }
+    requires medians { ⌜ Small (mediansOf medians) ⌝ }
+    requires span { ⌜ magnitude < residualSpan ⌝ }
     ensures { λ r. ⌜ LocatedIs (mediansOf medians) magnitude r ⌝ }
 {
     let m = medians.values;

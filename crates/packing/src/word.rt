@@ -1,5 +1,6 @@
-// One word, and what goes before it. Code and sign with a short prefix go in by one call of `lay`; a run length and an escaped prefix are laid first. Inner
-// functions take and give numbers and flags: the medians and flags of the whole state are locals of the loop that calls them.
+// One word, and what goes before it. Code and sign with a short prefix go in by one call of `lay`;
+// a run length and an escaped prefix are laid first. Inner functions take and give numbers and
+// flags: the medians and flags of the whole state are locals of the loop that calls them.
 ghost use mathlib.Core.Path.{_≡_};
 ghost use mathlib.Core.Bool.{false, not, cond};
 ghost use mathlib.Core.List.{_++_};
@@ -41,8 +42,8 @@ pub struct Before {
     pub run: usize,
 }
 
-// What one turn of the packing loop writes: where it ends, how many zeros it tells of, and, where that is none, the medians of its channel after the word.
-// The flags are those after it.
+// What one turn of the packing loop writes: where it ends, how many zeros it tells of, and, where
+// that is none, the medians of its channel after the word. The flags are those after it.
 pub struct Turn {
     pub place: usize,
     pub run: usize,
@@ -77,9 +78,13 @@ fn prefix_of(count: u32, last_one: bool, more: bool) -> u32
 
 // The bits of a word behind its prefix, if it has one. The place after them.
 fn put_coded(out: &mut [u8], at: usize, bare: bool, prefix: u32, coded: Gathered) -> usize
-    requires { ⌜ (at ≤ 8) × (at + 110 ≤ 8 * length (now out)) × (0 < coded .count) × (coded .count ≤ 29) ⌝ }
-    requires { ⌜ coded .value < 2 ^ coded .count ⌝ }
-    ensures { λ r. ⌜ PutIs (now (out .entry)) (now (out .exit)) at (cond bare (low (coded .count) (coded .value)) (prefixField prefix ++ low (coded .count) (coded .value))) r ⌝ }
+    requires room { ⌜ (at ≤ 8) × (at + 110 ≤ 8 * length (now out)) × (0 < coded .count) × (coded .count ≤ 29) ⌝ }
+    requires value { ⌜ coded .value < 2 ^ coded .count ⌝ }
+    ensures { λ r. ⌜ PutIs (now (out .entry)) (now (out .exit)) at
+        (cond bare
+        (low (coded .count) (coded .value))
+        (prefixField prefix ++ low (coded .count) (coded .value)))
+        r ⌝ }
 {
     let value = coded.value;
     let count = coded.count;
@@ -108,9 +113,10 @@ fn put_word(
     last_one: bool,
     more: bool,
 ) -> Word
-    requires { ⌜ (at ≤ 8) × (at + 110 ≤ 8 * length (now out)) ⌝ }
-    requires { ⌜ Small (mediansOf medians) × (mag residual < residualSpan) ⌝ }
-    ensures { λ r. ⌜ WordIs (now (out .entry)) (now (out .exit)) at (mediansOf medians) residual «last_zero» «last_one» more r ⌝ }
+    requires room { ⌜ (at ≤ 8) × (at + 110 ≤ 8 * length (now out)) ⌝ }
+    requires span { ⌜ Small (mediansOf medians) × (mag residual < residualSpan) ⌝ }
+    ensures { λ r. ⌜ WordIs (now (out .entry)) (now (out .exit)) at (mediansOf medians) residual
+        «last_zero» «last_one» more r ⌝ }
 {
     let located = locate(medians, magnitude(residual));
     let coded = gather_code(located.code, located.last, sign_bit(residual));
@@ -129,7 +135,8 @@ fn put_word(
     }
 }
 
-// Whether a next residual is there and its count is above 0, `medians` being those that are due then.
+// Whether a next residual is there and its count is above 0, `medians` being those that are due
+// then.
 fn is_ahead(medians: AdaptiveMedians, residuals: &[i32], next: usize) -> bool
     requires { ⌜ Small (mediansOf medians) ⌝ }
     ensures { λ r. ⌜ r ≡ ahead (mediansOf medians) (drop next (now (residuals .entry))) ⌝ }
@@ -143,8 +150,12 @@ fn is_ahead(medians: AdaptiveMedians, residuals: &[i32], next: usize) -> bool
 
 // The run length, where one is due.
 fn put_before(out: &mut [u8], at: usize, residuals: &[i32], i: usize, due: bool) -> Before
-    requires { ⌜ (at < 8) × (at + maxWordBits ≤ 8 * length (now out)) × (i ≤ length (now residuals)) × (length (now residuals) ≤ maxElements) ⌝ }
-    ensures { λ r. ⌜ BeforeIs (now (out .entry)) (now (out .exit)) at due (drop i (now (residuals .entry))) r ⌝ }
+    requires place { ⌜ at < 8 ⌝ }
+    requires room { ⌜ at + maxWordBits ≤ 8 * length (now out) ⌝ }
+    requires index { ⌜ i ≤ length (now residuals) ⌝ }
+    requires limit { ⌜ length (now residuals) ≤ maxElements ⌝ }
+    ensures { λ r. ⌜ BeforeIs (now (out .entry)) (now (out .exit)) at due
+        (drop i (now (residuals .entry))) r ⌝ }
 {
     if due {
         let run = zeros_from(residuals, i);
@@ -172,7 +183,16 @@ fn one_after(last_zero: bool, last_one: bool, more: bool) -> bool
 
 // A turn that tells of zeros, and leaves the flags.
 fn run_turn(before: Before, last_zero: bool, last_one: bool) -> Turn
-    ensures { λ r. ⌜ r ≡ record { place = before .place; run = before .run; m0 = 0; m1 = 0; m2 = 0; «last_zero» = «last_zero»; «last_one» = «last_one» } ⌝ }
+    ensures { λ r. ⌜ r
+        ≡ record {
+          place = before .place;
+          run = before .run;
+          m0 = 0;
+          m1 = 0;
+          m2 = 0;
+          «last_zero» = «last_zero»;
+          «last_one» = «last_one»;
+        } ⌝ }
 {
     Turn {
         place: before.place,
@@ -185,8 +205,8 @@ fn run_turn(before: Before, last_zero: bool, last_one: bool) -> Turn
     }
 }
 
-// A run length where one is due, and the word where it tells of no zeros, from `at` on. `due` and `other` are the medians of the channel due and of the
-// other.
+// A run length where one is due, and the word where it tells of no zeros, from `at` on. `due` and
+// `other` are the medians of the channel due and of the other.
 pub fn put_turn(
     out: &mut [u8],
     at: usize,
@@ -198,9 +218,13 @@ pub fn put_turn(
     last_one: bool,
     run_break: bool,
 ) -> Turn
-    requires { ⌜ (at < 8) × (at + maxWordBits ≤ 8 * length (now out)) × (i < length (now residuals)) × (length (now residuals) ≤ maxElements) ⌝ }
-    requires { ⌜ Small (mediansOf due) × Small (mediansOf other) × (mag (getD (now residuals) i (pos 0)) < residualSpan) ⌝ }
-    ensures { λ r. ⌜ TurnIs (now (out .entry)) (now (out .exit)) at (mediansOf due) (mediansOf other) «last_zero» «last_one» «run_break» (getD (now (residuals .entry)) i (pos 0)) (drop (suc i) (now (residuals .entry))) r ⌝ }
+    requires room { ⌜ (at < 8) × (at + maxWordBits ≤ 8 * length (now out))
+        × (i < length (now residuals)) × (length (now residuals) ≤ maxElements) ⌝ }
+    requires span { ⌜ Small (mediansOf due) × Small (mediansOf other)
+        × (mag (getD (now residuals) i (pos 0)) < residualSpan) ⌝ }
+    ensures { λ r. ⌜ TurnIs (now (out .entry)) (now (out .exit)) at (mediansOf due) (mediansOf other)
+        «last_zero» «last_one» «run_break»
+        (getD (now (residuals .entry)) i (pos 0)) (drop (suc i) (now (residuals .entry))) r ⌝ }
 {
     let asked = zero_run_eligible(due, other, run_break, last_zero, last_one);
     let before = put_before(out, at, residuals, i, asked);

@@ -1,5 +1,6 @@
-// All words, and the entry. The loop holds the medians of both channels, the flags and the place in locals; a run is one turn, so that no debt is held: the
-// zeros that it tells of are passed over. Each turn is lent the rest of the buffer from its first unfinished byte.
+// All words, and the entry. The loop holds the medians of both channels, the flags and the place in
+// locals; a run is one turn, so that no debt is held: the zeros that it tells of are passed over.
+// Each turn is lent the rest of the buffer from its first unfinished byte.
 ghost use mathlib.Core.Path.{_≡_};
 ghost use mathlib.Core.Bool.{true};
 ghost use Prim.Native.Nat.{_*_, _≤_};
@@ -28,9 +29,12 @@ pub struct Packed {
 
 // All words, from the start of the buffer on.
 fn pack_words(residuals: &[i32], seeds: [AdaptiveMedians; 2], out: &mut [u8]) -> Packed
-    requires { ⌜ (length (now residuals) ≤ maxElements) × (14 * length (now residuals) ≤ length (now out)) ⌝ }
-    requires { ⌜ (spanned (now residuals) ≡ true) × Small (pairOf seeds .left) × Small (pairOf seeds .right) ⌝ }
-    ensures { λ r. ⌜ PackedIs (now (out .entry)) (now (out .exit)) (pairOf seeds) (now (residuals .entry)) r ⌝ }
+    requires room { ⌜ (length (now residuals) ≤ maxElements)
+        × (14 * length (now residuals) ≤ length (now out)) ⌝ }
+    requires span { ⌜ (spanned (now residuals) ≡ true)
+        × Small (pairOf seeds .left) × Small (pairOf seeds .right) ⌝ }
+    ensures { λ r. ⌜ PackedIs (now (out .entry)) (now (out .exit)) (pairOf seeds)
+        (now (residuals .entry)) r ⌝ }
 {
     let mut medians = seeds;
     let mut bits: usize = 0;
@@ -67,10 +71,12 @@ fn pack_words(residuals: &[i32], seeds: [AdaptiveMedians; 2], out: &mut [u8]) ->
     Packed { bits, medians }
 }
 
-// What packing refuses by the lengths of what is lent and by the entropy payload, before it looks at a residual: 5 over 131,072 frames, 6 where there are not
-// two residuals a frame, 1 and 2 about the entropy payload, 11 where under 28 bytes a frame are lent. Writes nothing.
+// What packing refuses by the lengths of what is lent and by the entropy payload, before it looks
+// at a residual: 5 over 131,072 frames, 6 where there are not two residuals a frame, 1 and 2 about
+// the entropy payload, 11 where under 28 bytes a frame are lent. Writes nothing.
 pub fn refusal_before_span(elements: usize, entropy: &[u8], frames: usize, room: usize) -> Outcome
-    ensures { λ r. ⌜ outcomeNumber r ≡ refusalBeforeSpan elements (now (entropy .entry)) frames room ⌝ }
+    ensures { λ r. ⌜ outcomeNumber r
+        ≡ refusalBeforeSpan elements (now (entropy .entry)) frames room ⌝ }
 {
     if frames > MAX_FRAMES {
         return Outcome::Refused(Refusal::TooLarge);
@@ -101,8 +107,9 @@ fn refused(outcome: Outcome) -> PackAnswer
     }
 }
 
-// Answers the bits written and the medians after. Refuses with 5, 6, 1, 2 and 11 as `refusal_before_span` does, and then with 10 for a residual outside the
-// span; the buffer then keeps its bytes.
+// Answers the bits written and the medians after. Refuses with 5, 6, 1, 2 and 11 as
+// `refusal_before_span` does, and then with 10 for a residual outside the span; the buffer then
+// keeps its bytes.
 pub fn encode_packed_samples_stereo_from_entropy(
     residuals: &[i32],
     entropy: &[u8],

@@ -1,5 +1,6 @@
-// The fields of a word. Code and sign, and a prefix below 16 in front of them, are gathered in one number, low bit first; run lengths and escaped prefixes
-// are rare, and are laid by the field writer of the crate bits.
+// The fields of a word. Code and sign, and a prefix below 16 in front of them, are gathered in one
+// number, low bit first; run lengths and escaped prefixes are rare, and are laid by the field
+// writer of the crate bits.
 ghost use mathlib.Core.Path.{_≡_};
 ghost use mathlib.Core.List.{_++_};
 ghost use Prim.Native.Nat.{_+_, _-_, _*_, _^_, _≤_, _<_};
@@ -20,9 +21,12 @@ pub struct Gathered {
     pub count: usize,
 }
 
-// The bits of a code as a number, where a code below `extras` has `digits` bits and any other one more.
+// The bits of a code as a number, where a code below `extras` has `digits` bits and any other one
+// more.
 fn code_value(code: u32, extras: u32, digits: usize) -> u32
-    requires { ⌜ (digits ≤ 27) × (extras ≤ 2 ^ digits) × (code + extras < 2 * 2 ^ digits) ⌝ }
+    requires digits { ⌜ digits ≤ 27 ⌝ }
+    requires extras { ⌜ extras ≤ 2 ^ digits ⌝ }
+    requires code { ⌜ code + extras < 2 * 2 ^ digits ⌝ }
     ensures { λ r. ⌜ r ≡ num (codeBits (digits + 1) extras code) ⌝ }
 {
     if code < extras {
@@ -40,9 +44,12 @@ fn code_count(code: u32, extras: u32, digits: usize) -> usize
     if code < extras { digits } else { digits + 1 }
 }
 
-// A code inside an interval whose last code is `last`, and a sign bit. An interval of one code is taken as one whose codes below 1 have no bits.
+// A code inside an interval whose last code is `last`, and a sign bit. An interval of one code is
+// taken as one whose codes below 1 have no bits.
 pub fn gather_code(code: u32, last: u32, sign: u32) -> Gathered
-    requires { ⌜ (code ≤ last) × (last < 268435456) × (sign < 2) ⌝ }
+    requires code { ⌜ code ≤ last ⌝ }
+    requires last { ⌜ last < 268435456 ⌝ }
+    requires sign { ⌜ sign < 2 ⌝ }
     ensures { λ r. ⌜ Gathers (codeField last code ++ low 1 sign) r ⌝ }
 {
     let digits = (bit_length(last / 2 * 2 + 1) - 1) as usize;
@@ -57,7 +64,9 @@ pub fn gather_code(code: u32, last: u32, sign: u32) -> Gathered
 
 // `ones` ones and a zero in front of a word's other bits.
 pub fn gather_ones(ones: u32, rest: Gathered) -> Gathered
-    requires { ⌜ (ones < 16) × (rest .count ≤ 29) × (rest .value < 2 ^ rest .count) ⌝ }
+    requires ones { ⌜ ones < 16 ⌝ }
+    requires count { ⌜ rest .count ≤ 29 ⌝ }
+    requires value { ⌜ rest .value < 2 ^ rest .count ⌝ }
     ensures { λ r. ⌜ Gathers (unaryField ones ++ low (rest .count) (rest .value)) r ⌝ }
 {
     let count = ones as usize + 1;
@@ -69,8 +78,10 @@ pub fn gather_ones(ones: u32, rest: Gathered) -> Gathered
 
 // A run length, from `at` on. The place after it.
 pub fn put_run(out: &mut [u8], at: usize, run: u32) -> usize
-    requires { ⌜ (at + length (runField run) ≤ 8 * length (now out)) × (at ≤ 100) ⌝ }
-    ensures { λ r. ⌜ (now (out .exit) ≡ put (now (out .entry)) at (runField run)) × (r ≡ at + length (runField run)) ⌝ }
+    requires room { ⌜ at + length (runField run) ≤ 8 * length (now out) ⌝ }
+    requires place { ⌜ at ≤ 100 ⌝ }
+    ensures buffer { λ r. ⌜ now (out .exit) ≡ put (now (out .entry)) at (runField run) ⌝ }
+    ensures place { λ r. ⌜ r ≡ at + length (runField run) ⌝ }
 {
     if run < 2 {
         return put_unary(out, at, run);
@@ -83,8 +94,11 @@ pub fn put_run(out: &mut [u8], at: usize, run: u32) -> usize
 
 // A prefix of 16 or more, from `at` on: exactly 16 ones to escape. The place after it.
 pub fn put_escaped(out: &mut [u8], at: usize, prefix: u32) -> usize
-    requires { ⌜ (at + length (prefixField prefix) ≤ 8 * length (now out)) × (at ≤ 80) × (16 ≤ prefix) ⌝ }
-    ensures { λ r. ⌜ (now (out .exit) ≡ put (now (out .entry)) at (prefixField prefix)) × (r ≡ at + length (prefixField prefix)) ⌝ }
+    requires room { ⌜ at + length (prefixField prefix) ≤ 8 * length (now out) ⌝ }
+    requires place { ⌜ at ≤ 80 ⌝ }
+    requires prefix { ⌜ 16 ≤ prefix ⌝ }
+    ensures buffer { λ r. ⌜ now (out .exit) ≡ put (now (out .entry)) at (prefixField prefix) ⌝ }
+    ensures place { λ r. ⌜ r ≡ at + length (prefixField prefix) ⌝ }
 {
     let next = put_unary(out, at, 16);
     put_run(out, next, prefix - 16)

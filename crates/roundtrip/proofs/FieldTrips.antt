@@ -1,4 +1,5 @@
--- A run length, a prefix and a code that stand at a place are read as their values, and the place after them.
+-- A run length, a prefix and a code that stand at a place are read as their values, and the place
+-- after them.
 -- Assumes nothing.
 use mathlib.Core.Path.{_≡_, refl, ap, ap₂, _∙_}
 use mathlib.Core.Bool.{Bool, true, false, cond}

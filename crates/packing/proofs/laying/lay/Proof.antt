@@ -1,4 +1,5 @@
--- `packing::laying::lay` meets its contract: after i turns the first i bytes are stored, and `left` holds the bits that are not.
+-- `packing::laying::lay` meets its contract: after i turns the first i bytes are stored, and `left`
+-- holds the bits that are not.
 -- Assumes nothing.
 use Prim.Native.Nat.{_+_, _-_, _*_, _/_, _%_, _^_, _≤_}
 use native.Mathlib.Omega.{arith}
@@ -15,63 +16,34 @@ Inv-loop out₀ at value count end left₀ i₀ out left i = (i ≤ (end + 7) / 
 abbrev μ-loop : tie.MeasureT-loop
 μ-loop out₀ at value count end left₀ i₀ out left i = end - 8 * i
 
-add-end : tie.Need-add-end Inv-loop μ-loop
-add-end c = omega arith
-
-slice-read-wide : tie.Need-slice-read-wide Inv-loop μ-loop
-slice-read-wide c = omega arith
-
-wide-requires : tie.Need-wide-requires Inv-loop μ-loop
-wide-requires c κs = search needs
-
-shl-left : tie.Need-shl-left Inv-loop μ-loop
-shl-left c = omega arith
-
 -- what the code joins before the loop
-start : (c : tie.After-wide Inv-loop μ-loop) → let a = c .before .before .before .args in
+joins : (c : tie.After-wide Inv-loop μ-loop) → let a = c .before .before .before .args in
     Begun (now (a .out)) (a .at) (a .count) (a .value) (c .wide .result % (1 * 2 ^ a .at % 2 ^ 64) + a .value * 2 ^ a .at % 2 ^ 64)
-start c =
-    let a = c .before .before .before .args in
-    rw (c .wide .ensures) (begun (now (a .out)) (a .at) (a .count) (a .value) (omega arith) (omega arith) (c .before .before .before .pre .1) (omega arith) (omega arith))
+joins c =
+    let start : tie.Start Inv-loop μ-loop = search needs in
+    let a = start .args in
+    rw (c .wide .ensures) (begun (now (a .out)) (a .at) (a .count) (a .value) (omega arith) (omega arith) (start .pre .1) (omega arith) (omega arith))
 
 rem-left : tie.Need-rem-left Inv-loop μ-loop
-rem-left c = rw (start c .power) (pow-pos (c .before .before .before .args .at))
-
-shl-left-2 : tie.Need-shl-left-2 Inv-loop μ-loop
-shl-left-2 c = omega arith
+rem-left c =
+    let start : tie.Start Inv-loop μ-loop = search needs in
+    rw (joins c .power) (pow-pos (start .args .at))
 
 add-left : tie.Need-add-left Inv-loop μ-loop
-add-left c = record { fits = start c .fits }
+add-left c = record { fits = joins c .fits }
 
 loop-holds : tie.Need-loop-holds Inv-loop μ-loop
-loop-holds c = (omega arith, laying-start _ _ _ (start c .begins))
-
-mul-loop : tie.Need-mul-loop Inv-loop μ-loop
-mul-loop c = omega arith
-
-cast-out : tie.Need-cast-out Inv-loop μ-loop
-cast-out c = omega arith
-
-slice-write-out : tie.Need-slice-write-out Inv-loop μ-loop
-slice-write-out c = omega arith
-
-add-i : tie.Need-add-i Inv-loop μ-loop
-add-i c = omega arith
-
-loop-less : tie.Need-loop-less Inv-loop μ-loop
-loop-less c = omega arith
+loop-holds c = (omega arith, laying-start _ _ _ (joins c .begins))
 
 loop-again : tie.Need-loop-again Inv-loop μ-loop
 loop-again c =
     let l = c .before .loop in
     (omega arith, laying-step _ _ (l .out) (l .left) (l .i) (omega arith) (l .inv .1))
 
-same-length : tie.Need-same-length Inv-loop μ-loop
-same-length c = omega arith
-
 returns : tie.Need-returns Inv-loop μ-loop
 returns c =
-    let a = c .before .before .before .before .before .args in
+    let start : tie.Start Inv-loop μ-loop = search needs in
+    let a = start .args in
     let l = c .before .loop in
     laying-end (now (a .out)) (a .at) (a .count) (a .value) (l .out) (l .left) (l .i) (omega arith) (omega arith) (omega arith) (omega arith) (l .inv .1)
 
@@ -81,19 +53,19 @@ lay-spec =
     (tie.spec
     Inv-loop
     μ-loop
-    add-end
-    slice-read-wide
-    wide-requires
-    shl-left
+    (λ c. omega arith)
+    (λ c. omega arith)
+    (λ c κs. search needs)
+    (λ c. omega arith)
     rem-left
-    shl-left-2
+    (λ c. omega arith)
     add-left
     loop-holds
-    mul-loop
-    cast-out
-    slice-write-out
-    add-i
-    loop-less
+    (λ c. omega arith)
+    (λ c. omega arith)
+    (λ c. omega arith)
+    (λ c. omega arith)
+    (λ c. omega arith)
     loop-again
-    same-length
+    (λ c. omega arith)
     returns)

@@ -13,23 +13,12 @@ use borrow.Author.Needs.{needs}
 use Rattle.packing.proofs.word.is_ahead.Statement.{statement}
 use Rattle.packing.proofs.word.is_ahead.Tie as tie
 
-array-read-result : tie.Need-array-read-result
-array-read-result c = search needs
-
-mul-magnitude : tie.Need-mul-magnitude
-mul-magnitude c = search needs
-
-shared-slice-copy-out-magnitude : tie.Need-shared-slice-copy-out-magnitude
-shared-slice-copy-out-magnitude c = search needs
-
-magnitude-requires : tie.Need-magnitude-requires
-magnitude-requires c κs = search needs
-
 returns : tie.Need-returns
 returns c =
-    let a = c .before .before .before .before .args in
+    let start : tie.Start = search needs in
+    let a = start .args in
     let f : SFits w32 (getD (now (a .residuals)) (a .next) (pos 0)) = search needs in
-    rw (c .magnitude .ensures, toZ-ofZ f) (ahead-some (mediansOf (a .medians)) (now (a .residuals)) (a .next) (c .before .before .before .before .pre) (omega arith))
+    rw (c .magnitude .ensures, toZ-ofZ f) (ahead-some (mediansOf (a .medians)) (now (a .residuals)) (a .next) (start .pre) (omega arith))
 
 returns-2 : tie.Need-returns-2
 returns-2 c = let a = c .before .args in ahead-end (mediansOf (a .medians)) (now (a .residuals)) (a .next) (omega arith)
@@ -38,9 +27,9 @@ pub is-ahead-spec : {M : Type 1} → statement M
 is-ahead-spec =
     tie.close
     (tie.spec
-    array-read-result
-    mul-magnitude
-    shared-slice-copy-out-magnitude
-    magnitude-requires
+    (λ c. search needs)
+    (λ c. search needs)
+    (λ c. search needs)
+    (λ c κs. search needs)
     returns
     returns-2)

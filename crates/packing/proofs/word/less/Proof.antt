@@ -5,12 +5,6 @@ use borrow.Author.Needs.{needs}
 use Rattle.packing.proofs.word.less.Statement.{statement}
 use Rattle.packing.proofs.word.less.Tie as tie
 
-returns : tie.Need-returns
-returns c = search needs
-
-sub-result : tie.Need-sub-result
-sub-result c = search needs
-
 returns-2 : tie.Need-returns-2
 returns-2 c = rw (c .before .if1 .taken)
 
@@ -18,4 +12,4 @@ returns-3 : tie.Need-returns-3
 returns-3 c = rw (c .if1 .left) (omega arith)
 
 pub less-spec : {M : Type 1} → statement M
-less-spec = tie.close (tie.spec returns sub-result returns-2 returns-3)
+less-spec = tie.close (tie.spec (λ c. search needs) (λ c. search needs) returns-2 returns-3)

@@ -14,12 +14,10 @@ use borrow.Author.Needs.{needs}
 use Rattle.packing.proofs.word.put_before.Statement.{statement}
 use Rattle.packing.proofs.word.put_before.Tie as tie
 
-zeros-from-requires : tie.Need-zeros-from-requires
-zeros-from-requires c κs = search needs
-
 few : (c : tie.After-zeros-from) → c .zeros-from .result ≤ maxElements
 few c =
-    let a = c .before .before .before .args in
+    let start : tie.Start = search needs in
+    let a = start .args in
     omega (arith, c .zeros-from .ensures, zeros-le (drop (a .i) (now (a .residuals))), length-drop (a .i) (now (a .residuals)))
 
 cast-put-run : tie.Need-cast-put-run
@@ -30,12 +28,9 @@ put-run-requires c κs =
     let r = c .before .zeros-from .result in
     omega (arith, run-long r 32 (omega arith) (omega (arith, few (c .before))) (omega (arith, few (c .before))))
 
-same-length : tie.Need-same-length
-same-length c = search needs
-
 returns : tie.Need-returns
 returns c =
-    let x = c .before .before .before .before in
+    let x : tie.After-zeros-from = search needs in
     let a = x .before .before .before .args in
     rw (x .before .if1 .taken) (before-run (now (a .out)) _ (a .at) (drop (a .i) (now (a .residuals))) (x .zeros-from .result) _ (x .zeros-from .ensures) (c .before .before .put-run .ensures))
 
@@ -45,4 +40,4 @@ returns-2 c = rw (c .if1 .left) (record { put-is = record { bytes = sym (put-nil
 pub put-before-spec : {M : Type 1} → statement M
 put-before-spec =
     tie.close
-    (tie.spec zeros-from-requires cast-put-run put-run-requires same-length returns returns-2)
+    (tie.spec (λ c κs. search needs) cast-put-run put-run-requires (λ c. search needs) returns returns-2)

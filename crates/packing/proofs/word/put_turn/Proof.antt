@@ -36,7 +36,8 @@ before-is c =
 more-is : (c : tie.After-is-ahead) → let a = start (c .before .before .before .before .before) .args in
     c .is-ahead .result ≡ ahead (mediansOf (a .other)) (drop (suc (a .i)) (now (a .residuals)))
 more-is c =
-    let a = start (c .before .before .before .before .before) .args in
+    let after-put-before : tie.After-put-before = search needs in
+    let a = start after-put-before .args in
     c .is-ahead .ensures ∙ ap (λ (n : ℕ). ahead (mediansOf (a .other)) (drop n (now (a .residuals)))) (add-one (a .i))
 
 -- the word
@@ -44,25 +45,15 @@ word-is : (c : tie.After-put-word) → let b = c .before .before .before .before
     WordIs (b .put-before .last .0) (c .put-word .last .0) (b .put-before .result .place) (mediansOf (a .due)) (getD (now (a .residuals)) (a .i) (pos 0)) (a .last-zero) (a .last-one)
     (ahead (mediansOf (a .other)) (drop (suc (a .i)) (now (a .residuals)))) (c .put-word .result)
 word-is c =
-    let a = start (c .before .before .before .before .before .before .before .before) .args in
+    let after-put-before : tie.After-put-before = search needs in
+    let after-is-ahead : tie.After-is-ahead = search needs in
+    let a = start after-put-before .args in
     let f : SFits w32 (getD (now (a .residuals)) (a .i) (pos 0)) = search needs in
-    rw (← more-is (c .before .before .before), ← toZ-ofZ f) (c .put-word .ensures)
-
-zero-run-eligible-requires : tie.Need-zero-run-eligible-requires
-zero-run-eligible-requires c κs = search needs
-
-put-before-requires : tie.Need-put-before-requires
-put-before-requires c κs = search needs
-
-run-turn-requires : tie.Need-run-turn-requires
-run-turn-requires c κs = search needs
-
-same-length : tie.Need-same-length
-same-length c = search needs
+    rw (← more-is (after-is-ahead), ← toZ-ofZ f) (c .put-word .ensures)
 
 returns : tie.Need-returns
 returns c =
-    let b = c .before .before .before .before .before in
+    let b : tie.After-put-before = search needs in
     let a = start b .args in
     let vs = now (a .residuals) in
     let e = c .run-turn .ensures in
@@ -72,39 +63,19 @@ returns c =
           (now (a .out)) _ (a .at) _ _ (before-is b) (omega arith) (ap (λ (t : Turn). t .place) e) (ap (λ (t : Turn). t .run) e) (ap (λ (t : Turn). t .«last_zero») e) (ap (λ (t : Turn). t .«last_one») e);
     }
 
-add-is-ahead : tie.Need-add-is-ahead
-add-is-ahead c = search needs
-
-is-ahead-requires : tie.Need-is-ahead-requires
-is-ahead-requires c κs = search needs
-
-mul-residual : tie.Need-mul-residual
-mul-residual c = search needs
-
-shared-slice-copy-out-residual : tie.Need-shared-slice-copy-out-residual
-shared-slice-copy-out-residual c = search needs
-
 put-word-requires : tie.Need-put-word-requires
 put-word-requires c κs =
-    let b = c .before .before .before .before .before .before .before in
+    let b : tie.After-put-before = search needs in
     let x = start b in
     let f : SFits w32 (getD (now (x .args .residuals)) (x .args .i) (pos 0)) = search needs in
     let n = before-few _ _ _ _ _ _ (before-is b) (omega arith) in
     ((omega arith, omega (arith, b .put-before .kept .0)), (x .pre .1 .0, rw (toZ-ofZ f) (x .pre .1 .2)))
 
-zero-after-requires : tie.Need-zero-after-requires
-zero-after-requires c κs = search needs
-
-one-after-requires : tie.Need-one-after-requires
-one-after-requires c κs = search needs
-
-same-length-2 : tie.Need-same-length-2
-same-length-2 c = search needs
-
 returns-2 : tie.Need-returns-2
 returns-2 c =
-    let b = c .before .before .before .before .before .before .before .before .before .before .before .before in
-    let w = c .before .before .before .before in
+    let b : tie.After-put-before = search needs in
+    let after-is-ahead : tie.After-is-ahead = search needs in
+    let w : tie.After-put-word = search needs in
     let x = start b in
     let a = x .args in
     let vs = now (a .residuals) in
@@ -112,25 +83,25 @@ returns-2 c =
       turned = λ s seen.
           turn-word s (mediansOf (a .due)) (mediansOf (a .other)) (a .last-zero) (a .last-one) (a .run-break) (getD vs (a .i) (pos 0)) (drop (suc (a .i)) vs) seen
           (now (a .out)) _ _ (a .at) _ _ _ (omega arith) (before-is b) (omega arith) (word-is w) refl refl refl refl refl
-          (c .before .zero-after .ensures ∙ rw (more-is (c .before .before .before .before .before .before .before)))
-          (c .one-after .ensures ∙ rw (more-is (c .before .before .before .before .before .before .before)));
+          (c .before .zero-after .ensures ∙ rw (more-is after-is-ahead))
+          (c .one-after .ensures ∙ rw (more-is after-is-ahead));
     }
 
 pub put-turn-spec : {M : Type 1} → statement M
 put-turn-spec =
     tie.close
     (tie.spec
-    zero-run-eligible-requires
-    put-before-requires
-    run-turn-requires
-    same-length
+    (λ c κs. search needs)
+    (λ c κs. search needs)
+    (λ c κs. search needs)
+    (λ c. search needs)
     returns
-    add-is-ahead
-    is-ahead-requires
-    mul-residual
-    shared-slice-copy-out-residual
+    (λ c. search needs)
+    (λ c κs. search needs)
+    (λ c. search needs)
+    (λ c. search needs)
     put-word-requires
-    zero-after-requires
-    one-after-requires
-    same-length-2
+    (λ c κs. search needs)
+    (λ c κs. search needs)
+    (λ c. search needs)
     returns-2)

@@ -5,9 +5,6 @@ use borrow.Author.Needs.{needs}
 use Rattle.packing.proofs.written.code_count.Statement.{statement}
 use Rattle.packing.proofs.written.code_count.Tie as tie
 
-add-result : tie.Need-add-result
-add-result c = search needs
-
 returns : tie.Need-returns
 returns c = let a = c .before .args in short-size (a .digits) (a .extras) (a .code) (c .if1 .taken)
 
@@ -15,4 +12,4 @@ returns-2 : tie.Need-returns-2
 returns-2 c = let a = c .before .args in long-size (a .digits) (a .extras) (a .code) (c .if1 .left)
 
 pub code-count-spec : {M : Type 1} → statement M
-code-count-spec = tie.close (tie.spec add-result returns returns-2)
+code-count-spec = tie.close (tie.spec (λ c. search needs) returns returns-2)

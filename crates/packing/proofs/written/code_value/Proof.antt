@@ -24,12 +24,6 @@ add-result c = let p = power c in omega arith
 add-result-2 : tie.Need-add-result-2
 add-result-2 c = let p = power c in omega arith
 
-cast-result : tie.Need-cast-result
-cast-result c = search needs
-
-shl-result : tie.Need-shl-result
-shl-result c = search needs
-
 add-result-3 : tie.Need-add-result-3
 add-result-3 c =
     let a = c .before .args in
@@ -38,12 +32,12 @@ add-result-3 c =
     omega (arith, parity c)
 
 returns : tie.Need-returns
-returns c = let a = c .before .args in short-num (a .digits) (a .extras) (a .code) (c .if1 .taken) (c .before .pre .1)
+returns c = let a = c .before .args in short-num (a .digits) (a .extras) (a .code) (c .if1 .taken) (c .before .pre .1 .0)
 
 returns-2 : tie.Need-returns-2
-returns-2 c = let a = c .before .args in rw (parity c) (long-num (a .digits) (a .extras) (a .code) (c .if1 .left) (c .before .pre .2))
+returns-2 c = let a = c .before .args in rw (parity c) (long-num (a .digits) (a .extras) (a .code) (c .if1 .left) (c .before .pre .1 .1))
 
 pub code-value-spec : {M : Type 1} → statement M
 code-value-spec =
     tie.close
-    (tie.spec add-result add-result-2 cast-result shl-result add-result-3 returns returns-2)
+    (tie.spec add-result add-result-2 (λ c. search needs) (λ c. search needs) add-result-3 returns returns-2)

@@ -15,15 +15,6 @@ use borrow.Author.Needs.{needs}
 use Rattle.packing.proofs.written.gather_code.Statement.{statement}
 use Rattle.packing.proofs.written.gather_code.Tie as tie
 
-mul-bit-length : tie.Need-mul-bit-length
-mul-bit-length c = search needs
-
-add-bit-length : tie.Need-add-bit-length
-add-bit-length c = search needs
-
-bit-length-requires : tie.Need-bit-length-requires
-bit-length-requires c κs = search needs
-
 -- what is known of the interval's bit length
 parts : (c : tie.After-bit-length) → Uniform (c .before .args .last) (c .before .args .code) (c .bit-length .result)
 parts c = uniform (c .before .args .last) (c .before .args .code) (c .bit-length .result) (omega arith) (omega arith) (c .bit-length .ensures)
@@ -33,12 +24,6 @@ shifted c = let u = parts c in omega (arith, pow-mono {i = c .bit-length .result
 
 sub-digits : tie.Need-sub-digits
 sub-digits c = let u = parts c in omega arith
-
-cast-digits : tie.Need-cast-digits
-cast-digits c = search needs
-
-cast-extras : tie.Need-cast-extras
-cast-extras c = search needs
 
 shl-extras : tie.Need-shl-extras
 shl-extras c = let u = parts c in omega arith
@@ -50,39 +35,38 @@ sub-extras-2 : tie.Need-sub-extras-2
 sub-extras-2 c = let u = parts c in rw (shifted c) (omega arith)
 
 code-value-requires : tie.Need-code-value-requires
-code-value-requires c κs = let u = parts c in rw (shifted c) (omega arith, u .extras, u .sum)
+code-value-requires c κs = let u = parts c in rw (shifted c) (omega arith, (u .extras, u .sum))
 
 code-count-requires : tie.Need-code-count-requires
 code-count-requires c κs = let u = parts (c .before) in omega arith
-
-wide-requires : tie.Need-wide-requires
-wide-requires c κs = search needs
-
-wide-requires-2 : tie.Need-wide-requires-2
-wide-requires-2 c κs = search needs
 
 -- the code's bits are those of the definition
 is-code : (c : tie.After-wide2) → let a = c .before .before .before .before .before .args in let b = c .before .before .before .before .bit-length .result in
     codeBits (b - 1 + 1) (2 * 2 ^ (b - 1) % 2 ^ 32 - a .last - 1) (a .code) ≡ codeField (a .last) (a .code)
 is-code c =
-    let a = c .before .before .before .before .before .args in
-    let b = c .before .before .before .before .bit-length .result in
-    let u = parts (c .before .before .before .before) in
+    let start : tie.Start = search needs in
+    let after-bit-length : tie.After-bit-length = search needs in
+    let a = start .args in
+    let b = after-bit-length .bit-length .result in
+    let u = parts after-bit-length in
     let e : b - 1 + 1 ≡ b = omega arith in
-    rw (shifted (c .before .before .before .before), e) (sym (u .is))
+    rw (shifted (after-bit-length), e) (sym (u .is))
 
 few : (c : tie.After-wide2) → c .before .before .code-count .result ≤ 28
 few c =
-    let a = c .before .before .before .before .before .args in
+    let start : tie.Start = search needs in
+    let a = start .args in
     omega (arith, c .before .before .code-count .ensures, ap length (is-code c), code-long (a .last) (a .code) 28 (omega arith) (omega arith))
 
 whole : (c : tie.After-wide2) → let a = c .before .before .before .before .before .args in
     Joined (codeField (a .last) (a .code)) (low 1 (a .sign)) (c .before .wide .result) (c .before .before .code-count .result) (c .wide2 .result)
 whole c =
-    let a = c .before .before .before .before .before .args in
+    let start : tie.Start = search needs in
+    let after-code-value : tie.After-code-value = search needs in
+    let a = start .args in
     let l : a .sign < 2 ^ 1 = omega arith in
     joined (codeField (a .last) (a .code)) (low 1 (a .sign)) (c .before .wide .result) (c .before .before .code-count .result) (c .wide2 .result)
-    (c .before .wide .ensures ∙ c .before .before .before .code-value .ensures ∙ ap num (is-code c))
+    (c .before .wide .ensures ∙ after-code-value .code-value .ensures ∙ ap num (is-code c))
     (c .before .before .code-count .ensures ∙ ap length (is-code c))
     (c .wide2 .ensures ∙ sym (num-low 1 (a .sign) ∙ mod-eq-of-lt l))
     (omega (arith, length-low 1 (a .sign), code-long (a .last) (a .code) 28 (omega arith) (omega arith)))
@@ -97,25 +81,27 @@ add-t18 : tie.Need-add-t18
 add-t18 c = omega (arith, few c)
 
 returns : tie.Need-returns
-returns c = record { value-is = whole c .number; count-is = ap (λ (n : ℕ). c .before .before .code-count .result + n) (sym (length-low 1 (c .before .before .before .before .before .args .sign))) ∙ whole c .size }
+returns c =
+    let start : tie.Start = search needs in
+    record { value-is = whole c .number; count-is = ap (λ (n : ℕ). c .before .before .code-count .result + n) (sym (length-low 1 (start .args .sign))) ∙ whole c .size }
 
 pub gather-code-spec : {M : Type 1} → statement M
 gather-code-spec =
     tie.close
     (tie.spec
-    mul-bit-length
-    add-bit-length
-    bit-length-requires
+    (λ c. search needs)
+    (λ c. search needs)
+    (λ c κs. search needs)
     sub-digits
-    cast-digits
-    cast-extras
+    (λ c. search needs)
+    (λ c. search needs)
     shl-extras
     sub-extras
     sub-extras-2
     code-value-requires
     code-count-requires
-    wide-requires
-    wide-requires-2
+    (λ c κs. search needs)
+    (λ c κs. search needs)
     shl-t16
     add-t17
     add-t18

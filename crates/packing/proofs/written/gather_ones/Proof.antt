@@ -14,12 +14,6 @@ use borrow.Author.Needs.{needs}
 use Rattle.packing.proofs.written.gather_ones.Statement.{statement}
 use Rattle.packing.proofs.written.gather_ones.Tie as tie
 
-add-count : tie.Need-add-count
-add-count c = search needs
-
-shl-t6 : tie.Need-shl-t6
-shl-t6 c = search needs
-
 one : (n : ℕ) → n < 16 → 1 * 2 ^ n % 2 ^ 64 ≡ 2 ^ n
 one n h = shl-one n 64 (omega arith)
 
@@ -31,20 +25,14 @@ whole c =
     joined (unaryField (a .ones)) (low (a .rest .count) (a .rest .value)) (1 * 2 ^ a .ones % 2 ^ 64 - 1) (a .ones + 1) (a .rest .value)
     (rw (one (a .ones) (omega arith)) (unary-num (a .ones)))
     (sym (length-unary (a .ones)))
-    (sym (num-low (a .rest .count) (a .rest .value) ∙ mod-eq-of-lt (c .pre .2)))
+    (sym (num-low (a .rest .count) (a .rest .value) ∙ mod-eq-of-lt (c .pre .1 .1)))
     (omega (arith, length-unary (a .ones), length-low (a .rest .count) (a .rest .value)))
 
 sub-t7 : tie.Need-sub-t7
 sub-t7 c = rw (one (c .args .ones) (omega arith)) (pow-pos (c .args .ones))
 
-shl-t9 : tie.Need-shl-t9
-shl-t9 c = search needs
-
 add-t10 : tie.Need-add-t10
 add-t10 c = record { fits = whole (c .before) .fits }
-
-add-t4 : tie.Need-add-t4
-add-t4 c = search needs
 
 returns : tie.Need-returns
 returns c =
@@ -53,4 +41,4 @@ returns c =
     record { value-is = w .number; count-is = ap (λ (n : ℕ). a .ones + 1 + n) (sym (length-low (a .rest .count) (a .rest .value))) ∙ w .size }
 
 pub gather-ones-spec : {M : Type 1} → statement M
-gather-ones-spec = tie.close (tie.spec add-count shl-t6 sub-t7 shl-t9 add-t10 add-t4 returns)
+gather-ones-spec = tie.close (tie.spec (λ c. search needs) (λ c. search needs) sub-t7 (λ c. search needs) add-t10 (λ c. search needs) returns)

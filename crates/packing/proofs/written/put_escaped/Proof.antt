@@ -19,22 +19,20 @@ put-unary-requires c κs =
     let v = c .before .before .args .prefix in
     omega (arith, length-two (unaryField 16) (runField (v - 16)) _ (prefix-escaped v (omega arith)))
 
-sub-put-run : tie.Need-sub-put-run
-sub-put-run c = search needs
-
 put-run-requires : tie.Need-put-run-requires
 put-run-requires c κs =
-    let v = c .before .before .before .before .before .before .args .prefix in
-    let u = c .before .before .before .put-unary in
+    let start : tie.Start = search needs in
+    let after-put-unary : tie.After-put-unary = search needs in
+    let v = start .args .prefix in
+    let u = after-put-unary .put-unary in
     omega (arith, u .ensures .1, u .kept .0, length-unary 16, length-two (unaryField 16) (runField (v - 16)) _ (prefix-escaped v (omega arith)))
-
-same-length : tie.Need-same-length
-same-length c = search needs
 
 returns : tie.Need-returns
 returns c =
-    let a = c .before .before .before .before .before .before .before .before .before .args in
-    let u = c .before .before .before .before .before .before .put-unary in
+    let start : tie.Start = search needs in
+    let after-put-unary : tie.After-put-unary = search needs in
+    let a = start .args in
+    let u = after-put-unary .put-unary in
     let r = c .before .before .put-run in
     let e = prefix-escaped (a .prefix) (omega arith) in (
       r .ensures .0 ∙ put-two (now (a .out)) _ (a .at) _ (unaryField 16) (runField (a .prefix - 16)) (u .ensures .0) (u .ensures .1) (omega arith) ∙ ap (put (now (a .out)) (a .at)) (sym e),
@@ -43,4 +41,4 @@ returns c =
 
 pub put-escaped-spec : {M : Type 1} → statement M
 put-escaped-spec =
-    tie.close (tie.spec put-unary-requires sub-put-run put-run-requires same-length returns)
+    tie.close (tie.spec put-unary-requires (λ c. search needs) put-run-requires (λ c. search needs) returns)

@@ -16,16 +16,14 @@ use Rattle.packing.proofs.written.put_run.Statement.{statement}
 use Rattle.packing.proofs.written.put_run.Tie as tie
 
 put-unary-requires : tie.Need-put-unary-requires
-put-unary-requires c κs = let n = c .before .before .before .args .run in omega (arith, ap length (run-short n (omega arith)))
-
-same-length : tie.Need-same-length
-same-length c = search needs
+put-unary-requires c κs =
+    let start : tie.Start = search needs in
+    let n = start .args .run in omega (arith, ap length (run-short n (omega arith)))
 
 returns : tie.Need-returns
-returns c = rw (run-short (c .before .before .before .before .before .before .args .run) (omega arith)) (c .before .before .put-unary .ensures)
-
-bit-length-requires : tie.Need-bit-length-requires
-bit-length-requires c κs = search needs
+returns c =
+    let start : tie.Start = search needs in
+    rw (run-short (start .args .run) (omega arith)) (c .before .before .put-unary .ensures)
 
 parts : (c : tie.After-bit-length) → RunParts (c .before .before .before .args .run) (c .bit-length .result)
 parts c = run-parts _ _ (c .before .if1 .left) (omega arith) (c .bit-length .ensures)
@@ -34,31 +32,36 @@ put-unary-requires-2 : tie.Need-put-unary-requires-2
 put-unary-requires-2 c κs = let r = parts (c .before) in omega (arith, length-unary (c .before .bit-length .result))
 
 sub-put-bits : tie.Need-sub-put-bits
-sub-put-bits c = let r = parts (c .before .before .before .before .before) in omega arith
+sub-put-bits c =
+    let after-bit-length : tie.After-bit-length = search needs in
+    let r = parts after-bit-length in omega arith
 
 put-bits-requires : tie.Need-put-bits-requires
 put-bits-requires c κs =
-    let r = parts (c .before .before .before .before .before) in omega (arith, c .before .before .before .put-unary2 .ensures .1, c .before .before .before .put-unary2 .kept .0, length-unary (c .before .before .before .before .before .bit-length .result))
+    let after-bit-length : tie.After-bit-length = search needs in
+    let after-put-unary2 : tie.After-put-unary2 = search needs in
+    let r = parts after-bit-length in omega (arith, after-put-unary2 .put-unary2 .ensures .1, after-put-unary2 .put-unary2 .kept .0, length-unary (after-bit-length .bit-length .result))
 
 sub-result : tie.Need-sub-result
-sub-result c = let r = parts (c .before .before .before .before .before .before .before .before) in omega arith
-
-cast-result : tie.Need-cast-result
-cast-result c = search needs
+sub-result c =
+    let after-bit-length : tie.After-bit-length = search needs in
+    let r = parts after-bit-length in omega arith
 
 add-result : tie.Need-add-result
 add-result c =
-    let r = parts (c .before .before .before .before .before .before .before .before) in omega (arith, c .before .before .before .before .before .before .put-unary2 .ensures .1, length-unary (c .before .before .before .before .before .before .before .before .bit-length .result))
-
-same-length-2 : tie.Need-same-length-2
-same-length-2 c = search needs
+    let after-bit-length : tie.After-bit-length = search needs in
+    let after-put-unary2 : tie.After-put-unary2 = search needs in
+    let r = parts after-bit-length in omega (arith, after-put-unary2 .put-unary2 .ensures .1, length-unary (after-bit-length .bit-length .result))
 
 returns-2 : tie.Need-returns-2
 returns-2 c =
-    let a = c .before .before .before .before .before .before .before .before .before .before .before .args in
-    let b = c .before .before .before .before .before .before .before .before .bit-length .result in
-    let r = parts (c .before .before .before .before .before .before .before .before) in
-    let u = c .before .before .before .before .before .before .put-unary2 in (
+    let start : tie.Start = search needs in
+    let after-bit-length : tie.After-bit-length = search needs in
+    let after-put-unary2 : tie.After-put-unary2 = search needs in
+    let a = start .args in
+    let b = after-bit-length .bit-length .result in
+    let r = parts after-bit-length in
+    let u = after-put-unary2 .put-unary2 in (
       c .before .before .put-bits .ensures
           ∙ put-two (now (a .out)) _ (a .at) _ (unaryField b) (low (b - 1) (a .run)) (u .ensures .0) (u .ensures .1) (omega arith)
           ∙ ap (put (now (a .out)) (a .at)) (sym (r .parts)),
@@ -70,14 +73,14 @@ put-run-spec =
     tie.close
     (tie.spec
     put-unary-requires
-    same-length
+    (λ c. search needs)
     returns
-    bit-length-requires
+    (λ c κs. search needs)
     put-unary-requires-2
     sub-put-bits
     put-bits-requires
     sub-result
-    cast-result
+    (λ c. search needs)
     add-result
-    same-length-2
+    (λ c. search needs)
     returns-2)

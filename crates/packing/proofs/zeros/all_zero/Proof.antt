@@ -23,34 +23,23 @@ abbrev μ-loop : tie.MeasureT-loop
 loop-holds : tie.Need-loop-holds Inv-loop μ-loop
 loop-holds c = (omega arith, block-start _ _)
 
-add-other : tie.Need-add-other Inv-loop μ-loop
-add-other c = omega arith
-
-mul-other : tie.Need-mul-other Inv-loop μ-loop
-mul-other c = search needs
-
-shared-slice-copy-out-other : tie.Need-shared-slice-copy-out-other Inv-loop μ-loop
-shared-slice-copy-out-other c = omega arith
-
-other-requires : tie.Need-other-requires Inv-loop μ-loop
-other-requires c κs = search needs
-
 -- the residual that was looked at
 next : (c : tie.After-other Inv-loop μ-loop) → c .other .result ≡ otherOf (getD (c .before .before .before .before .args .residuals .now) (c .before .before .before .before .args .from + c .before .before .before .loop .i) (pos 0))
-next c = let f : SFits w32 (getD (c .before .before .before .before .args .residuals .now) (c .before .before .before .before .args .from + c .before .before .before .loop .i) (pos 0)) = search needs in rw (toZ-ofZ f) at (c .other .ensures)
+next c =
+    let start : tie.Start Inv-loop μ-loop = search needs in
+    let at-loop : tie.At-loop Inv-loop μ-loop = search needs in
+    let f : SFits w32 (getD (start .args .residuals .now) (start .args .from + at-loop .loop .i) (pos 0)) = search needs in rw (toZ-ofZ f) at (c .other .ensures)
 
 add-others : tie.Need-add-others Inv-loop μ-loop
-add-others c = omega (arith, c .before .before .before .loop .inv .1, next c, other-le (getD (c .before .before .before .before .args .residuals .now) (c .before .before .before .before .args .from + c .before .before .before .loop .i) (pos 0)))
-
-add-i : tie.Need-add-i Inv-loop μ-loop
-add-i c = omega arith
-
-loop-less : tie.Need-loop-less Inv-loop μ-loop
-loop-less c = omega arith
+add-others c =
+    let start : tie.Start Inv-loop μ-loop = search needs in
+    let at-loop : tie.At-loop Inv-loop μ-loop = search needs in
+    omega (arith, at-loop .loop .inv .1, next c, other-le (getD (start .args .residuals .now) (start .args .from + at-loop .loop .i) (pos 0)))
 
 loop-again : tie.Need-loop-again Inv-loop μ-loop
 loop-again c =
-    let l = c .before .before .before .loop in
+    let at-loop : tie.At-loop Inv-loop μ-loop = search needs in
+    let l = at-loop .loop in
     (omega arith, rw (next c) (block-step _ _ _ _ (omega arith) (l .inv .1)))
 
 returns : tie.Need-returns Inv-loop μ-loop
@@ -66,12 +55,12 @@ all-zero-spec =
     Inv-loop
     μ-loop
     loop-holds
-    add-other
-    mul-other
-    shared-slice-copy-out-other
-    other-requires
+    (λ c. omega arith)
+    (λ c. search needs)
+    (λ c. omega arith)
+    (λ c κs. search needs)
     add-others
-    add-i
-    loop-less
+    (λ c. omega arith)
+    (λ c. omega arith)
     loop-again
     returns)

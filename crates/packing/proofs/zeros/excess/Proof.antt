@@ -8,9 +8,6 @@ use borrow.Author.Needs.{needs}
 use Rattle.packing.proofs.zeros.excess.Statement.{statement}
 use Rattle.packing.proofs.zeros.excess.Tie as tie
 
-magnitude-requires : tie.Need-magnitude-requires
-magnitude-requires c κs = search needs
-
 returns : tie.Need-returns
 returns c =
     let v = c .before .before .args .residual in
@@ -24,4 +21,4 @@ returns-2 c =
     excess-out v (rw (c .before .magnitude .ensures, toZ-ofZ f) at (c .if1 .left))
 
 pub excess-spec : {M : Type 1} → statement M
-excess-spec = tie.close (tie.spec magnitude-requires returns returns-2)
+excess-spec = tie.close (tie.spec (λ c κs. search needs) returns returns-2)

@@ -23,36 +23,26 @@ abbrev μ-loop : tie.MeasureT-loop
 loop-holds : tie.Need-loop-holds Inv-loop μ-loop
 loop-holds c = record { is = refl; few = omega arith; here = omega arith }
 
-mul-excess : tie.Need-mul-excess Inv-loop μ-loop
-mul-excess c = search needs
-
-shared-slice-copy-out-excess : tie.Need-shared-slice-copy-out-excess Inv-loop μ-loop
-shared-slice-copy-out-excess c = search needs
-
-excess-requires : tie.Need-excess-requires Inv-loop μ-loop
-excess-requires c κs = search needs
-
 -- the residual that was looked at
 next : (c : tie.After-excess Inv-loop μ-loop) → c .excess .result ≡ excessOf (getD (c .before .before .before .before .args .residuals .now) (c .before .before .before .loop .i) (pos 0))
 next c =
-    let v = getD (c .before .before .before .before .args .residuals .now) (c .before .before .before .loop .i) (pos 0) in
+    let start : tie.Start Inv-loop μ-loop = search needs in
+    let at-loop : tie.At-loop Inv-loop μ-loop = search needs in
+    let v = getD (start .args .residuals .now) (at-loop .loop .i) (pos 0) in
     let f : SFits w32 v = search needs in
     rw (toZ-ofZ f) at (c .excess .ensures)
 
 add-outside : tie.Need-add-outside Inv-loop μ-loop
 add-outside c =
-    let l = c .before .before .before .loop in
-    omega (arith, l .inv, next c, excess-le (getD (c .before .before .before .before .args .residuals .now) (l .i) (pos 0)))
-
-add-i : tie.Need-add-i Inv-loop μ-loop
-add-i c = search needs
-
-loop-less : tie.Need-loop-less Inv-loop μ-loop
-loop-less c = search needs
+    let start : tie.Start Inv-loop μ-loop = search needs in
+    let at-loop : tie.At-loop Inv-loop μ-loop = search needs in
+    let l = at-loop .loop in
+    omega (arith, l .inv, next c, excess-le (getD (start .args .residuals .now) (l .i) (pos 0)))
 
 loop-again : tie.Need-loop-again Inv-loop μ-loop
 loop-again c =
-    let l = c .before .before .before .loop in
+    let at-loop : tie.At-loop Inv-loop μ-loop = search needs in
+    let l = at-loop .loop in
     rw (next c) (spans-step _ _ _ (omega arith) (l .inv))
 
 returns : tie.Need-returns Inv-loop μ-loop
@@ -65,11 +55,11 @@ in-span-spec =
     Inv-loop
     μ-loop
     loop-holds
-    mul-excess
-    shared-slice-copy-out-excess
-    excess-requires
+    (λ c. search needs)
+    (λ c. search needs)
+    (λ c κs. search needs)
     add-outside
-    add-i
-    loop-less
+    (λ c. search needs)
+    (λ c. search needs)
     loop-again
     returns)

@@ -1,5 +1,6 @@
 -- `packing::zeros::skip` meets its contract.
 -- Assumes nothing.
+use borrow.Author.Needs.{needs}
 use mathlib.Core.Path.{sym, _∙_}
 use Prim.Native.Nat.{_-_}
 use native.Mathlib.Omega.{arith}
@@ -26,17 +27,24 @@ all-zero-requires : tie.Need-all-zero-requires Inv-loop μ-loop
 all-zero-requires c κs = omega (arith, c .before .loop .inv)
 
 returns : tie.Need-returns Inv-loop μ-loop
-returns c = c .before .before .before .loop .inv
+returns c =
+    let at-loop : tie.At-loop Inv-loop μ-loop = search needs in
+    at-loop .loop .inv
 
 add-i : tie.Need-add-i Inv-loop μ-loop
-add-i c = omega (arith, c .before .before .before .loop .inv)
+add-i c =
+    let at-loop : tie.At-loop Inv-loop μ-loop = search needs in
+    omega (arith, at-loop .loop .inv)
 
 loop-less : tie.Need-loop-less Inv-loop μ-loop
-loop-less c = omega (arith, c .before .before .before .loop .inv)
+loop-less c =
+    let at-loop : tie.At-loop Inv-loop μ-loop = search needs in
+    omega (arith, at-loop .loop .inv)
 
 loop-again : tie.Need-loop-again Inv-loop μ-loop
 loop-again c =
-    let l = c .before .before .before .loop in
+    let at-loop : tie.At-loop Inv-loop μ-loop = search needs in
+    let l = at-loop .loop in
     skip-step _ _ _ (omega (arith, l .inv)) (leb-true 32 _ (sym (c .before .all-zero .ensures) ∙ not-false _ (c .if1 .left))) (l .inv)
 
 returns-2 : tie.Need-returns-2 Inv-loop μ-loop

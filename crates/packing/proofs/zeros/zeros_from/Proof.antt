@@ -1,4 +1,5 @@
--- `packing::zeros::zeros_from` meets its contract: so far all were zeros, and the stretch goes on as it does from i.
+-- `packing::zeros::zeros_from` meets its contract: so far all were zeros, and the stretch goes on
+-- as it does from i.
 -- Assumes nothing.
 use mathlib.Core.Path.{_≡_, sym, ap, _∙_}
 use Prim.Native.Nat.{ℕ, suc, _+_, _-_, _≤_}
@@ -21,47 +22,32 @@ Inv-loop residuals first i₀ i = (first ≤ i) × (i ≤ length residuals) × (
 abbrev μ-loop : tie.MeasureT-loop
 μ-loop residuals first i₀ i = length residuals - i
 
-skip-requires : tie.Need-skip-requires Inv-loop μ-loop
-skip-requires c κs = search needs
-
 loop-holds : tie.Need-loop-holds Inv-loop μ-loop
 loop-holds c = let s = c .skip .ensures in omega arith
 
-mul-if1 : tie.Need-mul-if1 Inv-loop μ-loop
-mul-if1 c = search needs
-
-shared-slice-copy-out-if1 : tie.Need-shared-slice-copy-out-if1 Inv-loop μ-loop
-shared-slice-copy-out-if1 c = search needs
-
-sub-result : tie.Need-sub-result Inv-loop μ-loop
-sub-result c = search needs
-
 returns : tie.Need-returns Inv-loop μ-loop
 returns c =
-    let l = c .before .before .before .loop in
-    let vs = c .before .before .before .before .before .args .residuals .now in
+    let start : tie.Start Inv-loop μ-loop = search needs in
+    let at-loop : tie.At-loop Inv-loop μ-loop = search needs in
+    let l = at-loop .loop in
+    let vs = start .args .residuals .now in
     omega (arith, l .inv, zeros-stop vs (l .i) (omega arith) (λ e. c .if1 .taken (ap (ofZ w32) e)))
-
-add-i : tie.Need-add-i Inv-loop μ-loop
-add-i c = search needs
-
-loop-less : tie.Need-loop-less Inv-loop μ-loop
-loop-less c = search needs
 
 loop-again : tie.Need-loop-again Inv-loop μ-loop
 loop-again c =
-    let l = c .before .before .before .loop in
-    let vs = c .before .before .before .before .before .args .residuals .now in
+    let start : tie.Start Inv-loop μ-loop = search needs in
+    let at-loop : tie.At-loop Inv-loop μ-loop = search needs in
+    let l = at-loop .loop in
+    let vs = start .args .residuals .now in
     let f : SFits w32 (getD vs (l .i) (pos 0)) = search needs in
     let e : getD vs (l .i) (pos 0) ≡ pos 0 = sym (toZ-ofZ f) ∙ ap (toZ w32) (c .if1 .left) in
     let m : zeros (drop (l .i + 1) vs) ≡ zeros (drop (suc (l .i)) vs) = ap (λ (n : ℕ). zeros (drop n vs)) (add-one (l .i)) in
     omega (arith, l .inv, zeros-more vs (l .i) (omega arith) e)
 
-sub-result-2 : tie.Need-sub-result-2 Inv-loop μ-loop
-sub-result-2 c = search needs
-
 returns-2 : tie.Need-returns-2 Inv-loop μ-loop
-returns-2 c = omega (arith, c .before .loop .inv, zeros-past (c .before .before .before .args .residuals .now) (c .before .loop .i) (omega arith))
+returns-2 c =
+    let start : tie.Start Inv-loop μ-loop = search needs in
+    omega (arith, c .before .loop .inv, zeros-past (start .args .residuals .now) (c .before .loop .i) (omega arith))
 
 pub zeros-from-spec : {M : Type 1} → statement M
 zeros-from-spec =
@@ -69,14 +55,14 @@ zeros-from-spec =
     (tie.spec
     Inv-loop
     μ-loop
-    skip-requires
+    (λ c κs. search needs)
     loop-holds
-    mul-if1
-    shared-slice-copy-out-if1
-    sub-result
+    (λ c. search needs)
+    (λ c. search needs)
+    (λ c. search needs)
     returns
-    add-i
-    loop-less
+    (λ c. search needs)
+    (λ c. search needs)
     loop-again
-    sub-result-2
+    (λ c. search needs)
     returns-2)
