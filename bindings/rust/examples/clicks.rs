@@ -59,9 +59,8 @@ fn clicks(samples: &[i32], threshold: u32, hold_off: usize) -> Vec<Click> {
 fn make_passes(stored: &[StoredPass]) -> Result<Vec<Pass>, Refusal> {
     let make = |pass: &StoredPass| {
         let told = term_byte(pass.term);
-        let [weight_a, weight_b] = pass.weights.map(weight_byte);
         let [seed_a, seed_b] = pass.seeds.map(|words| words.iter().copied().map(log_word).collect::<Vec<i32>>());
-        Pass::new(told.term, told.delta, weight_a, weight_b, &seed_a, &seed_b)
+        Pass::new(told.term, told.delta, pass.weights.map(weight_byte), [&seed_a, &seed_b])
     };
     stored.iter().map(make).collect()
 }

@@ -1,4 +1,5 @@
 //! Packing residuals.
+use crate::slots::Slots;
 use crate::{Medians, Refusal, ffi};
 
 /// How many bytes packing wants to be lent for each frame; it may use fewer.
@@ -40,6 +41,5 @@ impl Packed {
 pub fn pack(residuals: &[i32], entropy: &[u8], frames: usize, out: &mut [u8]) -> Result<Packed, Refusal> {
     let mut answer = [0; 7];
     Refusal::outcome(ffi::pack(residuals, entropy, frames, out, &mut answer))?;
-    let [bits_written, a, b, c, d, e, f] = answer;
-    Ok(Packed { bits_written, medians: [[a, b, c], [d, e, f]] })
+    Ok(Packed::from_slots(answer))
 }

@@ -4,6 +4,7 @@ use crate::lent::Lent;
 use crate::ours;
 use crate::random::Random;
 use reference::entropy::expand_entropy;
+use wavpack_stereo::Slots;
 
 /// Log words at the ends of a rule: the canonical zero, the shift's pivot, the top bit of 32, the ends of 16 bits.
 const ENDS: [i16; 22] = [
@@ -26,7 +27,7 @@ impl Case for Entropy {
         match theirs {
             Ok(info) => {
                 same("refusal", &refusal, &0)?;
-                medians.written("medians", &[info.medians_left, info.medians_right].concat())?;
+                medians.written("medians", &[info.medians_left, info.medians_right].slots())?;
             }
             Err(number) => {
                 same("refusal", &refusal, &number)?;
