@@ -69,7 +69,7 @@ impl Run {
     /// Goes on from where another run of the kind has come to.
     pub fn go_on(&mut self, progress: &[u64]) {
         let [state, agreed @ ..] = progress else {
-            return;
+            unreachable!("a run tells the state of its random numbers first");
         };
         self.random = Random::new(*state);
         self.agreed = agreed.chunks_exact(2).map(|pair| (pair[0] as u32, pair[1])).collect();

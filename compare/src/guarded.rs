@@ -105,7 +105,7 @@ pub fn holds() -> bool {
     [true, false].into_iter().all(|before| {
         let list = Guarded::holding(&[0_u8; 5], before);
         let outside = if before { list.start.wrapping_add(5) } else { list.start.wrapping_sub(1) };
-        // SAFETY: none; this is the access that must be stopped, in a child that does nothing else.
+        // SAFETY: the place is in the untouchable page beside the list, where no value lies; the processor ends the child.
         strays(|| unsafe { outside.read_volatile() })
     })
 }
