@@ -1,7 +1,6 @@
 /* Decodes real .wv files block by block, by the steps of docs/WV_FILES.md: wv_file FILE...
-   For each block it prints its frames and that their checksum is the header's, or why not; for each
-   file the frames decoded and the CRC-32 of their samples, each in as many bytes as the file says,
-   the low one first. The exit status is 1 where frames were not decoded. */
+   Says of each block whether its checksum is right, and of each file the CRC-32 of its samples in
+   as many bytes as the file says. The exit status is 1 where frames were not decoded. */
 #include <inttypes.h>
 #include <stdio.h>
 #include <stdlib.h>
@@ -10,7 +9,8 @@
 
 enum { MAX_FRAMES = 131072, MAX_PASSES = 16, HEADER = 32 };
 #define JOINT (UINT32_C(1) << 4)
-#define ALONE (UINT32_C(3) << 11) /* the flags of a block that is the first and the last one of its frames */
+#define ALONE (UINT32_C(3) << 11) /* of a block that is the first and the last one of its frames */
+#define UNKNOWN UINT32_MAX        /* frames in a file that was written without knowing it */
 
 /* The flags of blocks that are not taken, and what such a block holds. */
 static const struct { uint32_t bits; const char *what; } not_taken[7] = {
@@ -21,7 +21,7 @@ static const struct { uint32_t bits; const char *what; } not_taken[7] = {
 struct bytes { const uint8_t *at; size_t count; };
 #define EMPTY ((struct bytes){(const uint8_t *)"", 0})
 
-/* The ids of the sub-blocks that decoding takes. Others from 0x20 on, and these two, are passed over. */
+/* Ids of sub-blocks; DUMMY, CHANNELS and all from 0x20 on are passed over. */
 enum { TERMS = 0x02, WEIGHTS = 0x03, SEEDS = 0x04, ENTROPY = 0x05, PAYLOAD = 0x0a, IDS = 0x0b, DUMMY = 0x00, CHANNELS = 0x0d };
 
 static int32_t samples[2 * MAX_FRAMES];
@@ -219,7 +219,7 @@ static int decode_file(struct bytes file)
     }
     printf("  %" PRIu64 " of %" PRIu32 " frames decoded, CRC-32 %08" PRIx32 ", %zu bytes behind the last block\n", decoded, total,
            crc, file.count);
-    return whole && (decoded == total || total == UINT32_MAX); /* the latter where the writer did not know */
+    return whole && (decoded == total || total == UNKNOWN);
 }
 
 /* All bytes of a file. */

@@ -1,5 +1,5 @@
-//! Links the proved library, `libcapi.a`, from the folder that CAPI_FOLDER names, by an absolute path, or from where
-//! `rt staticlib` puts it.
+//! Links the proved library, `libcapi.a`, from the folder that CAPI_FOLDER names, by an absolute
+//! path, or from where `rt staticlib` puts it.
 use std::env;
 use std::path::PathBuf;
 

@@ -42,7 +42,8 @@ pub fn same_list<T: PartialEq + Debug>(what: &str, ours: &[T], theirs: &[T]) -> 
     }
 }
 
-/// The run of one kind: where its inputs come from, and on how many of them both sides agreed, for each refusal number.
+/// The run of one kind: where its inputs come from, and on how many of them both sides agreed, for
+/// each refusal number.
 pub struct Run {
     pub random: Random,
     pub scale: usize,
@@ -55,12 +56,14 @@ impl Run {
         Run { random: Random::new(seed), scale, agreed: BTreeMap::new(), apart: false }
     }
 
-    /// From now on each input is first compared in a child of its own, which shows whether a stray access stops it.
+    /// From now on each input is first compared in a child of its own, which shows whether a stray
+    /// access stops it.
     pub fn set_apart(&mut self) {
         self.apart = true;
     }
 
-    /// How far it has come, in numbers that `go_on` takes: the state of its random numbers and how often it agreed.
+    /// How far it has come, in numbers that `go_on` takes: the state of its random numbers and how
+    /// often it agreed.
     pub fn progress(&self) -> Vec<u64> {
         let agreed = self.agreed.iter().flat_map(|(&number, &count)| [u64::from(number), count]);
         once(self.random.state()).chain(agreed).collect()
@@ -84,7 +87,8 @@ impl Run {
         agreed
     }
 
-    /// Whether a stray access stops the comparison on an input; not looked at before inputs are set apart.
+    /// Whether a stray access stops the comparison on an input; not looked at before inputs are set
+    /// apart.
     fn strays<C: Case>(&self, case: &C) -> bool {
         self.apart && strays(|| case.compare())
     }

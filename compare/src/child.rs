@@ -1,6 +1,8 @@
-//! Work that a child process does, so that an access outside a list ends the child and not the comparison.
+//! Work that a child process does, so that an access outside a list ends the child and not the
+//! comparison.
 //!
-//! No signal handler is needed: the kernel tells the parent what ended the child, and the parent goes on from there.
+//! No signal handler is needed: the kernel tells the parent what ended the child, and the parent
+//! goes on from there.
 #![allow(unsafe_code)]
 use std::ffi::c_int;
 use std::io::{Error, ErrorKind, Read, Result, Write};
@@ -23,16 +25,19 @@ unsafe extern "C" {
 
 /// Does `work` in a child, and tells how the child ended: with status 0 where `work` says true.
 fn in_child(work: impl FnOnce() -> bool) -> Result<ExitStatus> {
-    // SAFETY: the program has one thread, so no lock is held that only another thread could give back in the child.
+    // SAFETY: the program has one thread, so no lock is held that only another thread could give
+    // back in the child.
     let child = unsafe { fork() };
     if child < 0 {
         return Err(Error::last_os_error());
     }
     if child == 0 {
-        // SAFETY: a number of a signal and no handler; a stray access then ends the child by that signal.
+        // SAFETY: a number of a signal and no handler; a stray access then ends the child by that
+        // signal.
         unsafe { signal(STRAY_ACCESS, USUAL_HANDLER) };
         let done = catch_unwind(AssertUnwindSafe(work)).unwrap_or(false);
-        // SAFETY: takes any status. What the parent does at its own end is not done here, nor its work behind this call.
+        // SAFETY: takes any status. What the parent does at its own end is not done here, nor its
+        // work behind this call.
         unsafe { _exit(if done { 0 } else { FAILED }) };
     }
     let mut status = 0;
@@ -70,7 +75,8 @@ pub enum Ended {
     Otherwise(String),
 }
 
-/// Does `work` in a child; what it tells has to be few numbers, as many as the kernel holds for a reader that waits.
+/// Does `work` in a child; what it tells has to be few numbers, as many as the kernel holds for a
+/// reader that waits.
 pub fn ended(work: impl FnOnce() -> Option<Vec<u64>>) -> Ended {
     tell(work).unwrap_or_else(|error| Ended::Otherwise(error.to_string()))
 }

@@ -1,4 +1,5 @@
-//! Lists between two pages that must not be touched: whoever reads or writes one element outside is stopped at once.
+//! Lists between two pages that must not be touched: whoever reads or writes one element outside is
+//! stopped at once.
 //!
 //! The archive is compiled without such checks of its own; here the processor makes them.
 #![allow(unsafe_code)]
@@ -34,7 +35,8 @@ thread_local! {
 impl Pages {
     fn map(bytes: usize) -> Pages {
         let bytes = bytes.div_ceil(PAGE).next_power_of_two() * PAGE;
-        // SAFETY: asks for new memory wherever there is room, so that nothing that is in use is mapped anew.
+        // SAFETY: asks for new memory wherever there is room, so that nothing that is in use is
+        // mapped anew.
         let all = unsafe { mmap(null_mut(), bytes + 2 * PAGE, READ_AND_WRITE, PRIVATE_AND_EMPTY, -1, 0) };
         assert!(all.addr() != usize::MAX, "no memory");
         // SAFETY: the three parts lie within what was just mapped, and nothing uses it yet.
@@ -71,7 +73,8 @@ impl<T: Clone> Guarded<T> {
         let start: *mut T = unsafe { pages.first.add(skipped) }.cast();
         assert!(start.is_aligned());
         for (i, value) in values.iter().enumerate() {
-            // SAFETY: from `start` on there is aligned room for all values, which only this list has.
+            // SAFETY: from `start` on there is aligned room for all values, which only this list
+            // has.
             unsafe { start.add(i).write(value.clone()) };
         }
         Guarded { pages, start, length: values.len() }
@@ -105,7 +108,8 @@ pub fn holds() -> bool {
     [true, false].into_iter().all(|before| {
         let list = Guarded::holding(&[0_u8; 5], before);
         let outside = if before { list.start.wrapping_add(5) } else { list.start.wrapping_sub(1) };
-        // SAFETY: the place is in the untouchable page beside the list, where no value lies; the processor ends the child.
+        // SAFETY: the place is in the untouchable page beside the list, where no value lies; the
+        // processor ends the child.
         strays(|| unsafe { outside.read_volatile() })
     })
 }

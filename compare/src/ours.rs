@@ -1,10 +1,11 @@
 //! What the proved library answers, told in the slots of its C interface.
 //!
-//! A list with just the slots asked for is answered by the bindings, which are what controllers call. What only the C
-//! interface can be given goes to the bindings' `ffi`, its functions as they are: lists with fewer or more slots, flags
-//! that are neither 0 nor 1. So does a call that the bindings refuse, once more, since only there its slots show: a
-//! refused call left everything as it was. Where every element outside a list is watched all calls go to `ffi`, since the
-//! bindings answer in lists of their own.
+//! A list with just the slots asked for is answered by the bindings, which are what controllers
+//! call. What only the C interface can be given goes to the bindings' `ffi`, its functions as they
+//! are: lists with fewer or more slots, flags that are neither 0 nor 1. So does a call that the
+//! bindings refuse, once more, since only there its slots show: a refused call left everything as
+//! it was. Where every element outside a list is watched all calls go to `ffi`, since the bindings
+//! answer in lists of their own.
 use crate::lent::watched;
 use wavpack_stereo::{Delta, Pass, Refusal, Slots, Weight, WordState, ffi};
 

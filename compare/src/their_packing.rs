@@ -1,4 +1,4 @@
-//! What the published Rust packs, told as document 01 tells it.
+//! What the published Rust packs, told as the rules (docs/PROVED.md) tell it.
 use crate::theirs::{MAX_FRAMES, read};
 use reference::entropy::expand_entropy;
 use reference::samples::{AdaptiveMedians, encode_packed_samples_stereo};
@@ -9,8 +9,8 @@ pub const SPAN: i32 = 1_879_048_192;
 
 /// Packing: the seven numbers of its answer and the packed bytes, or the refusal number.
 ///
-/// The Rust pads to an even number of bytes with a zero byte, document 01 does not; the bits that were written are
-/// those that the Rust reads back.
+/// The Rust pads to an even number of bytes with a zero byte, the rules do not (K8); the bits that
+/// were written are those that the Rust reads back.
 pub fn pack(residuals: &[i32], entropy: &[u8], frames: usize, room: usize) -> Result<([u32; 7], Vec<u8>), u32> {
     if frames > MAX_FRAMES {
         return Err(5);

@@ -1,7 +1,7 @@
-//! What the published Rust answers about passes, told as document 01 tells it.
+//! What the published Rust answers about passes, told as the rules (docs/PROVED.md) tell it.
 //!
-//! A pass is its slots. The Rust keeps the histories to itself: they are read from its Debug output, and set by way of
-//! term 8, whose seeds fill all eight places.
+//! A pass is its slots. The Rust keeps the histories to itself: they are read from its Debug
+//! output, and set by way of term 8, whose seeds fill all eight places.
 use reference::decorrelation::{DecorrPass, decorrelate_stereo, is_valid_term, recorrelate_stereo};
 use reference::error::Error;
 use wavpack_stereo::{Delta, Weight};

@@ -1,7 +1,8 @@
-//! What the published Rust answers, told as document 01 tells it.
+//! What the published Rust answers, told as the rules (docs/PROVED.md) tell it.
 //!
-//! A refusal is a number. Of a refused word only the number counts: the Rust has then already changed medians and
-//! flags, document 01 hands back the old ones. A reading's bits and medians are those after its last accepted word.
+//! A refusal is a number. Of a refused word only the number counts: the Rust has then already
+//! changed medians and flags, the rules hand back the old ones (D1.4). A reading's bits and medians
+//! are those after its last accepted word.
 use reference::PackedSamples;
 use reference::entropy::expand_entropy;
 use reference::error::Error;
@@ -11,7 +12,7 @@ use reference::samples::{
 };
 use wavpack_stereo::{Reading, Slots, WordState};
 
-/// The limits of document 01, which the Rust does not have.
+/// The limits of the rules, which the Rust does not have.
 pub const MAX_FRAMES: usize = 131_072;
 pub const MAX_BYTES: usize = 4_194_304;
 

@@ -1,8 +1,7 @@
 //! Decodes real `.wv` files block by block, by the steps of docs/WV_FILES.md: `wv_file FILE...`
 //!
-//! For each block it prints its frames and that their checksum is the header's, or why not; for each
-//! file the frames decoded and the CRC-32 of their samples, each in as many bytes as the file says,
-//! the low one first. The exit status is 1 where frames were not decoded.
+//! Says of each block whether its checksum is right, and of each file the CRC-32 of its samples in
+//! as many bytes as the file says. The exit status is 1 where frames were not decoded.
 use std::process::ExitCode;
 use std::{fmt, io};
 use wavpack_stereo::{MAX_FRAMES, MAX_PASSES, Pass, Refusal, decorrelate, log_word, read, term_byte, weight_byte};
@@ -57,7 +56,8 @@ fn take<'a>(bytes: &mut &'a [u8], count: usize) -> Option<&'a [u8]> {
     Some(taken)
 }
 
-/// What a header tells of its block, and what stands behind it: none where the file ends within the block.
+/// What a header tells of its block, and what stands behind it: none where the file ends within the
+/// block.
 struct Block<'a> {
     version: u32,
     total: u32,

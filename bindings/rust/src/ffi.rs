@@ -1,14 +1,17 @@
-//! The C interface as it is: one function for each of `include/wavpack_stereo.h`, which documents their slots.
+//! The C interface as it is: one function for each of `include/wavpack_stereo.h`, which documents
+//! their slots.
 //!
-//! The functions of the crate's root are made of these and are the ones to call. These take lists of any length and
-//! answer a number, 0 for accepted; with the feature `ffi` they are public, so that tests can lend lists with too few
-//! slots or too many. What each writes when it refuses stands in the header too: `read` then writes its answer, `word`
-//! sample 0 and report 0, 0, and `pack` an answer of zeros.
+//! The functions of the crate's root are made of these and are the ones to call. These take lists
+//! of any length and answer a number, 0 for accepted; with the feature `ffi` they are public, so
+//! that tests can lend lists with too few slots or too many. What each writes when it refuses
+//! stands in the header too: `read` then writes its answer, `word` sample 0 and report 0, 0, and
+//! `pack` an answer of zeros.
 //!
-//! All unsafe code of the crate is in this file. It rests on what the header promises, that a function reads and writes
-//! nothing beyond the elements that it is given and keeps no pointer, and on what slices are: not null, aligned, all of
-//! one length that is told beside the pointer, and, where they are written, lent to this call alone. These two together
-//! are "list" in the comments below.
+//! All unsafe code of the crate is in this file. It rests on what the header promises, that a
+//! function reads and writes nothing beyond the elements that it is given and keeps no pointer, and
+//! on what slices are: not null, aligned, all of one length that is told beside the pointer, and,
+//! where they are written, lent to this call alone. These two together are "list" in the comments
+//! below.
 use crate::{Delta, Pass, Weight};
 
 #[rustfmt::skip]
@@ -76,8 +79,8 @@ pub fn word(payload: &[u8], state: &mut [u32], sample: &mut [i32], report: &mut 
 /// `wv_read`: an answer of 8 slots.
 #[rustfmt::skip]
 pub fn read(entropy: &[u8], payload: &[u8], frames: usize, samples: &mut [i32], answer: &mut [u32]) -> u32 {
-    // SAFETY: all four are lists, whatever `frames` is; only `samples` and `answer`, each lent to this call alone, are
-    // written.
+    // SAFETY: all four are lists, whatever `frames` is; only `samples` and `answer`, each lent to
+    // this call alone, are written.
     unsafe {
         wv_read(
             entropy.as_ptr(), entropy.len(), payload.as_ptr(), payload.len(), frames,
@@ -114,8 +117,8 @@ pub fn analyse(passes: &mut [i32], buffer: &mut [i32]) -> u32 {
 /// `wv_pack`: an answer of 7 slots.
 #[rustfmt::skip]
 pub fn pack(residuals: &[i32], entropy: &[u8], frames: usize, out: &mut [u8], answer: &mut [u32]) -> u32 {
-    // SAFETY: all four are lists, whatever `frames` is; only `out` and `answer`, each lent to this call alone, are
-    // written.
+    // SAFETY: all four are lists, whatever `frames` is; only `out` and `answer`, each lent to this
+    // call alone, are written.
     unsafe {
         wv_pack(
             residuals.as_ptr(), residuals.len(), entropy.as_ptr(), entropy.len(), frames,
@@ -126,7 +129,8 @@ pub fn pack(residuals: &[i32], entropy: &[u8], frames: usize, out: &mut [u8], an
 
 /// The slots of a list of passes, where they stand.
 pub(crate) fn slots(passes: &mut [Pass]) -> &mut [i32] {
-    // SAFETY: `Pass` is transparent over its 20 slots, so that the passes are as many numbers without gaps, and any
-    // numbers are a pass. The slice that is given back is the only way to them as long as `passes` is lent.
+    // SAFETY: `Pass` is transparent over its 20 slots, so that the passes are as many numbers
+    // without gaps, and any numbers are a pass. The slice that is given back is the only way to
+    // them as long as `passes` is lent.
     unsafe { core::slice::from_raw_parts_mut(passes.as_mut_ptr().cast(), passes.len() * Pass::SLOTS) }
 }

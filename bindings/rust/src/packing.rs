@@ -21,13 +21,14 @@ impl Packed {
     }
 }
 
-/// Packs the residuals of a stereo block: `frames` frames, left then right, 2 times `frames` residuals, into `out`,
-/// which has at least [`BYTES_PER_FRAME`] bytes a frame. Reading the bytes that hold the bits, with the same entropy
-/// payload and frames, gives the residuals. The spare bits of the last byte are 0, and the bytes behind it keep their
-/// values.
+/// Packs the residuals of a stereo block: `frames` frames, left then right, 2 times `frames`
+/// residuals, into `out`, which has at least [`BYTES_PER_FRAME`] bytes a frame. Reading the bytes
+/// that hold the bits, with the same entropy payload and frames, gives the residuals. The spare
+/// bits of the last byte are 0, and the bytes behind it keep their values.
 ///
-/// Refuses [`Refusal::TooLarge`], [`Refusal::ListLength`], [`Refusal::EntropyLength`], [`Refusal::NotStereo`],
-/// [`Refusal::OutputTooShort`] and [`Refusal::ResidualOutOfSpan`]; `out` is then as it was.
+/// Refuses [`Refusal::TooLarge`], [`Refusal::ListLength`], [`Refusal::EntropyLength`],
+/// [`Refusal::NotStereo`], [`Refusal::OutputTooShort`] and [`Refusal::ResidualOutOfSpan`]; `out` is
+/// then as it was.
 ///
 /// ```
 /// use wavpack_stereo::{BYTES_PER_FRAME, Refusal, pack};

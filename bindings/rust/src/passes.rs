@@ -14,30 +14,34 @@ pub struct Delta(pub i32);
 #[derive(Clone, Copy, Debug, Default, PartialEq, Eq, PartialOrd, Ord, Hash)]
 pub struct Weight(pub i32);
 
-/// A decorrelation pass: term, delta, and the weights and histories that decorrelation and analysis move on.
+/// A decorrelation pass: term, delta, and the weights and histories that decorrelation and analysis
+/// move on.
 #[derive(Clone, Debug, PartialEq, Eq, Hash)]
 #[repr(transparent)]
 pub struct Pass([i32; Pass::SLOTS]);
 
 impl Pass {
-    /// How many slots of the C interface a pass has: term, delta, weight A, weight B, eight of history A, eight of
-    /// history B.
+    /// How many slots of the C interface a pass has: term, delta, weight A, weight B, eight of
+    /// history A, eight of history B.
     pub const SLOTS: usize = 20;
 
-    /// Makes a pass; weights and seeds are A's, then B's. Any delta and weights are taken; an empty seed means zeros,
-    /// except that a cross term with an A seed needs a B seed. [`term_byte`](crate::term_byte),
-    /// [`weight_byte`](crate::weight_byte) and [`log_word`](crate::log_word) give what it takes.
+    /// Makes a pass; weights and seeds are A's, then B's. Any delta and weights are taken; an empty
+    /// seed means zeros, except that a cross term with an A seed needs a B seed.
+    /// [`term_byte`](crate::term_byte), [`weight_byte`](crate::weight_byte) and
+    /// [`log_word`](crate::log_word) give what it takes.
     ///
-    /// Refuses [`Refusal::InvalidTerm`], also for a term outside 8 bits, then [`Refusal::SeedTooShort`].
+    /// Refuses [`Refusal::InvalidTerm`], also for a term outside 8 bits, then
+    /// [`Refusal::SeedTooShort`].
     ///
     /// ```
     /// use wavpack_stereo::{Delta, Pass, Refusal, Weight, term_byte, weight_byte};
     /// let told = term_byte(0x57);
-    /// let pass = Pass::new(told.term, told.delta, [0x7f, 0x80].map(weight_byte), [&[10, 4], &[1, -2]])?;
-    /// assert_eq!((pass.term(), pass.delta(), pass.weights()), (18, Delta(2), [Weight(1024), Weight(-1024)]));
+    /// let weights = [0x7f, 0x80].map(weight_byte);
+    /// let pass = Pass::new(told.term, told.delta, weights, [&[10, 4], &[1, -2]])?;
+    /// assert_eq!((pass.term(), pass.delta()), (18, Delta(2)));
+    /// assert_eq!(pass.weights(), [Weight(1024), Weight(-1024)]);
     /// assert_eq!(pass.histories(), [[10, 4, 0, 0, 0, 0, 0, 0], [1, -2, 0, 0, 0, 0, 0, 0]]);
     ///
-    /// let weights = [Weight(0); 2];
     /// assert_eq!(Pass::new(9, Delta(2), weights, [&[], &[]]), Err(Refusal::InvalidTerm));
     /// assert_eq!(Pass::new(256 + 18, Delta(2), weights, [&[], &[]]), Err(Refusal::InvalidTerm));
     /// assert_eq!(Pass::new(18, Delta(2), weights, [&[10], &[]]), Err(Refusal::SeedTooShort));
@@ -50,8 +54,8 @@ impl Pass {
         Ok(Pass(slots))
     }
 
-    /// The pass that 20 slots hold, as a controller has stored it. Nothing is tested: an invalid term is refused when
-    /// the pass is to run.
+    /// The pass that 20 slots hold, as a controller has stored it. Nothing is tested: an invalid
+    /// term is refused when the pass is to run.
     pub const fn from_slots(slots: [i32; Pass::SLOTS]) -> Pass {
         Pass(slots)
     }
@@ -92,11 +96,11 @@ impl Pass {
     }
 }
 
-/// Decorrelation: turns the residuals of `buffer`, left then right, into samples, by each pass in turn, and moves the
-/// passes on. An odd last element keeps its value.
+/// Decorrelation: turns the residuals of `buffer`, left then right, into samples, by each pass in
+/// turn, and moves the passes on. An odd last element keeps its value.
 ///
-/// Refuses [`Refusal::TooLarge`], [`Refusal::TooManyPasses`] and [`Refusal::InvalidTerm`]; passes and buffer are then
-/// as they were.
+/// Refuses [`Refusal::TooLarge`], [`Refusal::TooManyPasses`] and [`Refusal::InvalidTerm`]; passes
+/// and buffer are then as they were.
 ///
 /// ```
 /// use wavpack_stereo::{Delta, Pass, Refusal, Weight, decorrelate};
@@ -110,8 +114,8 @@ pub fn decorrelate(passes: &mut [Pass], buffer: &mut [i32]) -> Result<(), Refusa
     Refusal::outcome(ffi::decorrelate(ffi::slots(passes), buffer))
 }
 
-/// Analysis, the inverse: turns the samples of `buffer` into the residuals that decorrelate to them, and leaves the
-/// passes as decorrelation would. Refuses as [`decorrelate`] does.
+/// Analysis, the inverse: turns the samples of `buffer` into the residuals that decorrelate to
+/// them, and leaves the passes as decorrelation would. Refuses as [`decorrelate`] does.
 ///
 /// ```
 /// use wavpack_stereo::{Delta, Pass, Refusal, Weight, analyse, decorrelate};

@@ -43,12 +43,13 @@ impl From<ReadError> for Refusal {
     }
 }
 
-/// Reads the packed payload of a stereo block: `frames` frames, left then right, into `samples`, which has 2 times
-/// `frames` elements.
+/// Reads the packed payload of a stereo block: `frames` frames, left then right, into `samples`,
+/// which has 2 times `frames` elements.
 ///
-/// Refuses [`Refusal::TooLarge`], [`Refusal::ListLength`], [`Refusal::EntropyLength`] and [`Refusal::NotStereo`], with
-/// `samples` as it was; then, in a word, [`Refusal::Truncated`] or [`Refusal::EndOfStream`], with the samples of the
-/// words before it in `samples` and, behind them, what it held.
+/// Refuses [`Refusal::TooLarge`], [`Refusal::ListLength`], [`Refusal::EntropyLength`] and
+/// [`Refusal::NotStereo`], with `samples` as it was; then, in a word, [`Refusal::Truncated`] or
+/// [`Refusal::EndOfStream`], with the samples of the words before it in `samples` and, behind them,
+/// what it held.
 ///
 /// ```
 /// use wavpack_stereo::{Refusal, read};

@@ -10,8 +10,8 @@ macro_rules! refusals {
         #[non_exhaustive]
         pub enum Refusal {
             $(#[doc = concat!($number, ": ", $why, ".")] $name,)*
-            /// A number that these bindings have no name for: the archive that they are linked with is newer. No number
-            /// that has a name comes so, nor 0.
+            /// A number that these bindings have no name for: the archive that they are linked with
+            /// is newer. No number that has a name comes so, nor 0.
             #[non_exhaustive]
             Unknown {
                 /// The number.
@@ -34,7 +34,8 @@ macro_rules! refusals {
             /// use wavpack_stereo::Refusal;
             /// assert_eq!(Refusal::from_number(4), Some(Refusal::EndOfStream));
             /// assert_eq!(Refusal::from_number(0), None);
-            /// assert_eq!(Refusal::from_number(4_000_000_000).map(Refusal::number), Some(4_000_000_000));
+            /// let later = Refusal::from_number(4_000_000_000).map(Refusal::number);
+            /// assert_eq!(later, Some(4_000_000_000));
             /// ```
             pub const fn from_number(number: u32) -> Option<Refusal> {
                 match number {

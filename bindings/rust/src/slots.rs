@@ -1,4 +1,5 @@
-//! The slots of the C interface and what they hold: the order of each list stands here, and nowhere else in Rust.
+//! The slots of the C interface and what they hold: the order of each list stands here, and nowhere
+//! else in Rust.
 use crate::{Delta, Medians, Packed, Reading, TermByte, WordState, Zone};
 
 /// A value that the C interface takes or gives as a list of numbers, its slots, in the order of
@@ -71,8 +72,8 @@ impl Slots for Packed {
     }
 }
 
-/// Place, next_channel, last_zero, last_one, zero_run_pending, run_break, ever_took_zero_run, medians. A flag is set
-/// where its slot is not 0.
+/// Place, next_channel, last_zero, last_one, zero_run_pending, run_break, ever_took_zero_run,
+/// medians. A flag is set where its slot is not 0.
 impl Slots for WordState {
     type List = [u32; 13];
 

@@ -50,7 +50,8 @@ pub fn weight_byte(byte: u8) -> Weight {
     Weight(out[0])
 }
 
-/// The signed medians of an entropy payload of 6 bytes (mono: the right ones are 0) or 12 bytes (stereo).
+/// The signed medians of an entropy payload of 6 bytes (mono: the right ones are 0) or 12 bytes
+/// (stereo).
 ///
 /// Refuses [`Refusal::EntropyLength`].
 ///

@@ -66,9 +66,9 @@ impl WordState {
 
 /// Reads the word at the state's place and moves the state behind it.
 ///
-/// Refuses [`Refusal::TooLarge`] for the payload, [`Refusal::InvalidChannel`], [`Refusal::Truncated`] or
-/// [`Refusal::EndOfStream`], with the state as it was: a controller that follows a recording tries again when more
-/// bytes are there.
+/// Refuses [`Refusal::TooLarge`] for the payload, [`Refusal::InvalidChannel`],
+/// [`Refusal::Truncated`] or [`Refusal::EndOfStream`], with the state as it was: a controller that
+/// follows a recording tries again when more bytes are there.
 ///
 /// ```
 /// use wavpack_stereo::{Refusal, WordState, Zone, word};

@@ -1,5 +1,6 @@
-//! Decodes the blocks that `wavpack` wrote (`crates/blocks/data`, whose README describes the records) to the samples
-//! they were made from, whole and word by word, and packs these again to the same bits.
+//! Decodes the blocks that `wavpack` wrote (`crates/blocks/data`, whose README describes the
+//! records) to the samples they were made from, whole and word by word, and packs these again to
+//! the same bits.
 use wavpack_stereo::{
     BYTES_PER_FRAME, Pass, Refusal, WordState, Zone, analyse, decorrelate, log_word, pack, read, term_byte,
     weight_byte, word,

@@ -42,6 +42,14 @@ fn a_word_ends_a_reading() {
 }
 
 #[test]
+fn a_number_without_a_name() {
+    let refusal = Refusal::from_number(4_000_000_000).unwrap();
+    assert!(matches!(refusal, Refusal::Unknown { number: 4_000_000_000, .. }));
+    let said = "refusal 4000000000, which these bindings have no name for";
+    assert_eq!(refusal.to_string(), said);
+}
+
+#[test]
 fn words() {
     let refused = |payload: &[u8], mut state: WordState| {
         let before = state;

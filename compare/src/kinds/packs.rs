@@ -1,4 +1,5 @@
-//! Packing: residuals of every loudness under every kind of entropy payload, at the ends of the span, short and largest.
+//! Packing: residuals of every loudness under every kind of entropy payload, at the ends of the
+//! span, short and largest.
 use crate::case::{Case, Failed, Run, Smaller, plainer, same, shorter};
 use crate::lent::Lent;
 use crate::ours;

@@ -1,4 +1,5 @@
-//! Whole readings: every payload of up to 2 bytes, random, damaged and cut payloads, and the largest sizes.
+//! Whole readings: every payload of up to 2 bytes, random, damaged and cut payloads, and the
+//! largest sizes.
 use crate::case::{Case, Failed, Run, Smaller, plainer, same, shorter};
 use crate::fields;
 use crate::lent::Lent;

@@ -1,9 +1,10 @@
-//! Damaged inputs by the million: payloads, states, pass lists and packings that were real and then damaged, each answered
-//! as the published Rust answers.
+//! Damaged inputs by the million: payloads, states, pass lists and packings that were real and then
+//! damaged, each answered as the published Rust answers.
 //!
-//! Every list that is lent stands in turn right before a page that must not be touched, right behind such a page, and in a
-//! block of the heap of its own. A child compares, so that a stray access ends the child; then the parent makes the same
-//! inputs again, finds the one that makes the access, and shows the smallest one like it.
+//! Every list that is lent stands in turn right before a page that must not be touched, right
+//! behind such a page, and in a block of the heap of its own. A child compares, so that a stray
+//! access ends the child; then the parent makes the same inputs again, finds the one that makes the
+//! access, and shows the smallest one like it.
 use crate::case::{Case, Failed, Run};
 use crate::child::{self, Ended};
 use crate::guarded;
@@ -61,7 +62,8 @@ fn compare(kind: &Kind, run: &mut Run, recordings: &Recordings, numbers: Range<u
     Ok(())
 }
 
-/// Does so in a child. Where a stray access ends it, each of the inputs is tried once more, by itself.
+/// Does so in a child. Where a stray access ends it, each of the inputs is tried once more, by
+/// itself.
 fn compare_in_child(kind: &Kind, run: &mut Run, recordings: &Recordings, numbers: Range<usize>) -> Result<(), Failed> {
     let ended = child::ended(|| {
         compare(kind, run, recordings, numbers.clone()).ok()?;

@@ -1,4 +1,5 @@
-//! What damage starts from: recordings as the library packs them, loud, quiet, with clicks, silent and mixed.
+//! What damage starts from: recordings as the library packs them, loud, quiet, with clicks, silent
+//! and mixed.
 use crate::kinds::packs;
 use crate::payloads::{entropy, residuals};
 use crate::random::Random;
