@@ -88,7 +88,7 @@ fn run_kind(kind: &Kind, run: &mut Run, cases: usize, until: Instant) -> Result<
     let mut from = 0;
     while from < cases && Instant::now() <= until {
         let recordings = Recordings::new(&mut run.random);
-        // The first child makes one input less than the others.
+        // New recordings come with the inputs 9,999, 19,999 and so on.
         let to = ((from + 2).next_multiple_of(REUSED) - 1).min(cases);
         compare_in_child(kind, run, &recordings, from..to)?;
         from = to;
