@@ -11,7 +11,9 @@ use std::os::unix::process::ExitStatusExt;
 use std::panic::{AssertUnwindSafe, catch_unwind};
 use std::process::ExitStatus;
 
+/// SIGSEGV of Linux.
 const STRAY_ACCESS: c_int = 11;
+/// SIG_DFL: the signal ends the process.
 const USUAL_HANDLER: usize = 0;
 /// The status of a child whose work did not come to its end.
 const FAILED: c_int = 1;

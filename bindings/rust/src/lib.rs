@@ -7,7 +7,8 @@
 //! Decoding: [`read`] turns a packed payload into residuals, and [`decorrelate`] these into samples
 //! by the passes that [`Pass::new`] makes from the [`term_byte`], the [`weight_byte`]s and the
 //! seeds, which are [`log_word`]s. Writing is the way back: [`analyse`], then [`pack`]. [`word`]
-//! reads one word at a time, for a controller that follows a recording as it comes in.
+//! reads one word at a time, for a controller that follows a recording as it comes in. The example
+//! `wv_file` decodes real `.wv` files, by the steps of docs/WV_FILES.md.
 //!
 //! ```
 //! use wavpack_stereo::{BYTES_PER_FRAME, Delta, Pass, Refusal, Weight};
