@@ -31,13 +31,20 @@ library=target/staticlib
 "${CC:-cc}" -std=c11 -Wall -Wextra -Werror -Iinclude ctest/answers.c "$library/libcapi.a" -o target/ctest || fail 'the C program does not build'
 target/ctest || fail 'the C program'
 
+wv=bindings/rust/tests/data
+"${CC:-cc}" -std=c11 -Wall -Wextra -Werror -Iinclude ctest/wv_file.c "$library/libcapi.a" -o target/wv_file || fail 'the C example does not build'
+target/wv_file "$wv"/*.wv | diff bindings/rust/examples/wv_file.txt - || fail 'real files in C'
+
 cargo test --quiet --offline --locked --manifest-path bindings/rust/Cargo.toml || fail 'the Rust bindings'
 
-clicks() {
-    cargo run --quiet --offline --locked --manifest-path bindings/rust/Cargo.toml --example clicks -- "$@"
+example() { # NAME WORD...
+    name=$1
+    shift
+    cargo run --quiet --offline --locked --manifest-path bindings/rust/Cargo.toml --example "$name" -- "$@"
 }
 printf '\0\1\0\1\0\1\0\1\0\1\0\1\1\0\176\2' >target/pair.bin || fail 'no file for the example'
-{ clicks && clicks target/pair.bin 2 0; } | diff bindings/rust/examples/clicks.txt - || fail 'the example of the Rust bindings'
+{ example clicks && example clicks target/pair.bin 2 0; } | diff bindings/rust/examples/clicks.txt - || fail 'the example of the Rust bindings'
+example wv_file "$wv"/*.wv | diff bindings/rust/examples/wv_file.txt - || fail 'real files in Rust'
 
 reference=${WAVPACK_REFERENCE:-../shared/docs/src/src}
 if [ -d "$reference" ]; then

@@ -1,5 +1,6 @@
-/* Calls the library from C, through its header, and checks answers that document 01 works out.
-   Prints each answer that is not the expected one; the exit status is 0 when there is none. */
+/* Calls the library from C, through its header, and checks answers that follow from the rules of
+   docs/PROVED.md. Prints each answer that is not the expected one; the exit status is 0 when there
+   is none. */
 #include <stddef.h>
 #include <stdint.h>
 #include <stdio.h>

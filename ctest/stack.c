@@ -1,6 +1,7 @@
 /* Measures the stack that each function of the library needs, and prints a row of a table for each.
-   A call runs on a stack of its own that was filled with a pattern; how far down the pattern is gone is what the call needed:
-   the bytes below the caller's stack pointer, return address and stack arguments included, the most of many inputs. */
+   A call runs on a stack of its own that was filled with a pattern; how far down the pattern is gone
+   is what the call needed: the bytes below the caller's stack pointer, return address and stack
+   arguments included, the most of many inputs. */
 #define _GNU_SOURCE
 #include <stdint.h>
 #include <stdio.h>

@@ -1,4 +1,5 @@
-//! Links the proved library, `libcapi.a`, from the folder that CAPI_FOLDER names or from where `rt staticlib` puts it.
+//! Links the proved library, `libcapi.a`, from the folder that CAPI_FOLDER names, by an absolute
+//! path, or from where `rt staticlib` puts it.
 use std::env;
 use std::path::PathBuf;
 
@@ -11,7 +12,11 @@ fn main() {
     };
     let archive = folder.join("libcapi.a");
     if !archive.exists() {
-        println!("cargo::warning={} is missing: `rt staticlib capi` writes it", archive.display());
+        println!(
+            "cargo::warning={} is missing: `rt staticlib capi` writes it into target/staticlib of the repository; set \
+             CAPI_FOLDER to the absolute path of another folder that holds it",
+            archive.display()
+        );
     }
     println!("cargo::rerun-if-changed={}", archive.display());
     println!("cargo::rustc-link-search=native={}", folder.display());

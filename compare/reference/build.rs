@@ -1,6 +1,7 @@
 //! Writes the module declarations that compile the published files from where they lie.
 //!
-//! The folder is the one that WAVPACK_REFERENCE names, or `shared/docs/src/src` beside the repository.
+//! The folder is the one that WAVPACK_REFERENCE names, or `shared/docs/src/src` beside the
+//! repository.
 use std::path::PathBuf;
 use std::{env, fs};
 

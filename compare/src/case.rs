@@ -1,8 +1,9 @@
 //! Inputs on which both sides are run; a failing one is made small before it is shown.
-use crate::guarded;
+use crate::child::strays;
 use crate::random::Random;
+use std::collections::BTreeMap;
 use std::fmt::Debug;
-use std::iter::successors;
+use std::iter::{once, successors};
 use std::time::Instant;
 
 /// How many smaller inputs are tried at most before a failing one is shown.
@@ -41,37 +42,70 @@ pub fn same_list<T: PartialEq + Debug>(what: &str, ours: &[T], theirs: &[T]) -> 
     }
 }
 
-/// The run of one kind: where its inputs come from, and on how many of them both sides agreed, for each refusal number.
+/// The run of one kind: where its inputs come from, and on how many of them both sides agreed, for
+/// each refusal number.
 pub struct Run {
     pub random: Random,
     pub scale: usize,
-    pub agreed: [u64; 13],
+    agreed: BTreeMap<u32, u64>,
+    apart: bool,
 }
 
 impl Run {
     pub fn new(seed: u64, scale: usize) -> Run {
-        Run { random: Random::new(seed), scale, agreed: [0; 13] }
+        Run { random: Random::new(seed), scale, agreed: BTreeMap::new(), apart: false }
+    }
+
+    /// From now on each input is first compared in a child of its own, which shows whether a stray
+    /// access stops it.
+    pub fn set_apart(&mut self) {
+        self.apart = true;
+    }
+
+    /// How far it has come, in numbers that `go_on` takes: the state of its random numbers and how
+    /// often it agreed.
+    pub fn progress(&self) -> Vec<u64> {
+        let agreed = self.agreed.iter().flat_map(|(&number, &count)| [u64::from(number), count]);
+        once(self.random.state()).chain(agreed).collect()
+    }
+
+    /// Goes on from where another run of the kind has come to.
+    pub fn go_on(&mut self, progress: &[u64]) {
+        let [state, agreed @ ..] = progress else {
+            unreachable!("a run tells the state of its random numbers first");
+        };
+        self.random = Random::new(*state);
+        self.agreed = agreed.chunks_exact(2).map(|pair| (pair[0] as u32, pair[1])).collect();
     }
 
     /// Says on how many inputs of a kind both sides agreed, and tells how many.
     pub fn report(&self, name: &str, began: Instant) -> u64 {
-        let agreed: u64 = self.agreed.iter().sum();
-        let numbers = (0..self.agreed.len()).filter(|&i| self.agreed[i] > 0);
-        let refusals: Vec<String> = numbers.map(|i| format!("{i}: {}", self.agreed[i])).collect();
+        let agreed: u64 = self.agreed.values().sum();
+        let refusals: Vec<String> = self.agreed.iter().map(|(number, count)| format!("{number}: {count}")).collect();
         let seconds = began.elapsed().as_secs_f64();
         println!("compare: {name}: {agreed} agree, by refusal number {} ({seconds:.1} s)", refusals.join(", "));
         agreed
     }
 
+    /// Whether a stray access stops the comparison on an input; not looked at before inputs are set
+    /// apart.
+    fn strays<C: Case>(&self, case: &C) -> bool {
+        self.apart && strays(|| case.compare())
+    }
+
     /// Compares both sides on one input; shows the smallest failing input that it finds from there.
     pub fn agree<C: Case>(&mut self, case: C) -> Result<(), Failed> {
-        match guarded::compare(&case) {
+        if self.strays(&case) {
+            println!("STRAY ACCESS {:?}", smallest(case, |smaller| self.strays(smaller)));
+            return Err(Failed);
+        }
+        match case.compare() {
             Ok(refusal) => {
-                self.agreed[refusal as usize] += 1;
+                *self.agreed.entry(refusal).or_default() += 1;
                 Ok(())
             }
             Err(said) => {
-                let case = smallest(case, |smaller| smaller.compare().is_err());
+                let case = smallest(case, |smaller| !self.strays(smaller) && smaller.compare().is_err());
                 println!("DIFFERENCE {case:?}\n  {}", case.compare().err().unwrap_or(said));
                 Err(Failed)
             }
@@ -80,7 +114,7 @@ impl Run {
 }
 
 /// The smallest failing input that it finds from one that fails.
-pub fn smallest<C: Case>(case: C, fails: impl Fn(&C) -> bool) -> C {
+fn smallest<C: Case>(case: C, fails: impl Fn(&C) -> bool) -> C {
     let (mut found, mut tries) = (case, 0);
     loop {
         let case = found.clone();

@@ -59,7 +59,8 @@ pub fn payload(random: &mut Random, length: usize) -> Vec<u8> {
     }
 }
 
-/// Medians at the ends of the rules: of the run gate, of the division by 16, of each step and of 32 bits.
+/// Medians at the ends of the rules: of the run gate, of the division by 16, of each step and of 32
+/// bits.
 pub const MEDIANS: [u32; 20] = [
     0,
     1,

@@ -1,30 +1,24 @@
-//! Lists between two pages that must not be touched: whoever reads or writes one element outside is stopped at once.
+//! Lists between two pages that must not be touched: whoever reads or writes one element outside is
+//! stopped at once.
 //!
 //! The archive is compiled without such checks of its own; here the processor makes them.
 #![allow(unsafe_code)]
-use crate::case::{Case, smallest};
+use crate::child::strays;
 use std::cell::RefCell;
 use std::ffi::{c_int, c_void};
-use std::mem::{needs_drop, transmute};
+use std::mem::needs_drop;
 use std::ops::{Deref, DerefMut};
 use std::ptr::null_mut;
 use std::slice::{from_raw_parts, from_raw_parts_mut};
-use std::sync::atomic::{AtomicPtr, AtomicUsize, Ordering::Relaxed};
 
 const PAGE: usize = 4096;
 const UNTOUCHABLE: c_int = 0;
 const READ_AND_WRITE: c_int = 3;
 const PRIVATE_AND_EMPTY: c_int = 0x22;
-const STRAY_ACCESS: c_int = 11;
-const USUAL_HANDLER: usize = 0;
 
 unsafe extern "C" {
     fn mmap(wanted: *mut c_void, bytes: usize, may: c_int, flags: c_int, file: c_int, from: i64) -> *mut c_void;
     fn mprotect(at: *mut c_void, bytes: usize, may: c_int) -> c_int;
-    fn signal(number: c_int, handler: usize) -> usize;
-    fn fork() -> c_int;
-    fn waitpid(child: c_int, status: *mut c_int, options: c_int) -> c_int;
-    fn _exit(status: c_int) -> !;
 }
 
 /// Pages of memory with an untouchable one before and behind them.
@@ -41,9 +35,12 @@ thread_local! {
 impl Pages {
     fn map(bytes: usize) -> Pages {
         let bytes = bytes.div_ceil(PAGE).next_power_of_two() * PAGE;
+        // SAFETY: asks for new memory wherever there is room, so that nothing that is in use is
+        // mapped anew.
+        let all = unsafe { mmap(null_mut(), bytes + 2 * PAGE, READ_AND_WRITE, PRIVATE_AND_EMPTY, -1, 0) };
+        assert!(all.addr() != usize::MAX, "no memory");
+        // SAFETY: the three parts lie within what was just mapped, and nothing uses it yet.
         unsafe {
-            let all = mmap(null_mut(), bytes + 2 * PAGE, READ_AND_WRITE, PRIVATE_AND_EMPTY, -1, 0);
-            assert!(all.addr() != usize::MAX, "no memory");
             let first = all.byte_add(PAGE);
             assert!(mprotect(all, PAGE, UNTOUCHABLE) == 0 && mprotect(first.byte_add(bytes), PAGE, UNTOUCHABLE) == 0);
             Pages { first: first.cast(), bytes }
@@ -72,9 +69,12 @@ impl<T: Clone> Guarded<T> {
         assert!(!needs_drop::<T>());
         let pages = Pages::take(size_of_val(values));
         let skipped = if before { pages.bytes - size_of_val(values) } else { 0 };
+        // SAFETY: the pages have room for the values, so that what is skipped lies within them.
         let start: *mut T = unsafe { pages.first.add(skipped) }.cast();
         assert!(start.is_aligned());
         for (i, value) in values.iter().enumerate() {
+            // SAFETY: from `start` on there is aligned room for all values, which only this list
+            // has.
             unsafe { start.add(i).write(value.clone()) };
         }
         Guarded { pages, start, length: values.len() }
@@ -91,62 +91,15 @@ impl<T> Drop for Guarded<T> {
 impl<T> Deref for Guarded<T> {
     type Target = [T];
     fn deref(&self) -> &[T] {
+        // SAFETY: `length` values were written from `start` on, and only this list has its pages.
         unsafe { from_raw_parts(self.start, self.length) }
     }
 }
 
 impl<T> DerefMut for Guarded<T> {
     fn deref_mut(&mut self) -> &mut [T] {
+        // SAFETY: as in `deref`, and the list is lent to this call alone.
         unsafe { from_raw_parts_mut(self.start, self.length) }
-    }
-}
-
-/// The input that is being run, and what shows it; no input before the first.
-static INPUT: AtomicPtr<c_void> = AtomicPtr::new(null_mut());
-static SHOW: AtomicUsize = AtomicUsize::new(0);
-
-/// Compares on an input, which is made small and shown where a stray access stops it.
-pub fn compare<C: Case>(input: &C) -> Result<u32, String> {
-    fn show<C: Case>(input: *const c_void) {
-        let input = unsafe { &*input.cast::<C>() };
-        let input = smallest(input.clone(), |smaller| strays(|| smaller.compare()));
-        println!("STRAY ACCESS {input:?}");
-    }
-    let shown: fn(*const c_void) = show::<C>;
-    SHOW.store(shown as usize, Relaxed);
-    INPUT.store((&raw const *input).cast_mut().cast(), Relaxed);
-    let answer = input.compare();
-    INPUT.store(null_mut(), Relaxed);
-    answer
-}
-
-extern "C" fn stopped(_: c_int) {
-    unsafe {
-        signal(STRAY_ACCESS, USUAL_HANDLER);
-        let input = INPUT.load(Relaxed);
-        if !input.is_null() {
-            transmute::<usize, fn(*const c_void)>(SHOW.load(Relaxed))(input);
-        }
-        _exit(1)
-    }
-}
-
-/// From now on a stray access shows the input that is being run.
-pub fn watch() {
-    let handler: extern "C" fn(c_int) = stopped;
-    unsafe { signal(STRAY_ACCESS, handler as usize) };
-}
-
-/// Whether a stray access stops `work`, which a child does.
-fn strays<T>(work: impl FnOnce() -> T) -> bool {
-    unsafe {
-        let (child, mut status) = (fork(), 0);
-        if child == 0 {
-            signal(STRAY_ACCESS, USUAL_HANDLER);
-            work();
-            _exit(0);
-        }
-        child > 0 && waitpid(child, &raw mut status, 0) == child && status & 0x7f == STRAY_ACCESS
     }
 }
 
@@ -155,6 +108,8 @@ pub fn holds() -> bool {
     [true, false].into_iter().all(|before| {
         let list = Guarded::holding(&[0_u8; 5], before);
         let outside = if before { list.start.wrapping_add(5) } else { list.start.wrapping_sub(1) };
+        // SAFETY: the place is in the untouchable page beside the list, where no value lies; the
+        // processor ends the child.
         strays(|| unsafe { outside.read_volatile() })
     })
 }

@@ -1,4 +1,5 @@
-//! Lists that are lent to the library, with marks inside and around them, so that every write shows.
+//! Lists that are lent to the library, with marks inside and around them, so that every write
+//! shows.
 use crate::case::same_list;
 use crate::guarded::Guarded;
 use std::cell::Cell as Held;

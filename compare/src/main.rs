@@ -1,11 +1,16 @@
 //! Runs the proved library and the published Rust side by side.
 //!
-//! `compare` compares them on every kind of input. `compare SEED SCALE` does so with other random inputs, SCALE times
-//! as many. The seed is printed; the same seed gives the same inputs. `compare store` writes the answers of the
-//! published Rust that the program `replay` carries. `compare bench` prints a table of both sides' speed, and
-//! `compare count` makes one call, whose instructions a tool can count. `compare long` runs millions of damaged inputs.
+//! `compare` compares them on every kind of input. `compare SEED SCALE` does so with other random
+//! inputs, SCALE times as many. The seed is printed; the same seed gives the same inputs. `compare
+//! store` writes the answers of the published Rust that the program `replay` carries. `compare
+//! bench` prints a table of both sides' speed, and `compare count` makes one call, whose
+//! instructions a tool can count. `compare long` runs millions of damaged inputs.
+#![deny(unsafe_code)]
+#![warn(clippy::undocumented_unsafe_blocks)]
+
 mod bench;
 mod case;
+mod child;
 mod fields;
 mod guarded;
 mod kinds;

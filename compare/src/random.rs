@@ -9,6 +9,11 @@ impl Random {
         Random { state: seed }
     }
 
+    /// What `new` takes to go on from here.
+    pub fn state(&self) -> u64 {
+        self.state
+    }
+
     pub fn next(&mut self) -> u64 {
         self.state = self.state.wrapping_add(0x9e37_79b9_7f4a_7c15);
         let mut z = self.state;

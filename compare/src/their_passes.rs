@@ -1,10 +1,10 @@
-//! What the published Rust answers about passes, told as document 01 tells it.
+//! What the published Rust answers about passes, told as the rules (docs/PROVED.md) tell it.
 //!
-//! A pass is 20 numbers in the order of the C interface: term, delta, two weights, two histories of eight. The Rust
-//! keeps the histories to itself: they are read from its Debug output, and set by way of term 8, whose seeds fill all
-//! eight slots.
+//! A pass is its slots. The Rust keeps the histories to itself: they are read from its Debug
+//! output, and set by way of term 8, whose seeds fill all eight places.
 use reference::decorrelation::{DecorrPass, decorrelate_stereo, is_valid_term, recorrelate_stereo};
 use reference::error::Error;
+use wavpack_stereo::{Delta, Weight};
 
 pub const MAX_ELEMENTS: usize = 262_144;
 pub const MAX_PASSES: usize = 16;
@@ -12,26 +12,34 @@ pub const MAX_PASSES: usize = 16;
 /// The thirteen valid terms.
 pub const TERMS: [i8; 13] = [1, 2, 3, 4, 5, 6, 7, 8, 17, 18, -1, -2, -3];
 
-pub type Pass = [i32; 20];
+/// The slots of a pass.
+pub type Pass = [i32; wavpack_stereo::Pass::SLOTS];
 
-fn history(shown: &str, name: &str) -> Vec<i32> {
+fn history(shown: &str, name: &str) -> [i32; 8] {
     let (_, rest) = shown.split_once(&format!("{name}: [")).expect("the Rust shows its histories");
     let (numbers, _) = rest.split_once(']').expect("a history ends");
-    numbers.split(", ").map(|number| number.parse().expect("a history holds numbers")).collect()
+    let numbers = numbers.split(", ").map(|number| number.parse().expect("a history holds numbers"));
+    numbers.collect::<Vec<i32>>().try_into().expect("a history holds eight")
 }
 
 fn told(pass: &DecorrPass) -> Pass {
     let shown = format!("{pass:?}");
-    let numbers = vec![i32::from(pass.term), pass.delta, pass.weight_a, pass.weight_b];
-    [numbers, history(&shown, "history_a"), history(&shown, "history_b")].concat().try_into().expect("20 numbers")
+    let weights = [Weight(pass.weight_a), Weight(pass.weight_b)];
+    let histories = ["history_a", "history_b"].map(|name| history(&shown, name));
+    *wavpack_stereo::Pass::from_parts(pass.term.into(), Delta(pass.delta), weights, histories).slots()
 }
 
-/// A pass of the Rust that holds these 20 numbers; of the term the low 8 bits.
-pub fn made(pass: &Pass) -> DecorrPass {
-    let seed = |from: usize| pass[from..from + 8].iter().rev().copied().collect::<Vec<i32>>();
-    let mut out = DecorrPass::new(8, pass[1], pass[2], pass[3], &seed(4), &seed(12)).expect("term 8 takes eight seeds");
-    out.term = pass[0] as i8;
-    debug_assert_eq!(told(&out)[1..], pass[1..]);
+/// A pass of the Rust with these slots; of the term it has the low 8 bits.
+pub fn made(slots: &Pass) -> DecorrPass {
+    let pass = wavpack_stereo::Pass::from_slots(*slots);
+    let [weight_a, weight_b] = pass.weights();
+    let [mut seed_a, mut seed_b] = pass.histories();
+    seed_a.reverse();
+    seed_b.reverse();
+    let made = DecorrPass::new(8, pass.delta().0, weight_a.0, weight_b.0, &seed_a, &seed_b);
+    let mut out = made.expect("term 8 takes eight seeds");
+    out.term = pass.term() as i8;
+    debug_assert_eq!(told(&out)[1..], slots[1..]);
     out
 }
 

@@ -1,7 +1,8 @@
-//! What the published Rust answers, told as document 01 tells it.
+//! What the published Rust answers, told as the rules (docs/PROVED.md) tell it.
 //!
-//! A refusal is a number. Of a refused word only the number counts: the Rust has then already changed medians and
-//! flags, document 01 hands back the old ones. A reading's bits and medians are those after its last accepted word.
+//! A refusal is a number. Of a refused word only the number counts: the Rust has then already
+//! changed medians and flags, the rules hand back the old ones (D1.4). A reading's bits and medians
+//! are those after its last accepted word.
 use reference::PackedSamples;
 use reference::entropy::expand_entropy;
 use reference::error::Error;
@@ -9,13 +10,14 @@ use reference::samples::{
     AdaptiveMedians, BitReader, RunState, StereoDecodeState, Zone, decode_packed_samples_stereo_from_entropy,
     decode_sample_stateful_stereo, read_folded_ones_count,
 };
+use wavpack_stereo::{Reading, Slots, WordState};
 
-/// The limits of document 01, which the Rust does not have.
+/// The limits of the rules, which the Rust does not have.
 pub const MAX_FRAMES: usize = 131_072;
 pub const MAX_BYTES: usize = 4_194_304;
 
-/// The state of one word, in the order of the C interface: place, channel, flags, debt, six medians.
-pub type State = [u32; 13];
+/// The slots of a state.
+pub type State = <WordState as Slots>::List;
 
 /// An accepted word.
 pub struct Word {
@@ -32,36 +34,29 @@ fn number(error: Error) -> u32 {
     }
 }
 
-fn unpacked(state: &State) -> (StereoDecodeState, [AdaptiveMedians; 2]) {
+/// A state without its place, as the Rust holds it: each field has the same name there.
+fn unpacked(state: &WordState) -> (StereoDecodeState, [AdaptiveMedians; 2]) {
     let flags = StereoDecodeState {
-        run: RunState { last_zero: state[2] != 0, last_one: state[3] != 0 },
-        zero_run_pending: state[4],
-        run_break: state[5] != 0,
-        ever_took_zero_run: state[6] != 0,
-        next_channel: state[1] as u8,
+        run: RunState { last_zero: state.last_zero, last_one: state.last_one },
+        zero_run_pending: state.zero_run_pending,
+        run_break: state.run_break,
+        ever_took_zero_run: state.ever_took_zero_run,
+        next_channel: state.next_channel as u8,
     };
-    let set = |from: usize| AdaptiveMedians::new([state[from], state[from + 1], state[from + 2]]);
-    (flags, [set(7), set(10)])
+    (flags, state.medians.map(AdaptiveMedians::new))
 }
 
-fn packed(place: usize, flags: &StereoDecodeState, medians: &[AdaptiveMedians; 2]) -> State {
-    let [a, b, c] = medians[0].values;
-    let [d, e, f] = medians[1].values;
-    [
-        place as u32,
-        u32::from(flags.next_channel),
-        u32::from(flags.run.last_zero),
-        u32::from(flags.run.last_one),
-        flags.zero_run_pending,
-        u32::from(flags.run_break),
-        u32::from(flags.ever_took_zero_run),
-        a,
-        b,
-        c,
-        d,
-        e,
-        f,
-    ]
+fn packed(place: usize, flags: &StereoDecodeState, medians: &[AdaptiveMedians; 2]) -> WordState {
+    WordState {
+        place: place as u32,
+        next_channel: u32::from(flags.next_channel),
+        last_zero: flags.run.last_zero,
+        last_one: flags.run.last_one,
+        zero_run_pending: flags.zero_run_pending,
+        run_break: flags.run_break,
+        ever_took_zero_run: flags.ever_took_zero_run,
+        medians: medians.map(|set| set.values),
+    }
 }
 
 /// The zone of the next word and its count, by the Rust's own steps; none for a zero out of a run.
@@ -83,18 +78,19 @@ pub fn word(payload: &[u8], state: &State) -> Result<Word, u32> {
     if payload.len() > MAX_BYTES {
         return Err(5);
     }
-    if state[1] > 1 {
+    let state = WordState::from_slots(*state);
+    if state.next_channel > 1 {
         return Err(12);
     }
-    let place = state[0] as usize;
-    let (mut flags, mut medians) = unpacked(state);
+    let place = state.place as usize;
+    let (mut flags, mut medians) = unpacked(&state);
     let mut reader = BitReader::new(payload.get(place / 8..).unwrap_or(&[]));
     // A place past the end leaves nothing to skip: a word that needs a bit is then truncated.
     let _ = reader.get_bits((place % 8) as u32);
     let start = reader.bits_consumed();
     let report = report(&reader, &flags, &medians);
     let sample = decode_sample_stateful_stereo(&mut reader, &mut medians, &mut flags).map_err(number)?;
-    let state = packed(place + reader.bits_consumed() - start, &flags, &medians);
+    let state = packed(place + reader.bits_consumed() - start, &flags, &medians).slots();
     Ok(Word { sample, state, report: report.expect("an accepted word has a zone") })
 }
 
@@ -127,7 +123,6 @@ pub fn read(entropy: &[u8], payload: &[u8], frames: usize, length: usize) -> (u3
     // The Rust's own entry answers the same samples, or refuses for the same reason.
     let whole = decode_packed_samples_stereo_from_entropy(&PackedSamples::new(payload), &info, frames);
     assert_eq!(whole, refusal.clone().map(|()| samples.clone()));
-    let [place, _, _, _, _, _, _, a, b, c, d, e, f] = state;
-    let answer = [place, a, b, c, d, e, f, samples.len() as u32];
-    (refusal.map_or_else(number, |()| 0), answer, samples)
+    let told = Reading { bits_used: state.place, medians: state.medians, written: samples.len() };
+    (refusal.map_or_else(number, |()| 0), told.slots(), samples)
 }

@@ -1,18 +1,20 @@
 //! Prints the clicks of a stereo stem recording: the frame, the stem and the height of each.
 //!
-//! `clicks` makes a recording with clicks, writes it (analysis, packing), decodes the written bytes and prints the
-//! clicks that it finds; it stops where they are not the ones that were put in.
+//! `clicks` makes a recording with clicks, writes it (analysis, packing), decodes the written bytes
+//! and prints the clicks that it finds; it stops where they are not the ones that were put in.
 //!
-//! `clicks FILE THRESHOLD HOLD_OFF` prints the clicks of a recording as the program `wvpair` takes it: 12 entropy
-//! bytes, the frame count in 2 bytes, the low one first, and the payload. A click is a sample whose magnitude is above
-//! the threshold; after it the same stem is not listened to until HOLD_OFF frames later.
+//! `clicks FILE THRESHOLD HOLD_OFF` prints the clicks of a recording as the program `wvpair` takes
+//! it: 12 entropy bytes, the frame count in 2 bytes, the low one first, and the payload. A click is
+//! a sample whose magnitude is above the threshold; after it the same stem is not listened to until
+//! HOLD_OFF frames later.
 use std::error::Error;
 use std::fmt;
 use wavpack_stereo::{
     BYTES_PER_FRAME, Pass, Refusal, analyse, decorrelate, log_word, pack, read, term_byte, weight_byte,
 };
 
-/// What a file holds of a pass: the term byte, and for each channel a weight byte and seeds as log words.
+/// What a file holds of a pass: the term byte, and for each channel a weight byte and seeds as log
+/// words.
 struct StoredPass {
     term: u8,
     weights: [u8; 2],
@@ -42,7 +44,8 @@ impl fmt::Display for Click {
     }
 }
 
-/// The samples above the threshold, left and right in turn, without those that follow one within the hold-off.
+/// The samples above the threshold, left and right in turn, without those that follow one within
+/// the hold-off.
 fn clicks(samples: &[i32], threshold: u32, hold_off: usize) -> Vec<Click> {
     let mut listens_from = [0; 2];
     let mut found = Vec::new();
@@ -59,14 +62,14 @@ fn clicks(samples: &[i32], threshold: u32, hold_off: usize) -> Vec<Click> {
 fn make_passes(stored: &[StoredPass]) -> Result<Vec<Pass>, Refusal> {
     let make = |pass: &StoredPass| {
         let told = term_byte(pass.term);
-        let [weight_a, weight_b] = pass.weights.map(weight_byte);
         let [seed_a, seed_b] = pass.seeds.map(|words| words.iter().copied().map(log_word).collect::<Vec<i32>>());
-        Pass::new(told.term, told.delta, weight_a, weight_b, &seed_a, &seed_b)
+        Pass::new(told.term, told.delta, pass.weights.map(weight_byte), [&seed_a, &seed_b])
     };
     stored.iter().map(make).collect()
 }
 
-/// The samples of a recording and, where a word ended it early, why; they are then those of the whole frames before it.
+/// The samples of a recording and, where a word ended it early, why; they are then those of the
+/// whole frames before it.
 fn decode(recording: &Recording) -> Result<(Vec<i32>, Option<Refusal>), Refusal> {
     let mut passes = make_passes(&recording.passes)?;
     let mut samples = vec![0; 2 * recording.frames];

@@ -1,11 +1,18 @@
-//! The C interface as it is: one function for each of `include/wavpack_stereo.h`, which documents their slots.
+//! The C interface as it is: one function for each of `include/wavpack_stereo.h`, which documents
+//! their slots.
 //!
-//! The functions of the crate's root are made of these and are the ones to call. These take lists of any length and
-//! answer a number, 0 for accepted; they are public so that tests can lend lists with too few slots or too many. All
-//! unsafe code of the crate is in this file. It rests on the header: a function reads and writes nothing beyond the
-//! elements that it is given and keeps no pointer. Slices are what it asks for: not null, aligned, and those that are
-//! written overlap nothing.
-use crate::Pass;
+//! The functions of the crate's root are made of these and are the ones to call. These take lists
+//! of any length and answer a number, 0 for accepted; with the feature `ffi` they are public, so
+//! that tests can lend lists with too few slots or too many. What each writes when it refuses
+//! stands in the header too: `read` then writes its answer, `word` sample 0 and report 0, 0, and
+//! `pack` an answer of zeros.
+//!
+//! All unsafe code of the crate is in this file. It rests on what the header promises, that a
+//! function reads and writes nothing beyond the elements that it is given and keeps no pointer, and
+//! on what slices are: not null, aligned, all of one length that is told beside the pointer, and,
+//! where they are written, lent to this call alone. These two together are "list" in the comments
+//! below.
+use crate::{Delta, Pass, Weight};
 
 #[rustfmt::skip]
 unsafe extern "C" {
@@ -35,27 +42,32 @@ unsafe extern "C" {
 
 /// `wv_log_word`: 1 slot.
 pub fn log_word(word: i16, value: &mut [i32]) -> u32 {
+    // SAFETY: `value` is a list.
     unsafe { wv_log_word(word, value.as_mut_ptr(), value.len()) }
 }
 
 /// `wv_term_byte`: 2 slots.
 pub fn term_byte(byte: u8, out: &mut [i32]) -> u32 {
+    // SAFETY: `out` is a list.
     unsafe { wv_term_byte(byte, out.as_mut_ptr(), out.len()) }
 }
 
 /// `wv_weight_byte`: 1 slot.
 pub fn weight_byte(byte: u8, out: &mut [i32]) -> u32 {
+    // SAFETY: `out` is a list.
     unsafe { wv_weight_byte(byte, out.as_mut_ptr(), out.len()) }
 }
 
 /// `wv_entropy`: 6 slots.
 pub fn entropy(entropy: &[u8], medians: &mut [i32]) -> u32 {
+    // SAFETY: both are lists; only `medians`, lent to this call alone, is written.
     unsafe { wv_entropy(entropy.as_ptr(), entropy.len(), medians.as_mut_ptr(), medians.len()) }
 }
 
 /// `wv_word`: a state of 13 slots, a sample of 1, a report of 2.
 #[rustfmt::skip]
 pub fn word(payload: &[u8], state: &mut [u32], sample: &mut [i32], report: &mut [u32]) -> u32 {
+    // SAFETY: all four are lists; only the last three, each lent to this call alone, are written.
     unsafe {
         wv_word(
             payload.as_ptr(), payload.len(), state.as_mut_ptr(), state.len(),
@@ -67,6 +79,8 @@ pub fn word(payload: &[u8], state: &mut [u32], sample: &mut [i32], report: &mut 
 /// `wv_read`: an answer of 8 slots.
 #[rustfmt::skip]
 pub fn read(entropy: &[u8], payload: &[u8], frames: usize, samples: &mut [i32], answer: &mut [u32]) -> u32 {
+    // SAFETY: all four are lists, whatever `frames` is; only `samples` and `answer`, each lent to
+    // this call alone, are written.
     unsafe {
         wv_read(
             entropy.as_ptr(), entropy.len(), payload.as_ptr(), payload.len(), frames,
@@ -75,12 +89,14 @@ pub fn read(entropy: &[u8], payload: &[u8], frames: usize, samples: &mut [i32], 
     }
 }
 
-/// `wv_pass`: a pass of 20 slots. `numbers` are delta, weight A and weight B.
+/// `wv_pass`: a pass of 20 slots.
 #[rustfmt::skip]
-pub fn pass(term: i8, numbers: [i32; 3], seed_a: &[i32], seed_b: &[i32], pass: &mut [i32]) -> u32 {
+pub fn pass(term: i8, delta: Delta, weights: [Weight; 2], seeds: [&[i32]; 2], pass: &mut [i32]) -> u32 {
+    let ([weight_a, weight_b], [seed_a, seed_b]) = (weights, seeds);
+    // SAFETY: the seeds and `pass` are lists; only `pass`, lent to this call alone, is written.
     unsafe {
         wv_pass(
-            term, numbers[0], numbers[1], numbers[2], seed_a.as_ptr(), seed_a.len(),
+            term, delta.0, weight_a.0, weight_b.0, seed_a.as_ptr(), seed_a.len(),
             seed_b.as_ptr(), seed_b.len(), pass.as_mut_ptr(), pass.len(),
         )
     }
@@ -88,17 +104,21 @@ pub fn pass(term: i8, numbers: [i32; 3], seed_a: &[i32], seed_b: &[i32], pass: &
 
 /// `wv_decorrelate`: 20 slots for each pass.
 pub fn decorrelate(passes: &mut [i32], buffer: &mut [i32]) -> u32 {
+    // SAFETY: both are lists, each lent to this call alone.
     unsafe { wv_decorrelate(passes.as_mut_ptr(), passes.len(), buffer.as_mut_ptr(), buffer.len()) }
 }
 
 /// `wv_analyse`: 20 slots for each pass.
 pub fn analyse(passes: &mut [i32], buffer: &mut [i32]) -> u32 {
+    // SAFETY: both are lists, each lent to this call alone.
     unsafe { wv_analyse(passes.as_mut_ptr(), passes.len(), buffer.as_mut_ptr(), buffer.len()) }
 }
 
 /// `wv_pack`: an answer of 7 slots.
 #[rustfmt::skip]
 pub fn pack(residuals: &[i32], entropy: &[u8], frames: usize, out: &mut [u8], answer: &mut [u32]) -> u32 {
+    // SAFETY: all four are lists, whatever `frames` is; only `out` and `answer`, each lent to this
+    // call alone, are written.
     unsafe {
         wv_pack(
             residuals.as_ptr(), residuals.len(), entropy.as_ptr(), entropy.len(), frames,
@@ -107,8 +127,10 @@ pub fn pack(residuals: &[i32], entropy: &[u8], frames: usize, out: &mut [u8], an
     }
 }
 
-/// The slots of a list of passes, where they stand: a pass is its 20 slots and nothing else, and any numbers are a
-/// pass.
+/// The slots of a list of passes, where they stand.
 pub(crate) fn slots(passes: &mut [Pass]) -> &mut [i32] {
+    // SAFETY: `Pass` is transparent over its 20 slots, so that the passes are as many numbers
+    // without gaps, and any numbers are a pass. The slice that is given back is the only way to
+    // them as long as `passes` is lent.
     unsafe { core::slice::from_raw_parts_mut(passes.as_mut_ptr().cast(), passes.len() * Pass::SLOTS) }
 }

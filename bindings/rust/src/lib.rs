@@ -1,17 +1,20 @@
 //! The proved decoder and writer of stereo WavPack recordings, for greenhouse controllers in Rust.
 //!
-//! Thin and safe functions over the archive `libcapi.a`: each hands its slices to the C interface and names what it
-//! answers. Nothing is allocated, no list is copied, and no state is kept between calls.
+//! Thin and safe functions over the archive `libcapi.a`: each hands its slices to the C interface
+//! and names what it answers. Nothing is allocated, no list is copied, and no state is kept between
+//! calls.
 //!
-//! Decoding: [`read`] turns a packed payload into residuals, and [`decorrelate`] these into samples by the passes that
-//! [`Pass::new`] makes from the [`term_byte`], the [`weight_byte`]s and the seeds, which are [`log_word`]s. Writing is
-//! the way back: [`analyse`], then [`pack`]. [`word`] reads one word at a time, for a controller that follows a
-//! recording as it comes in.
+//! Decoding: [`read`] turns a packed payload into residuals, and [`decorrelate`] these into samples
+//! by the passes that [`Pass::new`] makes from the [`term_byte`], the [`weight_byte`]s and the
+//! seeds, which are [`log_word`]s. Writing is the way back: [`analyse`], then [`pack`]. [`word`]
+//! reads one word at a time, for a controller that follows a recording as it comes in. The example
+//! `wv_file` decodes real `.wv` files, by the steps of docs/WV_FILES.md.
 //!
 //! ```
-//! use wavpack_stereo::{BYTES_PER_FRAME, Pass, Refusal, analyse, decorrelate, pack, read};
+//! use wavpack_stereo::{BYTES_PER_FRAME, Delta, Pass, Refusal, Weight};
+//! use wavpack_stereo::{analyse, decorrelate, pack, read};
 //! let entropy = [0, 5, 0, 5, 0, 5, 0, 5, 0, 5, 0, 5];
-//! let passes = [Pass::new(18, 2, 512, 512, &[], &[])?];
+//! let passes = [Pass::new(18, Delta(2), [Weight(512); 2], [&[], &[]])?];
 //! let recording = [100, -3, 90, -2];
 //!
 //! let mut residuals = recording;
@@ -26,26 +29,37 @@
 //! # Ok::<(), Refusal>(())
 //! ```
 //!
-//! Every function tests its input itself and ends on every input. What it does not take it refuses with a [`Refusal`],
-//! and then the lists that it was lent are as they were; only a reading that a word ends has written the samples before
-//! it ([`ReadError`]).
+//! Every function tests its input itself and ends on every input. What it does not take it refuses
+//! with a [`Refusal`], and then `state`, `passes`, `buffer`, `samples` and `out` are as they were,
+//! with one exception: a reading that a word ends has written the samples of the words before it
+//! and says how many ([`ReadError`]).
+//!
+//! With the feature `ffi` the C interface is public as it is, for tests that lend it lists of other
+//! lengths than the functions here do.
 #![no_std]
-#![warn(missing_docs)]
+#![warn(missing_docs, clippy::undocumented_unsafe_blocks)]
 #![deny(unsafe_code)]
 
 #[allow(unsafe_code)]
+#[cfg(feature = "ffi")]
 pub mod ffi;
+#[allow(unsafe_code)]
+#[cfg(not(feature = "ffi"))]
+mod ffi;
 mod packing;
 mod passes;
 mod reading;
 mod refusal;
+mod slots;
 mod values;
 mod words;
 
 pub use packing::{BYTES_PER_FRAME, Packed, pack};
-pub use passes::{MAX_ELEMENTS, MAX_PASSES, Pass, analyse, decorrelate};
+pub use passes::{Delta, MAX_ELEMENTS, MAX_PASSES, Pass, Weight, analyse, decorrelate};
 pub use reading::{MAX_FRAMES, MAX_PAYLOAD_BYTES, ReadError, Reading, read};
 pub use refusal::Refusal;
+#[cfg(feature = "ffi")]
+pub use slots::Slots;
 pub use values::{TermByte, entropy, log_word, term_byte, weight_byte};
 pub use words::{Word, WordState, Zone, word};
 

@@ -1,4 +1,5 @@
 //! Packing residuals.
+use crate::slots::Slots;
 use crate::{Medians, Refusal, ffi};
 
 /// How many bytes packing wants to be lent for each frame; it may use fewer.
@@ -20,13 +21,14 @@ impl Packed {
     }
 }
 
-/// Packs the residuals of a stereo block: `frames` frames, left then right, 2 times `frames` residuals, into `out`,
-/// which has at least [`BYTES_PER_FRAME`] bytes a frame. Reading the bytes that hold the bits, with the same entropy
-/// payload and frames, gives the residuals. The spare bits of the last byte are 0, and the bytes behind it keep their
-/// values.
+/// Packs the residuals of a stereo block: `frames` frames, left then right, 2 times `frames`
+/// residuals, into `out`, which has at least [`BYTES_PER_FRAME`] bytes a frame. Reading the bytes
+/// that hold the bits, with the same entropy payload and frames, gives the residuals. The spare
+/// bits of the last byte are 0, and the bytes behind it keep their values.
 ///
-/// Refuses [`Refusal::TooLarge`], [`Refusal::ListLength`], [`Refusal::EntropyLength`], [`Refusal::NotStereo`],
-/// [`Refusal::OutputTooShort`] and [`Refusal::ResidualOutOfSpan`]; `out` is then as it was.
+/// Refuses [`Refusal::TooLarge`], [`Refusal::ListLength`], [`Refusal::EntropyLength`],
+/// [`Refusal::NotStereo`], [`Refusal::OutputTooShort`] and [`Refusal::ResidualOutOfSpan`]; `out` is
+/// then as it was.
 ///
 /// ```
 /// use wavpack_stereo::{BYTES_PER_FRAME, Refusal, pack};
@@ -40,6 +42,5 @@ impl Packed {
 pub fn pack(residuals: &[i32], entropy: &[u8], frames: usize, out: &mut [u8]) -> Result<Packed, Refusal> {
     let mut answer = [0; 7];
     Refusal::outcome(ffi::pack(residuals, entropy, frames, out, &mut answer))?;
-    let [bits_written, a, b, c, d, e, f] = answer;
-    Ok(Packed { bits_written, medians: [[a, b, c], [d, e, f]] })
+    Ok(Packed::from_slots(answer))
 }

@@ -6,46 +6,67 @@ pub const MAX_ELEMENTS: usize = 262_144;
 /// The most passes of a list.
 pub const MAX_PASSES: usize = 16;
 
-/// A decorrelation pass: term, delta, and the weights and histories that decorrelation and analysis move on.
+/// By how much a weight moves.
+#[derive(Clone, Copy, Debug, Default, PartialEq, Eq, PartialOrd, Ord, Hash)]
+pub struct Delta(pub i32);
+
+/// What a source counts in a prediction: 1024 is one.
+#[derive(Clone, Copy, Debug, Default, PartialEq, Eq, PartialOrd, Ord, Hash)]
+pub struct Weight(pub i32);
+
+/// A decorrelation pass: term, delta, and the weights and histories that decorrelation and analysis
+/// move on.
 #[derive(Clone, Debug, PartialEq, Eq, Hash)]
 #[repr(transparent)]
 pub struct Pass([i32; Pass::SLOTS]);
 
 impl Pass {
-    /// How many slots of the C interface a pass has: term, delta, weight A, weight B, eight of history A, eight of
-    /// history B.
+    /// How many slots of the C interface a pass has: term, delta, weight A, weight B, eight of
+    /// history A, eight of history B.
     pub const SLOTS: usize = 20;
 
-    /// Makes a pass. Any delta and weights are taken; an empty seed means zeros, except that a cross term with an A
-    /// seed needs a B seed.
+    /// Makes a pass; weights and seeds are A's, then B's. Any delta and weights are taken; an empty
+    /// seed means zeros, except that a cross term with an A seed needs a B seed.
+    /// [`term_byte`](crate::term_byte), [`weight_byte`](crate::weight_byte) and
+    /// [`log_word`](crate::log_word) give what it takes.
     ///
-    /// Refuses [`Refusal::InvalidTerm`], then [`Refusal::SeedTooShort`].
+    /// Refuses [`Refusal::InvalidTerm`], also for a term outside 8 bits, then
+    /// [`Refusal::SeedTooShort`].
     ///
     /// ```
-    /// use wavpack_stereo::{Pass, Refusal};
-    /// let pass = Pass::new(18, 2, 1024, 1024, &[10, 4], &[1, -2])?;
-    /// assert_eq!((pass.term(), pass.delta(), pass.weights()), (18, 2, [1024, 1024]));
+    /// use wavpack_stereo::{Delta, Pass, Refusal, Weight, term_byte, weight_byte};
+    /// let told = term_byte(0x57);
+    /// let weights = [0x7f, 0x80].map(weight_byte);
+    /// let pass = Pass::new(told.term, told.delta, weights, [&[10, 4], &[1, -2]])?;
+    /// assert_eq!((pass.term(), pass.delta()), (18, Delta(2)));
+    /// assert_eq!(pass.weights(), [Weight(1024), Weight(-1024)]);
     /// assert_eq!(pass.histories(), [[10, 4, 0, 0, 0, 0, 0, 0], [1, -2, 0, 0, 0, 0, 0, 0]]);
-    /// assert_eq!(Pass::new(9, 2, 0, 0, &[], &[]), Err(Refusal::InvalidTerm));
-    /// assert_eq!(Pass::new(18, 2, 0, 0, &[10], &[]), Err(Refusal::SeedTooShort));
+    ///
+    /// assert_eq!(Pass::new(9, Delta(2), weights, [&[], &[]]), Err(Refusal::InvalidTerm));
+    /// assert_eq!(Pass::new(256 + 18, Delta(2), weights, [&[], &[]]), Err(Refusal::InvalidTerm));
+    /// assert_eq!(Pass::new(18, Delta(2), weights, [&[10], &[]]), Err(Refusal::SeedTooShort));
     /// # Ok::<(), Refusal>(())
     /// ```
-    pub fn new(
-        term: i8,
-        delta: i32,
-        weight_a: i32,
-        weight_b: i32,
-        seed_a: &[i32],
-        seed_b: &[i32],
-    ) -> Result<Pass, Refusal> {
+    pub fn new(term: i32, delta: Delta, weights: [Weight; 2], seeds: [&[i32]; 2]) -> Result<Pass, Refusal> {
+        let term = i8::try_from(term).map_err(|_| Refusal::InvalidTerm)?;
         let mut slots = [0; Pass::SLOTS];
-        Refusal::outcome(ffi::pass(term, [delta, weight_a, weight_b], seed_a, seed_b, &mut slots))?;
+        Refusal::outcome(ffi::pass(term, delta, weights, seeds, &mut slots))?;
         Ok(Pass(slots))
     }
 
-    /// The pass that 20 slots hold, as a controller has stored it. Nothing is tested: an invalid term is refused when
-    /// the pass is to run.
+    /// The pass that 20 slots hold, as a controller has stored it. Nothing is tested: an invalid
+    /// term is refused when the pass is to run.
     pub const fn from_slots(slots: [i32; Pass::SLOTS]) -> Pass {
+        Pass(slots)
+    }
+
+    /// The pass whose accessors tell these values. Nothing is tested.
+    #[cfg(feature = "ffi")]
+    pub fn from_parts(term: i32, delta: Delta, weights: [Weight; 2], histories: [[i32; 8]; 2]) -> Pass {
+        let [weight_a, weight_b] = weights;
+        let mut slots = [0; Pass::SLOTS];
+        slots[..4].copy_from_slice(&[term, delta.0, weight_a.0, weight_b.0]);
+        slots[4..].copy_from_slice(histories.as_flattened());
         Pass(slots)
     }
 
@@ -54,19 +75,19 @@ impl Pass {
         &self.0
     }
 
-    /// Its term.
+    /// Its term; one that [`Pass::from_slots`] was given may be invalid.
     pub const fn term(&self) -> i32 {
         self.0[0]
     }
 
-    /// By how much a weight moves.
-    pub const fn delta(&self) -> i32 {
-        self.0[1]
+    /// By how much its weights move.
+    pub const fn delta(&self) -> Delta {
+        Delta(self.0[1])
     }
 
     /// The weights of A and B.
-    pub const fn weights(&self) -> [i32; 2] {
-        [self.0[2], self.0[3]]
+    pub const fn weights(&self) -> [Weight; 2] {
+        [Weight(self.0[2]), Weight(self.0[3])]
     }
 
     /// The histories of A and B.
@@ -75,30 +96,33 @@ impl Pass {
     }
 }
 
-/// Decorrelation: turns the residuals of `buffer`, left then right, into samples, by each pass in turn, and moves the
-/// passes on. An odd last element keeps its value.
+/// Decorrelation: turns the residuals of `buffer`, left then right, into samples, by each pass in
+/// turn, and moves the passes on. An odd last element keeps its value.
 ///
-/// Refuses [`Refusal::TooLarge`], [`Refusal::TooManyPasses`] and [`Refusal::InvalidTerm`]; passes and buffer are then
-/// as they were.
+/// Refuses [`Refusal::TooLarge`], [`Refusal::TooManyPasses`] and [`Refusal::InvalidTerm`]; passes
+/// and buffer are then as they were.
 ///
 /// ```
-/// use wavpack_stereo::{Pass, Refusal, decorrelate};
-/// let mut passes = [Pass::new(18, 2, 1024, 1024, &[10, 4], &[1, -2])?];
+/// use wavpack_stereo::{Delta, Pass, Refusal, Weight, decorrelate};
+/// let mut passes = [Pass::new(18, Delta(2), [Weight(1024); 2], [&[10, 4], &[1, -2]])?];
 /// let mut buffer = [1, -1];
 /// decorrelate(&mut passes, &mut buffer)?;
-/// assert_eq!((buffer, passes[0].weights()), ([14, 1], [1026, 1022]));
+/// assert_eq!((buffer, passes[0].weights()), ([14, 1], [Weight(1026), Weight(1022)]));
 /// # Ok::<(), Refusal>(())
 /// ```
 pub fn decorrelate(passes: &mut [Pass], buffer: &mut [i32]) -> Result<(), Refusal> {
     Refusal::outcome(ffi::decorrelate(ffi::slots(passes), buffer))
 }
 
-/// Analysis, the inverse: turns the samples of `buffer` into the residuals that decorrelate to them, and leaves the
-/// passes as decorrelation would. Refuses as [`decorrelate`] does.
+/// Analysis, the inverse: turns the samples of `buffer` into the residuals that decorrelate to
+/// them, and leaves the passes as decorrelation would. Refuses as [`decorrelate`] does.
 ///
 /// ```
-/// use wavpack_stereo::{Pass, Refusal, analyse, decorrelate};
-/// let start = [Pass::new(18, 2, 1024, 1024, &[10, 4], &[1, -2])?, Pass::new(-3, 5, 300, -40, &[], &[])?];
+/// use wavpack_stereo::{Delta, Pass, Refusal, Weight, analyse, decorrelate};
+/// let start = [
+///     Pass::new(18, Delta(2), [Weight(1024); 2], [&[10, 4], &[1, -2]])?,
+///     Pass::new(-3, Delta(5), [Weight(300), Weight(-40)], [&[], &[]])?,
+/// ];
 /// let (mut there, mut back) = (start.clone(), start);
 /// let mut buffer = [14, 1, i32::MAX, -7];
 /// analyse(&mut there, &mut buffer)?;

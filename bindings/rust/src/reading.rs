@@ -1,4 +1,5 @@
 //! Reading a packed payload.
+use crate::slots::Slots;
 use crate::{Medians, Refusal, ffi};
 use core::error::Error;
 use core::fmt;
@@ -42,12 +43,13 @@ impl From<ReadError> for Refusal {
     }
 }
 
-/// Reads the packed payload of a stereo block: `frames` frames, left then right, into `samples`, which has 2 times
-/// `frames` elements.
+/// Reads the packed payload of a stereo block: `frames` frames, left then right, into `samples`,
+/// which has 2 times `frames` elements.
 ///
-/// Refuses [`Refusal::TooLarge`], [`Refusal::ListLength`], [`Refusal::EntropyLength`] and [`Refusal::NotStereo`], with
-/// `samples` as it was; then, in a word, [`Refusal::Truncated`] or [`Refusal::EndOfStream`], with the samples of the
-/// words before it in `samples` and, behind them, what it held.
+/// Refuses [`Refusal::TooLarge`], [`Refusal::ListLength`], [`Refusal::EntropyLength`] and
+/// [`Refusal::NotStereo`], with `samples` as it was; then, in a word, [`Refusal::Truncated`] or
+/// [`Refusal::EndOfStream`], with the samples of the words before it in `samples` and, behind them,
+/// what it held.
 ///
 /// ```
 /// use wavpack_stereo::{Refusal, read};
@@ -65,8 +67,7 @@ impl From<ReadError> for Refusal {
 pub fn read(entropy: &[u8], payload: &[u8], frames: usize, samples: &mut [i32]) -> Result<Reading, ReadError> {
     let mut answer = [0; 8];
     let outcome = Refusal::outcome(ffi::read(entropy, payload, frames, samples, &mut answer));
-    let [bits_used, a, b, c, d, e, f, written] = answer;
-    let reading = Reading { bits_used, medians: [[a, b, c], [d, e, f]], written: written as usize };
+    let reading = Reading::from_slots(answer);
     match outcome {
         Ok(()) => Ok(reading),
         Err(refusal) => Err(ReadError { refusal, reading }),

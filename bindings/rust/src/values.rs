@@ -1,13 +1,14 @@
 //! Values of one word or byte, and of the entropy payload.
-use crate::{Medians, Refusal, ffi};
+use crate::slots::Slots;
+use crate::{Delta, Medians, Refusal, Weight, ffi};
 
 /// What a term byte holds.
 #[derive(Clone, Copy, Debug, PartialEq, Eq, Hash)]
 pub struct TermByte {
     /// The term, -5 to 26; [`Pass::new`](crate::Pass::new) refuses an invalid one.
-    pub term: i8,
+    pub term: i32,
     /// The delta, 0 to 7.
-    pub delta: i32,
+    pub delta: Delta,
 }
 
 /// The signed value of a log word.
@@ -18,6 +19,7 @@ pub struct TermByte {
 /// ```
 pub fn log_word(word: i16) -> i32 {
     let mut value = [0];
+    // Only a list without a slot is refused.
     ffi::log_word(word, &mut value);
     value[0]
 }
@@ -25,27 +27,31 @@ pub fn log_word(word: i16) -> i32 {
 /// The term and the delta of a term byte.
 ///
 /// ```
-/// use wavpack_stereo::{TermByte, term_byte};
-/// assert_eq!(term_byte(0x57), TermByte { term: 18, delta: 2 });
+/// use wavpack_stereo::{Delta, TermByte, term_byte};
+/// assert_eq!(term_byte(0x57), TermByte { term: 18, delta: Delta(2) });
 /// ```
 pub fn term_byte(byte: u8) -> TermByte {
     let mut out = [0; 2];
+    // Only a list with fewer than two slots is refused.
     ffi::term_byte(byte, &mut out);
-    TermByte { term: out[0] as i8, delta: out[1] }
+    TermByte::from_slots(out)
 }
 
 /// The weight of a weight byte, -1024 to 1024.
 ///
 /// ```
-/// assert_eq!(wavpack_stereo::weight_byte(0x7f), 1024);
+/// use wavpack_stereo::{Weight, weight_byte};
+/// assert_eq!(weight_byte(0x7f), Weight(1024));
 /// ```
-pub fn weight_byte(byte: u8) -> i32 {
+pub fn weight_byte(byte: u8) -> Weight {
     let mut out = [0];
+    // Only a list without a slot is refused.
     ffi::weight_byte(byte, &mut out);
-    out[0]
+    Weight(out[0])
 }
 
-/// The signed medians of an entropy payload of 6 bytes (mono: the right ones are 0) or 12 bytes (stereo).
+/// The signed medians of an entropy payload of 6 bytes (mono: the right ones are 0) or 12 bytes
+/// (stereo).
 ///
 /// Refuses [`Refusal::EntropyLength`].
 ///
@@ -58,6 +64,5 @@ pub fn weight_byte(byte: u8) -> i32 {
 pub fn entropy(payload: &[u8]) -> Result<Medians<i32>, Refusal> {
     let mut medians = [0; 6];
     Refusal::outcome(ffi::entropy(payload, &mut medians))?;
-    let [a, b, c, d, e, f] = medians;
-    Ok([[a, b, c], [d, e, f]])
+    Ok(Medians::from_slots(medians))
 }

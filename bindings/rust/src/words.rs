@@ -1,4 +1,5 @@
 //! Reading one word at a time.
+use crate::slots::Slots;
 use crate::{Medians, Refusal, ffi, read};
 
 /// What reading carries from word to word. The caller holds it.
@@ -61,49 +62,13 @@ impl WordState {
         let reading = read(entropy, &[], 0, &mut [])?;
         Ok(WordState::new(reading.medians))
     }
-
-    fn slots(&self) -> [u32; 13] {
-        let [[a, b, c], [d, e, f]] = self.medians;
-        let flags = [self.last_zero, self.last_one, self.run_break, self.ever_took_zero_run].map(u32::from);
-        let [last_zero, last_one, run_break, ever_took_zero_run] = flags;
-        let pending = self.zero_run_pending;
-        [self.place, self.next_channel, last_zero, last_one, pending, run_break, ever_took_zero_run, a, b, c, d, e, f]
-    }
-
-    fn from_slots(slots: [u32; 13]) -> WordState {
-        let [place, next_channel, last_zero, last_one, pending, run_break, ever_took_zero_run, a, b, c, d, e, f] =
-            slots;
-        WordState {
-            place,
-            next_channel,
-            last_zero: last_zero != 0,
-            last_one: last_one != 0,
-            zero_run_pending: pending,
-            run_break: run_break != 0,
-            ever_took_zero_run: ever_took_zero_run != 0,
-            medians: [[a, b, c], [d, e, f]],
-        }
-    }
-}
-
-impl Zone {
-    /// The zone that a report tells, none for 0.
-    fn from_report([zone, ones_count]: [u32; 2]) -> Option<Zone> {
-        match zone {
-            0 => None,
-            1 => Some(Zone::Zone0),
-            2 => Some(Zone::Zone1),
-            3 => Some(Zone::Zone2),
-            _ => Some(Zone::Zone2Overflow { ones_count }),
-        }
-    }
 }
 
 /// Reads the word at the state's place and moves the state behind it.
 ///
-/// Refuses [`Refusal::TooLarge`] for the payload, [`Refusal::InvalidChannel`], [`Refusal::Truncated`] or
-/// [`Refusal::EndOfStream`], with the state as it was: a controller that follows a recording tries again when more
-/// bytes are there.
+/// Refuses [`Refusal::TooLarge`] for the payload, [`Refusal::InvalidChannel`],
+/// [`Refusal::Truncated`] or [`Refusal::EndOfStream`], with the state as it was: a controller that
+/// follows a recording tries again when more bytes are there.
 ///
 /// ```
 /// use wavpack_stereo::{Refusal, WordState, Zone, word};
@@ -123,5 +88,5 @@ pub fn word(payload: &[u8], state: &mut WordState) -> Result<Word, Refusal> {
     let (mut slots, mut sample, mut report) = (state.slots(), [0], [0; 2]);
     Refusal::outcome(ffi::word(payload, &mut slots, &mut sample, &mut report))?;
     *state = WordState::from_slots(slots);
-    Ok(Word { sample: sample[0], zone: Zone::from_report(report) })
+    Ok(Word { sample: sample[0], zone: Option::from_slots(report) })
 }

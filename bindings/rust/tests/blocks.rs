@@ -1,5 +1,6 @@
-//! Decodes the blocks that `wavpack` wrote (`crates/blocks/data`, whose README describes the records) to the samples
-//! they were made from, whole and word by word, and packs these again to the same bits.
+//! Decodes the blocks that `wavpack` wrote (`crates/blocks/data`, whose README describes the
+//! records) to the samples they were made from, whole and word by word, and packs these again to
+//! the same bits.
 use wavpack_stereo::{
     BYTES_PER_FRAME, Pass, Refusal, WordState, Zone, analyse, decorrelate, log_word, pack, read, term_byte,
     weight_byte, word,
@@ -28,7 +29,7 @@ fn take_pass(file: &mut &[u8]) -> Result<Pass, Refusal> {
     let (head, words) = (take(file, 4), take_words(file, 16));
     let (told, seeds) = (term_byte(head[0]), usize::from(head[3]));
     let seed = |from: usize| words[from..from + seeds].iter().copied().map(log_word).collect::<Vec<i32>>();
-    Pass::new(told.term, told.delta, weight_byte(head[1]), weight_byte(head[2]), &seed(0), &seed(8))
+    Pass::new(told.term, told.delta, [head[1], head[2]].map(weight_byte), [&seed(0), &seed(8)])
 }
 
 fn take_block(file: &mut &[u8]) -> Result<Block, Refusal> {

@@ -1,7 +1,7 @@
 //! Each refusal, reached through the safe functions, and that the lent lists are then as they were.
 use wavpack_stereo::{
-    MAX_ELEMENTS, MAX_FRAMES, MAX_PASSES, MAX_PAYLOAD_BYTES, Pass, Reading, Refusal, WordState, analyse, decorrelate,
-    entropy, pack, read, word,
+    Delta, MAX_ELEMENTS, MAX_FRAMES, MAX_PASSES, MAX_PAYLOAD_BYTES, Pass, Reading, Refusal, Weight, WordState, analyse,
+    decorrelate, entropy, pack, read, word,
 };
 
 const ONES: [u8; 12] = [0, 1, 0, 1, 0, 1, 0, 1, 0, 1, 0, 1];
@@ -42,6 +42,14 @@ fn a_word_ends_a_reading() {
 }
 
 #[test]
+fn a_number_without_a_name() {
+    let refusal = Refusal::from_number(4_000_000_000).unwrap();
+    assert!(matches!(refusal, Refusal::Unknown { number: 4_000_000_000, .. }));
+    let said = "refusal 4000000000, which these bindings have no name for";
+    assert_eq!(refusal.to_string(), said);
+}
+
+#[test]
 fn words() {
     let refused = |payload: &[u8], mut state: WordState| {
         let before = state;
@@ -79,7 +87,7 @@ fn lists_of_passes() {
         assert!(passes == before && buffer.iter().all(|&element| element == 77));
         refusal
     };
-    let pass = Pass::new(-1, 2, 1024, -1024, &[5], &[6]).unwrap();
+    let pass = Pass::new(-1, Delta(2), [Weight(1024), Weight(-1024)], [&[5], &[6]]).unwrap();
     let mut invalid = *pass.slots();
     invalid[0] = 256 - 1;
     assert_eq!(refused(vec![pass.clone(); MAX_PASSES + 1], 4), Refusal::TooManyPasses);
@@ -87,7 +95,18 @@ fn lists_of_passes() {
     assert_eq!(refused(vec![pass.clone(), Pass::from_slots(invalid)], 4), Refusal::InvalidTerm);
     assert_eq!(decorrelate(&mut [], &mut []), Ok(()));
     assert_eq!(analyse(&mut vec![pass; MAX_PASSES], &mut []), Ok(()));
-    assert_eq!(Pass::new(-1, 2, 0, 0, &[5], &[]), Err(Refusal::SeedTooShort));
+}
+
+#[test]
+fn passes() {
+    let made = |term: i32, seeds: [&[i32]; 2]| Pass::new(term, Delta(2), [Weight(0); 2], seeds);
+    assert_eq!(made(-1, [&[5], &[]]), Err(Refusal::SeedTooShort));
+    assert_eq!(made(18, [&[5, 6], &[7]]), Err(Refusal::SeedTooShort));
+    // What the low 8 bits of a term say does not count.
+    for term in [0, 9, -4, 127, 128, 256 + 18, -256 + 18, i32::MAX, i32::MIN] {
+        assert_eq!(made(term, [&[], &[]]), Err(Refusal::InvalidTerm));
+        assert_eq!(made(term, [&[5], &[]]), Err(Refusal::InvalidTerm));
+    }
 }
 
 #[test]

@@ -1,7 +1,8 @@
-//! The published Rust as a library: its files unchanged, and stand-ins for what they name and what was not published.
+//! The published Rust as a library: its files unchanged, and stand-ins for what they name and what
+//! was not published.
 //!
-//! No stand-in takes part in what is compared. `error` only tells the kinds of refusal apart; the hybrid and
-//! correction types are named by functions that nothing here calls.
+//! No stand-in takes part in what is compared. `error` only tells the kinds of refusal apart; the
+//! hybrid and correction types are named by functions that nothing here calls.
 #![allow(clippy::all)]
 
 include!(concat!(env!("OUT_DIR"), "/modules.rs"));

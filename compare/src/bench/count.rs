@@ -1,5 +1,5 @@
-//! One call of one side, for a tool that counts the instructions of `counted`: the inputs are made before it, and the
-//! output is checked behind it.
+//! One call of one side, for a tool that counts the instructions of `counted`: the inputs are made
+//! before it, and the output is checked behind it.
 use super::passes::{self, sixteen};
 use super::reading::sounds;
 use crate::ours;
@@ -60,8 +60,8 @@ fn run_passes(random: &mut Random, terms: &[i8], back: bool, ours: bool) {
     }
 }
 
-/// Makes the call that the words name: `ours` or `theirs`; `reading`, `packing`, `decorrelation` or `analysis`; for the
-/// last two a term, or `sixteen` for 16 passes. False where they name none.
+/// Makes the call that the words name: `ours` or `theirs`; `reading`, `packing`, `decorrelation` or
+/// `analysis`; for the last two a term, or `sixteen` for 16 passes. False where they name none.
 pub fn run(words: &[&str], seed: u64) -> bool {
     let random = &mut Random::new(seed);
     let [side @ ("ours" | "theirs"), what, rest @ ..] = words else {

@@ -1,7 +1,7 @@
 //! The speed of the library and of the published Rust on the same inputs, in one run.
 //!
-//! Both sides take turns, and the best of all turns counts. Each turn starts from fresh copies, which are made before
-//! the clock starts. The outputs are compared.
+//! Both sides take turns, and the best of all turns counts. Each turn starts from fresh copies,
+//! which are made before the clock starts. The outputs are compared.
 use crate::random::Random;
 use crate::theirs::MAX_FRAMES;
 use std::time::{Duration, Instant};
@@ -13,7 +13,8 @@ mod reading;
 
 const TURNS: usize = 40;
 
-/// Runs both in turn and prints a row of the table: the best of each, and how many times as fast ours is.
+/// Runs both in turn and prints a row of the table: the best of each, and how many times as fast
+/// ours is.
 fn row(name: &str, mut ours: impl FnMut() -> Duration, mut theirs: impl FnMut() -> Duration) {
     let mut best = [Duration::MAX; 2];
     for _ in 0..TURNS {

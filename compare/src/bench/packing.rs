@@ -1,4 +1,5 @@
-//! Packing of the largest number of frames. The Rust allocates the bytes that it answers, ours fills a lent buffer.
+//! Packing of the largest number of frames. The Rust allocates the bytes that it answers, ours
+//! fills a lent buffer.
 use super::reading::Sound;
 use super::{row, timed};
 use crate::theirs::MAX_FRAMES;

@@ -1,4 +1,5 @@
-//! Decorrelation and analysis of the largest number of frames: each term alone, five passes and sixteen.
+//! Decorrelation and analysis of the largest number of frames: each term alone, five passes and
+//! sixteen.
 use super::{row, timed};
 use crate::ours;
 use crate::random::Random;

@@ -1,4 +1,5 @@
-//! Reading of the largest number of frames. The Rust allocates the list that it answers, ours fills a lent one.
+//! Reading of the largest number of frames. The Rust allocates the list that it answers, ours fills
+//! a lent one.
 use super::{row, timed};
 use crate::payloads::{entropy_of, residuals};
 use crate::random::Random;

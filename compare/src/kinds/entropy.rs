@@ -1,11 +1,14 @@
-//! Entropy payloads of every length from 0 to 16, with random words and words at the ends of each rule.
+//! Entropy payloads of every length from 0 to 16, with random words and words at the ends of each
+//! rule.
 use crate::case::{Case, Failed, Run, Smaller, plainer, same, shorter};
 use crate::lent::Lent;
 use crate::ours;
 use crate::random::Random;
 use reference::entropy::expand_entropy;
+use wavpack_stereo::Slots;
 
-/// Log words at the ends of a rule: the canonical zero, the shift's pivot, the top bit of 32, the ends of 16 bits.
+/// Log words at the ends of a rule: the canonical zero, the shift's pivot, the top bit of 32, the
+/// ends of 16 bits.
 const ENDS: [i16; 22] = [
     0, 1, 255, 256, 257, 2303, 2304, 2559, 2560, 8191, 8192, 8447, 8448, 32767, -1, -255, -256, -257, -8191, -8192,
     -32767, -32768,
@@ -26,7 +29,7 @@ impl Case for Entropy {
         match theirs {
             Ok(info) => {
                 same("refusal", &refusal, &0)?;
-                medians.written("medians", &[info.medians_left, info.medians_right].concat())?;
+                medians.written("medians", &[info.medians_left, info.medians_right].slots())?;
             }
             Err(number) => {
                 same("refusal", &refusal, &number)?;

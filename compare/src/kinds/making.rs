@@ -19,7 +19,7 @@ impl Case for Making {
     fn compare(&self) -> Result<u32, String> {
         let (mut seed_a, mut seed_b) = (Lent::holding(&self.seed_a), Lent::holding(&self.seed_b));
         let mut pass = Lent::marked(self.slots);
-        let refusal = ours::pass(self.term, self.numbers, seed_a.list(), seed_b.list(), pass.list());
+        let refusal = ours::pass(self.term, self.numbers, [seed_a.list(), seed_b.list()], pass.list());
         seed_a.kept("seed A")?;
         seed_b.kept("seed B")?;
         let theirs = their_passes::pass(self.term, self.numbers, &self.seed_a, &self.seed_b);

@@ -1,4 +1,5 @@
-//! Packing: residuals of every loudness under every kind of entropy payload, at the ends of the span, short and largest.
+//! Packing: residuals of every loudness under every kind of entropy payload, at the ends of the
+//! span, short and largest.
 use crate::case::{Case, Failed, Run, Smaller, plainer, same, shorter};
 use crate::lent::Lent;
 use crate::ours;
@@ -55,7 +56,8 @@ impl Case for Pack {
     }
 
     fn smaller(&self) -> Smaller<'_, Pack> {
-        let whole = self.residuals.len() == 2 * self.frames && self.room == 28 * self.frames;
+        let of_frames = |each: usize, length: usize| self.frames.checked_mul(each) == Some(length);
+        let whole = of_frames(2, self.residuals.len()) && of_frames(28, self.room);
         let lists = shorter(&self.residuals).filter(move |list| whole && list.len() % 2 == 0);
         let lists = lists.map(|list| whole_pack(list, self.entropy.clone()));
         let plain = plainer(&self.residuals).map(|residuals| Pack { residuals, ..self.clone() });

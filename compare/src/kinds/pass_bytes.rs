@@ -3,6 +3,7 @@ use crate::case::{Case, Failed, Run, Smaller, same};
 use crate::lent::Lent;
 use crate::ours;
 use reference::decorrelation::{decode_term_byte, expand_weights};
+use wavpack_stereo::{Delta, Slots, TermByte};
 
 /// A byte of either kind: what our function and the Rust's answer for it.
 #[derive(Clone, Debug)]
@@ -24,7 +25,7 @@ impl PassByte {
         match self.what {
             "term" => {
                 let (term, delta) = decode_term_byte(self.byte);
-                vec![i32::from(term), delta]
+                TermByte { term: term.into(), delta: Delta(delta) }.slots().to_vec()
             }
             _ => expand_weights(&[self.byte]).weights,
         }

@@ -1,4 +1,5 @@
-//! Decorrelation and analysis: all terms, lists of 0 to 17 passes, numbers at the ends of 32 bits, the largest buffers.
+//! Decorrelation and analysis: all terms, lists of 0 to 17 passes, numbers at the ends of 32 bits,
+//! the largest buffers.
 use crate::case::{Case, Failed, Run, Smaller, plainer, same, shorter};
 use crate::lent::Lent;
 use crate::numbers;
@@ -139,7 +140,8 @@ pub fn run(run: &mut Run) -> Result<(), Failed> {
     largest(run)
 }
 
-/// Buffers of the largest size, one below and one above, through each term and through 16 and 17 passes.
+/// Buffers of the largest size, one below and one above, through each term and through 16 and 17
+/// passes.
 fn largest(run: &mut Run) -> Result<(), Failed> {
     let lists: Vec<Vec<i8>> =
         TERMS.iter().map(|&term| vec![term]).chain([vec![], TERMS.to_vec(), vec![18; 16], vec![1; 17]]).collect();

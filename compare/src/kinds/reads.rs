@@ -1,4 +1,5 @@
-//! Whole readings: every payload of up to 2 bytes, random, damaged and cut payloads, and the largest sizes.
+//! Whole readings: every payload of up to 2 bytes, random, damaged and cut payloads, and the
+//! largest sizes.
 use crate::case::{Case, Failed, Run, Smaller, plainer, same, shorter};
 use crate::fields;
 use crate::lent::Lent;
@@ -50,7 +51,7 @@ impl Case for Read {
     fn smaller(&self) -> Smaller<'_, Read> {
         let frames =
             [self.frames / 2, self.frames.saturating_sub(1)].into_iter().filter(|&frames| frames < self.frames);
-        let frames = frames.filter(|_| self.length == 2 * self.frames);
+        let frames = frames.filter(|_| self.frames.checked_mul(2) == Some(self.length));
         let frames = frames.map(|frames| Read { frames, length: 2 * frames, ..self.clone() });
         let payloads = shorter(&self.payload).chain(plainer(&self.payload));
         let payloads = payloads.map(|payload| Read { payload, ..self.clone() });

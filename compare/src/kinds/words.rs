@@ -1,4 +1,5 @@
-//! One word at a time, from any state: every payload of up to 2 bytes, words cut at every bit, counts around each cap.
+//! One word at a time, from any state: every payload of up to 2 bytes, words cut at every bit,
+//! counts around each cap.
 use crate::case::{Case, Failed, Run, Smaller, plainer, same, shorter};
 use crate::fields::{self, Bits};
 use crate::lent::Lent;
@@ -61,7 +62,8 @@ fn agree_on(run: &mut Run, payload: Vec<u8>, state: State) -> Result<(), Failed>
     run.agree(Word { payload, state, slots: SLOTS })
 }
 
-/// States that lead to each part of a word: run due, prefix, count 0 by last_zero, one more by last_one, debt.
+/// States that lead to each part of a word: run due, prefix, count 0 by last_zero, one more by
+/// last_one, debt.
 fn states(medians: [u32; 6]) -> Vec<State> {
     let mut out = Vec::new();
     for flags in
@@ -110,7 +112,8 @@ fn cut_words(run: &mut Run) -> Result<(), Failed> {
     Ok(())
 }
 
-/// A state with any medians and flags; rarely with a debt, a place past the end or a channel that does not exist.
+/// A state with any medians and flags; rarely with a debt, a place past the end or a channel that
+/// does not exist.
 pub fn any_state(random: &mut Random, bits: usize) -> State {
     let flag = |random: &mut Random| random.pick(&[0, 0, 0, 1, 2, u32::MAX]);
     let mut state: State = std::array::from_fn(|_| fields::median(random));

@@ -33,7 +33,8 @@ fn fresh(random: &mut Random, length: usize) -> Vec<u8> {
     }
 }
 
-/// Damages a payload once: bits flipped; bytes cut out, put in, doubled, exchanged, overwritten; the end cut off or added to.
+/// Damages a payload once: bits flipped; bytes cut out, put in, doubled, exchanged, overwritten;
+/// the end cut off or added to.
 pub fn bytes(random: &mut Random, bytes: &mut Vec<u8>) {
     let part = part(random, bytes.len());
     match random.below(9) {
@@ -63,7 +64,8 @@ pub fn bytes(random: &mut Random, bytes: &mut Vec<u8>) {
     }
 }
 
-/// Overwrites a payload from a bit on by a field whose counts are near their caps, as far as the payload goes.
+/// Overwrites a payload from a bit on by a field whose counts are near their caps, as far as the
+/// payload goes.
 pub fn plant(random: &mut Random, bytes: &mut [u8], place: usize) {
     let mut bits = Bits::default();
     bits.ones(random.pick(&[1, 2, 15, 16, 16, 16, 17, 31, 32, 33, 34]));

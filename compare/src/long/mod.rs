@@ -1,12 +1,17 @@
-//! Damaged inputs by the million: payloads, states, pass lists and packings that were real and then damaged, each answered
-//! as the published Rust answers.
+//! Damaged inputs by the million: payloads, states, pass lists and packings that were real and then
+//! damaged, each answered as the published Rust answers.
 //!
-//! Every list that is lent stands in turn right before a page that must not be touched, right behind such a page, and in a
-//! block of the heap of its own.
+//! Every list that is lent stands in turn right before a page that must not be touched, right
+//! behind such a page, and in a block of the heap of its own. A child compares, so that a stray
+//! access ends the child; then the parent makes the same inputs again, finds the one that makes the
+//! access, and shows the smallest one like it.
 use crate::case::{Case, Failed, Run};
+use crate::child::{self, Ended};
 use crate::guarded;
 use crate::lent::{Place, stand};
+use crate::random::Random;
 use recordings::Recordings;
+use std::ops::Range;
 use std::time::{Duration, Instant};
 
 mod damage;
@@ -37,28 +42,56 @@ const KINDS: [Kind; 6] = [
 
 const PLACES: [Place; 3] = [Place::BeforePage, Place::BehindPage, Place::Block];
 
-/// How many inputs are made from the same recordings.
+/// How many inputs are made from the same recordings, by one child.
 const REUSED: usize = 10_000;
 
-fn one<C: Case>(run: &mut Run, make: impl FnOnce(&mut crate::random::Random) -> C) -> Result<(), Failed> {
+fn one<C: Case>(run: &mut Run, make: impl FnOnce(&mut Random) -> C) -> Result<(), Failed> {
     let case = make(&mut run.random);
     run.agree(case)
 }
 
-fn run_kind(kind: &Kind, run: &mut Run, cases: usize, until: Instant) -> Result<(), Failed> {
-    let mut recordings = Recordings::new(&mut run.random);
-    for number in 0..cases {
-        if number % REUSED == REUSED - 1 {
-            recordings = Recordings::new(&mut run.random);
-        }
-        if number % 256 == 0 && Instant::now() > until {
-            break;
-        }
+/// Makes and compares the inputs of a kind with these numbers.
+fn compare(kind: &Kind, run: &mut Run, recordings: &Recordings, numbers: Range<usize>) -> Result<(), Failed> {
+    for number in numbers {
         let place = PLACES[number % PLACES.len()];
         stand(place);
-        let outcome = kind.2(run, &recordings);
+        let outcome = kind.2(run, recordings);
         stand(Place::Margins);
         outcome.inspect_err(|_| println!("  lists stood so: {place:?}"))?;
+    }
+    Ok(())
+}
+
+/// Does so in a child. Where a stray access ends it, each of the inputs is tried once more, by
+/// itself.
+fn compare_in_child(kind: &Kind, run: &mut Run, recordings: &Recordings, numbers: Range<usize>) -> Result<(), Failed> {
+    let ended = child::ended(|| {
+        compare(kind, run, recordings, numbers.clone()).ok()?;
+        Some(run.progress())
+    });
+    match ended {
+        Ended::Told(progress) => {
+            run.go_on(&progress);
+            return Ok(());
+        }
+        Ended::Stray => {
+            run.set_apart();
+            compare(kind, run, recordings, numbers.clone())?;
+            println!("STRAY ACCESS in the inputs {numbers:?} of {}, but in none of them alone", kind.0);
+        }
+        Ended::Otherwise(how) => println!("FAILED {}, inputs {numbers:?}: {how}", kind.0),
+    }
+    Err(Failed)
+}
+
+fn run_kind(kind: &Kind, run: &mut Run, cases: usize, until: Instant) -> Result<(), Failed> {
+    let mut from = 0;
+    while from < cases && Instant::now() <= until {
+        let recordings = Recordings::new(&mut run.random);
+        // New recordings come with the inputs 9,999, 19,999 and so on.
+        let to = ((from + 2).next_multiple_of(REUSED) - 1).min(cases);
+        compare_in_child(kind, run, &recordings, from..to)?;
+        from = to;
     }
     Ok(())
 }
@@ -70,7 +103,6 @@ pub fn run(bounds: &Bounds) -> Result<(), Failed> {
         println!("FAILED an access outside a list is not stopped");
         return Err(Failed);
     }
-    guarded::watch();
     let (all, mut total, mut shares) = (Instant::now(), 0, 0);
     for (number, kind) in KINDS.iter().enumerate() {
         shares += kind.1;

@@ -1,4 +1,5 @@
-//! Packings with residuals at and beyond the ends of the span, damaged entropy payloads and buffers that are too short.
+//! Packings with residuals at and beyond the ends of the span, damaged entropy payloads and buffers
+//! that are too short.
 use super::damage;
 use super::reads::{frames_near, slots_near};
 use super::recordings::Recordings;

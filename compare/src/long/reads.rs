@@ -6,7 +6,8 @@ use crate::kinds::reads::Read;
 use crate::random::Random;
 use crate::theirs::{MAX_BYTES, MAX_FRAMES};
 
-/// How many frames are asked for: as many as were packed, or about as many, or too many for the library.
+/// How many frames are asked for: as many as were packed, or about as many, or too many for the
+/// library.
 pub fn frames_near(random: &mut Random, frames: usize) -> usize {
     match random.below(16) {
         0 => frames + 1,
@@ -28,8 +29,8 @@ fn length_near(random: &mut Random, frames: usize) -> usize {
     }
 }
 
-/// Damages a payload up to three times, at times at the place of a word; rarely it becomes as long as payloads may be, or
-/// one byte longer.
+/// Damages a payload up to three times, at times at the place of a word; rarely it becomes as long
+/// as payloads may be, or one byte longer.
 pub fn damaged(random: &mut Random, payload: &[u8], place: u32) -> Vec<u8> {
     let mut payload = payload.to_vec();
     if random.once_in(8) {

@@ -1,10 +1,11 @@
-//! What damage starts from: recordings as the library packs them, loud, quiet, with clicks, silent and mixed.
+//! What damage starts from: recordings as the library packs them, loud, quiet, with clicks, silent
+//! and mixed.
 use crate::kinds::packs;
 use crate::payloads::{entropy, residuals};
 use crate::random::Random;
 use crate::their_packing::SPAN;
 use crate::theirs::{MAX_FRAMES, State};
-use wavpack_stereo::{BYTES_PER_FRAME, ffi, pack};
+use wavpack_stereo::{BYTES_PER_FRAME, Slots, WordState, pack, word};
 
 pub struct Recording {
     pub entropy: Vec<u8>,
@@ -37,11 +38,11 @@ fn sound(random: &mut Random, count: usize) -> Vec<i32> {
     }
 }
 
-/// The states before the words of a payload that is read from `start` on.
-fn walk(payload: &[u8], start: State, words: usize) -> Vec<State> {
-    let (mut state, mut out) = (start, vec![start]);
-    while out.len() < words && ffi::word(payload, &mut state, &mut [0], &mut [0; 2]) == 0 {
-        out.push(state);
+/// The states before the words of a payload that is read from `state` on.
+fn walk(payload: &[u8], mut state: WordState, words: usize) -> Vec<State> {
+    let mut out = vec![state.slots()];
+    while out.len() < words && word(payload, &mut state).is_ok() {
+        out.push(state.slots());
     }
     out
 }
@@ -56,11 +57,7 @@ fn recording(random: &mut Random, frames: usize) -> Recording {
             continue;
         };
         payload.truncate(packed.bytes());
-        let medians = wavpack_stereo::entropy(&entropy).expect("packing took it").concat();
-        let mut start: State = [0; 13];
-        for (slot, median) in start[7..].iter_mut().zip(medians) {
-            *slot = median as u32;
-        }
+        let start = WordState::from_entropy(&entropy).expect("packing took it");
         let states = walk(&payload, start, STATES.min(2 * frames));
         return Recording { entropy, residuals, payload, states };
     }

@@ -5,6 +5,7 @@ use crate::random::Random;
 use reference::decorrelation::{decode_term_byte, expand_weights};
 use reference::entropy::expand_entropy;
 use reference::logpack::expand_log_word;
+use wavpack_stereo::Slots;
 
 /// The value of each log word, in the order of their 16-bit patterns.
 pub fn log_words() -> Records {
@@ -39,8 +40,8 @@ pub fn entropy() -> Records {
         let length = if round < 68 { round % 17 } else { random.pick(&[6, 12, 12]) };
         let bytes = payload(random, length);
         let (refusal, medians) = match expand_entropy(&bytes) {
-            Ok(info) => (0, [info.medians_left, info.medians_right].concat()),
-            Err(_) => (1, vec![0; 6]),
+            Ok(info) => (0, [info.medians_left, info.medians_right].slots()),
+            Err(_) => (1, [0; 6]),
         };
         out.numbers(&[length as u32, refusal]);
         out.bytes(&bytes, 16);

@@ -1,7 +1,7 @@
 //! The stored answers of the published Rust, which the program `replay` holds the library to.
 //!
-//! One file for each kind, in records of one length; numbers are little-endian. `crates/replay/data/README.md`
-//! describes each record.
+//! One file for each kind, in records of one length; numbers are little-endian.
+//! `crates/replay/data/README.md` describes each record.
 use std::path::PathBuf;
 use std::{fs, io};
 

@@ -5,7 +5,8 @@ use crate::payloads;
 use crate::random::Random;
 use crate::their_packing;
 
-/// Packings: frames, 12 entropy bytes, 16 residuals, refusal, answer, the packed bytes in room for eight frames.
+/// Packings: frames, 12 entropy bytes, 16 residuals, refusal, answer, the packed bytes in room for
+/// eight frames.
 pub fn packs() -> Records {
     let (random, mut out) = (&mut Random::new(SEED), Records::default());
     for round in 0..300 {

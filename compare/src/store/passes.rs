@@ -5,7 +5,8 @@ use crate::numbers;
 use crate::random::Random;
 use crate::their_passes::{self, Pass, TERMS};
 
-/// Pass making: term, delta, two weights, two seed lengths, room for nine seeds each, refusal, pass.
+/// Pass making: term, delta, two weights, two seed lengths, room for nine seeds each, refusal,
+/// pass.
 pub fn making() -> Records {
     let (random, mut out) = (&mut Random::new(SEED), Records::default());
     for round in 0..600 {
@@ -29,7 +30,8 @@ pub fn making() -> Records {
     out
 }
 
-/// Runs of passes: 1 for analysis, passes, buffer length, room for four passes and 24 numbers, refusal, both after.
+/// Runs of passes: 1 for analysis, passes, buffer length, room for four passes and 24 numbers,
+/// refusal, both after.
 pub fn runs() -> Records {
     let (random, mut out) = (&mut Random::new(SEED), Records::default());
     for round in 0..250 {

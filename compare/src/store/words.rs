@@ -29,7 +29,8 @@ pub fn words() -> Records {
     out
 }
 
-/// Readings: payload length, frames, 12 entropy bytes, 48 payload bytes, refusal, answer, 32 samples.
+/// Readings: payload length, frames, 12 entropy bytes, 48 payload bytes, refusal, answer, 32
+/// samples.
 pub fn readings() -> Records {
     let (random, mut out) = (&mut Random::new(SEED), Records::default());
     for round in 0..400 {
