@@ -1,6 +1,7 @@
 #!/bin/sh
-# Runs every test: the proofs and programs from nothing, docs/PROVED.md against what it names, the C program and the Rust
-# bindings over the proved library, and the comparison with the published Rust. The last line is that of `rt ci` when all pass.
+# Runs every test: the proofs and programs from nothing, docs/PROVED.md against what it names, the wording of the refusals,
+# the C programs and the Rust bindings over the proved library, and the comparison with the published Rust. The last line is
+# that of `rt ci` when all pass.
 #
 # The published Rust is looked for in ../shared/docs/src/src, or in the folder that WAVPACK_REFERENCE names. Where it
 # is missing the comparison is skipped with a message; with CI=true a missing reference is a failure.

@@ -13,6 +13,8 @@
  * fewer elements than slots is refused with WV_LIST_LENGTH before anything is written; elements
  * behind the slots keep their values. On any other refusal `wv_read`, `wv_word` and `wv_pack` write
  * what is said there, and every other function leaves all lists as they were.
+ *
+ * docs/WV_FILES.md shows how a block of a real file is decoded with these functions.
  */
 #ifndef WAVPACK_STEREO_H
 #define WAVPACK_STEREO_H
