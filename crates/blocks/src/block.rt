@@ -1,5 +1,5 @@
-// One block: its payload read, decorrelated and compared with the samples it was made from; these analysed, packed and
-// compared with the payload.
+// One block: its payload read, decorrelated and compared with the samples it was made from; these
+// analysed, packed and compared with the payload.
 use crate::record::holds;
 use crate::record::read_passes;
 use crate::record::word_at;
@@ -63,7 +63,8 @@ fn same_bits(a: &[u8], b: &[u8], bits: usize) -> bool {
     true
 }
 
-// Whether the samples, analysed and packed, are the payload's first bits, and no more or fewer than reading used.
+// Whether the samples, analysed and packed, are the payload's first bits, and no more or fewer than
+// reading used.
 fn packs_again(
     list: [DecorrPass; 16],
     count: usize,
@@ -111,7 +112,8 @@ fn judge(
     }
 }
 
-// Reads so many bytes of the file to the start of a list. False where the list or the file has fewer.
+// Reads so many bytes of the file to the start of a list. False where the list or the file has
+// fewer.
 fn fill(fd: i32, bytes: &mut [u8], count: usize) -> bool {
     if count > bytes.len() {
         return false;
@@ -119,7 +121,8 @@ fn fill(fd: i32, bytes: &mut [u8], count: usize) -> bool {
     io::read_full(fd, &mut bytes[..count]) == count
 }
 
-// Runs the block of a head, of up to 2,048 frames and 16,384 bytes: reads its passes, samples and payload from the file.
+// Runs the block of a head, of up to 2,048 frames and 16,384 bytes: reads its passes, samples and
+// payload from the file.
 pub fn run(fd: i32, head: Head, entropy: &[u8]) -> Verdict {
     let frames = head.frames;
     let length = head.length;

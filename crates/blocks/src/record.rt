@@ -71,7 +71,8 @@ fn seeds_of(bytes: &[u8]) -> [i32; 8] {
     seeds
 }
 
-// The pass of 36 bytes: the term byte, both weight bytes, how many seeds a channel has, and eight log words a channel.
+// The pass of 36 bytes: the term byte, both weight bytes, how many seeds a channel has, and eight
+// log words a channel.
 fn pass_of(bytes: [u8; 36]) -> PassAnswer {
     let term = decode_term_byte(bytes[0]);
     let seed_a = seeds_of(&bytes[4..20]);

@@ -1,4 +1,1 @@
-pub mod Answers
-pub mod Words
 pub mod Passes
-pub mod Pack

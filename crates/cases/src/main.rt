@@ -1,5 +1,6 @@
-// Document 01, "Proved cases (*) and others" (C10): the cases that are run only, and fields through a reader. Each prints a line, what it is, the refusal
-// number (0 means accepted) and the values that were answered. What is printed is held to the file `stdout`.
+// Document 01, "Proved cases (*) and others" (C10): the cases that are run only, and fields through
+// a reader. Each prints a line, what it is, the refusal number (0 means accepted) and the values
+// that were answered. What is printed is held to the file `stdout`.
 use answers::outcome_number;
 use bit_reader::field_at;
 use bits::BitAnswer;
@@ -61,8 +62,8 @@ fn run_entropy(name: &[u8], payload: &[u8]) {
     print_values(&values);
 }
 
-// One frame of a packed payload whose seed medians are all 1: the bits used, the samples written, and the list, which held 77
-// before.
+// One frame of a packed payload whose seed medians are all 1: the bits used, the samples written,
+// and the list, which held 77 before.
 fn run_reading(name: &[u8], payload: &[u8]) {
     let entropy = [0, 1, 0, 1, 0, 1, 0, 1, 0, 1, 0, 1];
     let mut list = [77, 77];
@@ -110,8 +111,8 @@ fn main() {
     let payload = [0, 1, 0, 2, 0, 3, 0, 4, 0, 5, 0, 255];
     run_entropy(b"11 entropy bytes", &payload[..11]);
     run_entropy(b"12 entropy bytes", &payload);
-    // A run length of 0, which is one zero; 16 ones and a zero; the second ones, 32 or 33, and a zero; then zeros: 31 bits of the
-    // prefix and the signs of two words.
+    // A run length of 0, which is one zero; 16 ones and a zero; the second ones, 32 or 33, and a
+    // zero; then zeros: 31 bits of the prefix and the signs of two words.
     let escape_32 = [254, 255, 253, 255, 255, 255, 3, 0, 0, 0, 0];
     run_reading(b"escape with 32 second ones", &escape_32);
     let escape_33 = [254, 255, 253, 255, 255, 255, 7, 0, 0, 0, 0];

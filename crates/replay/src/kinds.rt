@@ -1,4 +1,5 @@
-// The kinds of stored answers. Each reads its next record and holds the proved function's answer to it.
+// The kinds of stored answers. Each reads its next record and holds the proved function's answer to
+// it.
 use crate::numbers::holds_signed;
 use crate::numbers::number_at;
 use crate::numbers::part;
@@ -87,7 +88,8 @@ fn next_weight_byte(fd: i32, record: u32) -> Step {
     told(refusal == 0 && holds_signed(&bytes, &out))
 }
 
-// Whether an entropy payload, of which a record of 48 bytes gives the length, is refused and expanded as stored.
+// Whether an entropy payload, of which a record of 48 bytes gives the length, is refused and
+// expanded as stored.
 fn entropy_agrees(record: &[u8]) -> bool {
     if record.len() < 48 {
         return false;

@@ -1,5 +1,5 @@
-// Replays the stored answers of the published Rust (data/, whose README says how they were made) through the proved
-// functions, and prints for each kind how many there are and how many agree.
+// Replays the stored answers of the published Rust (data/, whose README says how they were made)
+// through the proved functions, and prints for each kind how many there are and how many agree.
 mod kinds;
 mod numbers;
 mod packs;
@@ -10,7 +10,8 @@ use kinds::Kind;
 use kinds::Step;
 use libc::STDOUT_FILENO;
 
-// No file holds more records than this. A proved loop has to end, and nothing says that a file does.
+// No file holds more records than this. A proved loop has to end, and nothing says that a file
+// does.
 const MOST: u32 = 1000000;
 
 // How many records a file holds, and on how many of them the proved function answers as stored.
@@ -35,7 +36,8 @@ fn replay(kind: Kind, fd: i32) -> Tally {
     Tally { replayed, agreed }
 }
 
-// Replays one file and prints the line about it. A file that cannot be opened has a line of its own.
+// Replays one file and prints the line about it. A file that cannot be opened has a line of its
+// own.
 fn replay_file(kind: Kind, path: &[u8]) {
     io::write_all(STDOUT_FILENO, path);
     let fd = os::open_read(path);

@@ -1,4 +1,5 @@
-// The numbers of a stored record: four bytes each, the low one first; a signed one by its 32-bit pattern.
+// The numbers of a stored record: four bytes each, the low one first; a signed one by its 32-bit
+// pattern.
 
 fn number(a: u8, b: u8, c: u8, d: u8) -> u32 {
     a as u32 + 256 * (b as u32) + 65536 * (c as u32) + 16777216 * (d as u32)

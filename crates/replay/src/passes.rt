@@ -37,7 +37,7 @@ pub fn making_agrees(record: &[u8]) -> bool {
     refusal == number_at(record, 24) && holds_signed(stored, &pass)
 }
 
-// Analysis or decorrelation of the first numbers of two lists; of all of a list that has fewer.
+// Analysis where the flag is set, else decorrelation.
 fn run(analyse: bool, passes: &mut [i32], buffer: &mut [i32]) -> u32 {
     if analyse {
         capi::wv_analyse(passes, buffer)
@@ -46,7 +46,7 @@ fn run(analyse: bool, passes: &mut [i32], buffer: &mut [i32]) -> u32 {
     }
 }
 
-// The same on the first numbers of each list.
+// The same on the first numbers of each list; nothing where one has fewer.
 fn run_parts(
     analyse: bool,
     passes: &mut [i32],
@@ -63,7 +63,8 @@ fn run_parts(
     run(analyse, &mut passes[..count], &mut buffer[..length])
 }
 
-// Whether a list of up to four passes over up to 24 numbers, as a record of 848 bytes holds them, is run as stored.
+// Whether a list of up to four passes over up to 24 numbers, as a record of 848 bytes holds them,
+// is run as stored.
 pub fn passes_agree(record: &[u8]) -> bool {
     if record.len() < 848 {
         return false;

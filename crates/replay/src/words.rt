@@ -5,7 +5,8 @@ use crate::numbers::load;
 use crate::numbers::number_at;
 use crate::numbers::part;
 
-// Whether a word, read from the state that a record of 140 bytes holds, is refused or given as stored.
+// Whether a word, read from the state that a record of 140 bytes holds, is refused or given as
+// stored.
 pub fn word_agrees(record: &[u8]) -> bool {
     if record.len() < 140 {
         return false;

@@ -1,4 +1,6 @@
--- A table of worked cases, in groups of rows: a row has what a definition gives and what is expected of it. Assumes nothing.
+-- A table of worked cases, in groups of rows: a row has what a definition gives and what is
+-- expected of it.
+-- Assumes nothing.
 use mathlib.Core.Path.{_≡_}
 use mathlib.Core.List.{List, [], _∷_}
 use Prim.Native.Nat.{ℕ}

@@ -12,7 +12,8 @@ use Rattle.wvpair_text.specs.Starred.{firstInput, firstText, secondInput, secon
 use Rattle.wvpair_text.specs.Text.{wvpairText}
 use Rattle.starred.specs.Row.{Row, _gives_, minus}
 
--- "Log words 0, 256, -256, 2304, 8191, 8192, -32768 give 0, 1, -1, 256, 2143289344, -2147483648, -2147483648" (C1)
+-- "Log words 0, 256, -256, 2304, 8191, 8192, -32768 give 0, 1, -1, 256, 2143289344, -2147483648,
+-- -2147483648" (C1)
 abbrev pub logWords : List Row
 logWords =
     (logWord (pos 0) gives pos 0)
@@ -37,7 +38,8 @@ predictions =
     ∷ (predict (minus 512) (pos 3) gives minus 1)
     ∷ []
 
--- "Cross weight 1022, delta 7, equal signs: 1024; an uncut term: 1029" (C4). Equal signs are those of source and residual.
+-- "Cross weight 1022, delta 7, equal signs: 1024; an uncut term: 1029" (C4). Equal signs are those
+-- of source and residual.
 abbrev pub weights : List Row
 weights =
     (updatedClip (pos 1022) (pos 7) (pos 1) (pos 1) gives pos 1024)

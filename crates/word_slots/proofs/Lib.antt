@@ -1,1 +1,4 @@
+-- What other crates cite.
 pub mod WordSlotLaws
+pub mod CallLaws
+pub mod Cases

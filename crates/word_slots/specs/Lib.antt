@@ -1,1 +1,2 @@
 pub mod WordSlots
+pub mod Calls

@@ -1,4 +1,5 @@
--- Medians, word states and reports as slots, and what one word leaves in the lent lists, on refusal too.
+-- Medians, word states and reports as slots, and what one word leaves in the lent lists, on refusal
+-- too.
 -- Assumes nothing.
 use Prim.Native.Nat.{ℕ, zero, suc}
 use mathlib.Core.Bool.{Bool, true, false}
@@ -7,10 +8,11 @@ use lib.IntN.{ℤ}
 use lib.ListN.{getD}
 use Rattle.bits.specs.Bits.{val}
 use Rattle.entropy.specs.Medians.{Medians, MedianPair}
-use Rattle.samples.specs.State.{State}
+use Rattle.overlay.specs.Overlay.{overlay}
+use Rattle.word_state.specs.State.{State}
 use Rattle.samples.specs.Word.{Report, none, zone0, zone1, zone2, over}
 use Rattle.samples.specs.View.{WordTold}
-use Rattle.slots.specs.Slots.{laid, laidIf}
+use Rattle.slots.specs.Slots.{leaveValues}
 
 -- the 3 slots of a set of medians
 abbrev pub medianSlots : Medians → List ℕ
@@ -21,8 +23,8 @@ abbrev pub pairSlots : MedianPair → List ℕ
 pairSlots p = medianSlots (p .left) ++ medianSlots (p .right)
 
 -- the 7 slots that reading and packing have in common: bits, left medians, right medians
-abbrev pub toldSlots : ℕ → MedianPair → List ℕ
-toldSlots bits p = bits ∷ pairSlots p
+abbrev pub countSlots : ℕ → MedianPair → List ℕ
+countSlots bits p = bits ∷ pairSlots p
 
 -- ---- one word
 
@@ -31,7 +33,8 @@ abbrev pub isSet : ℕ → Bool
 isSet zero = false
 isSet (suc n) = true
 
--- the 13 slots: place, next_channel, last_zero, last_one, zero_run_pending, run_break, ever_took_zero_run, left medians, right medians
+-- the 13 slots: place, next_channel, last_zero, last_one, zero_run_pending, run_break,
+-- ever_took_zero_run, left medians, right medians
 abbrev pub slotsPlace : List ℕ → ℕ
 slotsPlace slots = getD slots 0 0
 
@@ -53,7 +56,7 @@ stateSlots place s =
     place ∷ s .channel ∷ val (s .lastZero) ∷ val (s .lastOne) ∷ s .debt ∷ val (s .runBreak) ∷ val (s .everRun)
     ∷ (medianSlots (s .left) ++ medianSlots (s .right))
 
--- the 2 slots of a report: 0 for none, else 1 and the number of the zone, 0 to 3; then the count
+-- the 2 slots of a report: 0 for none, else 1 plus the number of the zone, 0 to 3; then the count
 abbrev pub reportSlots : Report → List ℕ
 reportSlots none = 0 ∷ 0 ∷ []
 reportSlots zone0 = 1 ∷ 0 ∷ []
@@ -68,10 +71,11 @@ pub record WordLeft : Type 0 where
   pub sample : List ℤ
   pub report : List ℕ
 
-abbrev pub wordLeft : ℕ → List ℕ → List ℤ → List ℕ → WordLeft
-wordLeft refusal state sample report = record { refusal = refusal; state = state; sample = sample; report = report }
-
 -- what the word tells: sample and report on refusal too, the state where it was accepted
-abbrev pub wordTold : WordTold → List ℕ → List ℤ → List ℕ → WordLeft
-wordTold t state sample report =
-    wordLeft (t .refusal) (laidIf (t .refusal) (stateSlots (t .place) (t .state)) state) (laid (t .sample ∷ []) sample) (laid (reportSlots (t .report)) report)
+abbrev pub leaveWord : WordTold → List ℕ → List ℤ → List ℕ → WordLeft
+leaveWord t state sample report = record {
+  refusal = t .refusal;
+  state = leaveValues (t .refusal) (stateSlots (t .place) (t .state)) state;
+  sample = overlay sample 0 (t .sample ∷ []);
+  report = overlay report 0 (reportSlots (t .report));
+}

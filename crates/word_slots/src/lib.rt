@@ -1,26 +1,30 @@
-// Medians, word states and reports in lists of slots: what the C interface's callers hold of reading, packing and one word.
+// Medians, word states and reports in lists of slots: what the C interface's callers hold of
+// reading, packing and one word. `calls` has the two calls that read.
+pub mod calls;
+
 use answers::Outcome;
 use answers::outcome_number;
 use entropy::AdaptiveMedians;
 use samples::MaybeZone;
-use samples::StereoDecodeState;
 use samples::WordAnswer;
 use samples::Zone;
 use slots::lay;
 use slots::lay_words;
+use word_state::StereoDecodeState;
 ghost use mathlib.Core.Path.{_≡_};
 ghost use Prim.Native.Nat.{_+_, _≤_, _<_};
 ghost use lib.ListN.{length};
 ghost use Rattle.bits.specs.Bits.{val};
 ghost use Rattle.entropy.specs.Medians.{pairOf};
-ghost use Rattle.samples.specs.View.{stateOf, reportOf, wordToldOf};
-ghost use Rattle.slots.specs.Slots.{laid, laidAt};
-ghost use Rattle.word_slots.specs.WordSlots.{pairSlots, toldSlots, slotsState, stateSlots, reportSlots, wordLeft, wordTold};
+ghost use Rattle.overlay.specs.Overlay.{overlay};
+ghost use Rattle.samples.specs.View.{reportOf, viewWord};
+ghost use Rattle.word_state.specs.View.{stateOf};
+ghost use Rattle.word_slots.specs.WordSlots.{pairSlots, countSlots, slotsState, stateSlots, reportSlots, leaveWord};
 
 // Lays both sets of medians into 6 slots from a place on.
 fn lay_medians(medians: [AdaptiveMedians; 2], at: usize, slots: &mut [u32])
     requires { ⌜ at + 6 ≤ length (now slots) ⌝ }
-    ensures { λ _. ⌜ now (slots .exit) ≡ laidAt at (pairSlots (pairOf medians)) (now (slots .entry)) ⌝ }
+    ensures { λ _. ⌜ now (slots .exit) ≡ overlay (now (slots .entry)) at (pairSlots (pairOf medians)) ⌝ }
 {
     let left = medians[0];
     let right = medians[1];
@@ -31,9 +35,10 @@ fn lay_medians(medians: [AdaptiveMedians; 2], at: usize, slots: &mut [u32])
 }
 
 // Lays bits and medians into the first 7 slots.
-pub fn lay_told(bits: usize, medians: [AdaptiveMedians; 2], slots: &mut [u32])
-    requires { ⌜ (bits < 4294967296) × (7 ≤ length (now slots)) ⌝ }
-    ensures { λ _. ⌜ now (slots .exit) ≡ laid (toldSlots bits (pairOf medians)) (now (slots .entry)) ⌝ }
+pub fn lay_counts(bits: usize, medians: [AdaptiveMedians; 2], slots: &mut [u32])
+    requires bits { ⌜ bits < 4294967296 ⌝ }
+    requires room { ⌜ 7 ≤ length (now slots) ⌝ }
+    ensures { λ _. ⌜ now (slots .exit) ≡ overlay (now (slots .entry)) 0 (countSlots bits (pairOf medians)) ⌝ }
 {
     let first = [bits as u32];
     lay_words(&first, 0, slots);
@@ -48,7 +53,7 @@ fn flag_slot(flag: bool) -> u32
 }
 
 // The state that 12 slots behind the place hold.
-pub fn state_in(slots: &[u32]) -> StereoDecodeState
+fn state_in(slots: &[u32]) -> StereoDecodeState
     requires { ⌜ 13 ≤ length (now slots) ⌝ }
     ensures { λ r. ⌜ stateOf r ≡ slotsState (now (slots .entry)) ⌝ }
 {
@@ -71,8 +76,9 @@ pub fn state_in(slots: &[u32]) -> StereoDecodeState
 
 // Lays a place and a state into the first 13 slots.
 fn lay_state(place: usize, state: StereoDecodeState, slots: &mut [u32])
-    requires { ⌜ (place < 4294967296) × (13 ≤ length (now slots)) ⌝ }
-    ensures { λ _. ⌜ now (slots .exit) ≡ laid (stateSlots place (stateOf state)) (now (slots .entry)) ⌝ }
+    requires place { ⌜ place < 4294967296 ⌝ }
+    requires room { ⌜ 13 ≤ length (now slots) ⌝ }
+    ensures { λ _. ⌜ now (slots .exit) ≡ overlay (now (slots .entry)) 0 (stateSlots place (stateOf state)) ⌝ }
 {
     let medians = state.medians;
     let last_zero = flag_slot(state.last_zero);
@@ -107,10 +113,17 @@ fn report_slots(zone: MaybeZone) -> [u32; 2]
     }
 }
 
-// Lays what one word told: its sample and its report, and where it was accepted its place and state. Answers its number.
-pub fn lay_word(word: WordAnswer, state: &mut [u32], sample: &mut [i32], report: &mut [u32]) -> u32
-    requires { ⌜ (word .place < 4294967296) × (13 ≤ length (now state)) × (1 ≤ length (now sample)) × (2 ≤ length (now report)) ⌝ }
-    ensures { λ r. ⌜ wordLeft r (now (state .exit)) (now (sample .exit)) (now (report .exit)) ≡ wordTold (wordToldOf word) (now (state .entry)) (now (sample .entry)) (now (report .entry)) ⌝ }
+// Lays what one word told: its sample and its report, and where it was accepted its place and
+// state. Answers its number.
+fn lay_word(word: WordAnswer, state: &mut [u32], sample: &mut [i32], report: &mut [u32]) -> u32
+    requires place { ⌜ word .place < 4294967296 ⌝ }
+    requires state { ⌜ 13 ≤ length (now state) ⌝ }
+    requires sample { ⌜ 1 ≤ length (now sample) ⌝ }
+    requires report { ⌜ 2 ≤ length (now report) ⌝ }
+    ensures { λ r. ⌜
+        record { refusal = r; state = now (state .exit); sample = now (sample .exit); report = now (report .exit) }
+        ≡ leaveWord (viewWord word) (now (state .entry)) (now (sample .entry)) (now (report .entry))
+        ⌝ }
 {
     let outcome = word.outcome;
     let place = word.place;

@@ -1,5 +1,6 @@
-// Implements document 01, "Proved cases" (C6, C7): the program `wvpair`. It reads standard input, and writes what `wvpair_text` makes of it to
-// standard output. One byte more than the longest input is read, so that a longer one is over the limits. A read that fails ends the input.
+// Implements document 01, "Proved cases" (C6, C7): the program `wvpair`. It reads standard input,
+// and writes what `wvpair_text` makes of it to standard output. One byte more than the longest
+// input is read, so that a longer one is over the limits. A read that fails ends the input.
 use libc::STDIN_FILENO;
 use libc::STDOUT_FILENO;
 use wvpair_text::LARGEST_INPUT;

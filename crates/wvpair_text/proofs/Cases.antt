@@ -6,7 +6,6 @@ use lib.IntN.{pos, negsuc}
 use lib.ListN.{replicate}
 use Rattle.wvpair_text.specs.Decimal.{digits, decimal, signedDecimal}
 use Rattle.wvpair_text.specs.Lines.{frameLine, frameLines, endLine}
-use Rattle.wvpair_text.specs.Placed.{placed}
 use Rattle.wvpair_text.specs.Text.{wvpairText, frameCount, overLimits}
 
 -- `0`, `10` and `4294967295`
@@ -40,11 +39,6 @@ odd-is = refl
 end-is : endLine 3 17 ≡ 101 ∷ 110 ∷ 100 ∷ 32 ∷ 51 ∷ 32 ∷ 98 ∷ 105 ∷ 116 ∷ 115 ∷ 32 ∷ 49 ∷ 55 ∷ 10 ∷ []
 unfolding endLine decimal digits
 end-is = refl
-
--- two bytes at place 1 of a buffer of four
-placed-is : placed (1 ∷ 2 ∷ 3 ∷ 4 ∷ []) 1 (8 ∷ 9 ∷ []) ≡ 1 ∷ 8 ∷ 9 ∷ 4 ∷ []
-unfolding placed
-placed-is = refl
 
 -- 13 bytes print `end 1 bits 0`
 under-is : wvpairText (replicate 13 0) ≡ endLine 1 0

@@ -1,7 +1,7 @@
 pub mod Cases
 pub mod DecimalLaws
 pub mod LineLaws
-pub mod PlacedLaws
+pub mod PutLaws
 pub mod ReadingLaws
 pub mod ShortLaws
 pub mod SignLaws

@@ -10,23 +10,23 @@ use lib.ListN.{length, drop, getD, length-append, length-drop}
 use lib.Seq.{drop-cons}
 use Rattle.wvpair_text.specs.Decimal.{decimal, signedDecimal}
 use Rattle.wvpair_text.specs.Lines.{frameLine, frameLines, endWord, bitsWord, endLine}
-use Rattle.wvpair_text.specs.Placed.{Laid}
+use Rattle.wvpair_text.specs.TextPut.{TextPut}
 use Rattle.wvpair_text.proofs.DecimalLaws.{decimal-short}
-use Rattle.wvpair_text.proofs.PlacedLaws.{laid-none, laid-laid}
+use Rattle.wvpair_text.proofs.PutLaws.{put-none, put-on}
 
 -- a frame's line in its four parts
-pub frame-laid : {a b c d e : List ℕ} {at p q r s : ℕ} (left right : ℤ) → at ≤ length a
-    → Laid a b at p (signedDecimal left) → Laid b c p q (32 ∷ []) → Laid c d q r (signedDecimal right) → Laid d e r s (10 ∷ [])
-    → Laid a e at s (frameLine left right)
+pub frame-put : {a b c d e : List ℕ} {at p q r s : ℕ} (left right : ℤ) → at ≤ length a
+    → TextPut a b at p (signedDecimal left) → TextPut b c p q (32 ∷ []) → TextPut c d q r (signedDecimal right) → TextPut d e r s (10 ∷ [])
+    → TextPut a e at s (frameLine left right)
 unfolding frameLine
-frame-laid left right h w x y z = simp append-assoc at (laid-laid h (laid-laid h (laid-laid h w x) y) z)
+frame-put left right h w x y z = simp append-assoc at (put-on h (put-on h (put-on h w x) y) z)
 
 -- the `end` line in its five parts
-pub end-laid : {a b c d e f : List ℕ} {at p q r s t : ℕ} (refusal bits : ℕ) → at ≤ length a
-    → Laid a b at p endWord → Laid b c p q (decimal refusal) → Laid c d q r bitsWord → Laid d e r s (decimal bits) → Laid e f s t (10 ∷ [])
-    → Laid a f at t (endLine refusal bits)
+pub end-put : {a b c d e f : List ℕ} {at p q r s t : ℕ} (refusal bits : ℕ) → at ≤ length a
+    → TextPut a b at p endWord → TextPut b c p q (decimal refusal) → TextPut c d q r bitsWord → TextPut d e r s (decimal bits) → TextPut e f s t (10 ∷ [])
+    → TextPut a f at t (endLine refusal bits)
 unfolding endLine
-end-laid refusal bits h v w x y z = simp append-assoc at (laid-laid h (laid-laid h (laid-laid h (laid-laid h v w) x) y) z)
+end-put refusal bits h v w x y z = simp append-assoc at (put-on h (put-on h (put-on h (put-on h v w) x) y) z)
 
 -- the `end` line is 11 bytes and its two numbers
 pub end-length : (refusal bits : ℕ) → length (endLine refusal bits) ≡ 11 + length (decimal refusal) + length (decimal bits)
@@ -64,7 +64,7 @@ lines-on samples i h =
 -- the lines of the first i samples are laid, and those of the others are still to come
 pub record Printed (before after : List ℕ) (at place : ℕ) (samples : List ℤ) (i : ℕ) : Type 0 where
   pub done : List ℕ
-  pub laid : Laid before after at place done
+  pub put-is : TextPut before after at place done
   pub whole : done ++ frameLines (drop i samples) ≡ frameLines samples
   pub short : place ≤ at + 12 * i
   pub within : i ≤ length samples
@@ -72,16 +72,16 @@ pub record Printed (before after : List ℕ) (at place : ℕ) (samples : List �
 
 -- before the first frame
 pub printed-none : (buf : List ℕ) (at : ℕ) (samples : List ℤ) → Printed buf buf at at samples 0
-printed-none buf at samples = record { done = []; laid = laid-none buf at; whole = refl; short = omega arith; within = omega arith; kept = refl }
+printed-none buf at samples = record { done = []; put-is = put-none buf at; whole = refl; short = omega arith; within = omega arith; kept = refl }
 
 -- one frame more
 pub printed-more : {before mid after : List ℕ} {at place next : ℕ} {samples : List ℤ} {i : ℕ}
     → at ≤ length before → i + 1 < length samples → Printed before mid at place samples i
-    → Laid mid after place next (frameLine (getD samples i (pos 0)) (getD samples (i + 1) (pos 0))) → next ≤ place + 24 → length after ≡ length mid
+    → TextPut mid after place next (frameLine (getD samples i (pos 0)) (getD samples (i + 1) (pos 0))) → next ≤ place + 24 → length after ≡ length mid
     → Printed before after at next samples (i + 2)
 printed-more {samples = samples} {i} h l p w n k = record {
   done = p .done ++ frameLine (getD samples i (pos 0)) (getD samples (i + 1) (pos 0));
-  laid = laid-laid h (p .laid) w;
+  put-is = put-on h (p .put-is) w;
   whole =
       append-assoc (p .done) (frameLine (getD samples i (pos 0)) (getD samples (i + 1) (pos 0))) (frameLines (drop (i + 2) samples))
       ∙ ap (λ (t : List ℕ). p .done ++ t) (sym (lines-on samples i l)) ∙ p .whole;
@@ -92,8 +92,8 @@ printed-more {samples = samples} {i} h l p w n k = record {
 
 -- fewer than two samples are left
 pub printed-all : {before after : List ℕ} {at place : ℕ} {samples : List ℤ} {i : ℕ}
-    → length samples ≤ i + 1 → Printed before after at place samples i → Laid before after at place (frameLines samples)
+    → length samples ≤ i + 1 → Printed before after at place samples i → TextPut before after at place (frameLines samples)
 printed-all {before} {after} {at} {place} {samples} {i} h p =
     let e : p .done ≡ frameLines samples =
     sym (append-nil (p .done)) ∙ ap (λ (t : List ℕ). p .done ++ t) (sym (lines-none (drop i samples) (omega (arith, length-drop i samples)))) ∙ p .whole in
-    rw e at (p .laid)
+    rw e at (p .put-is)

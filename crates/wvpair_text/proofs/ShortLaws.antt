@@ -8,8 +8,9 @@ use lib.IntN.{ℤ, pos}
 use lib.ListN.{length, take, getD, length-append, length-take, length-drop}
 use lib.Signed.{mag}
 use Rattle.wvpair_text.specs.Decimal.{signedDecimal}
+use Rattle.wvpair_text.specs.Limits.{headBytes, mostFrames, largestInput, largestText}
 use Rattle.wvpair_text.specs.Lines.{frameLine, frameLines, endLine, report}
-use Rattle.wvpair_text.specs.Text.{frameCount, readingOf, printed, wvpairText, largestText}
+use Rattle.wvpair_text.specs.Text.{frameCount, readingOf, printed, wvpairText}
 use Rattle.wvpair_text.proofs.DecimalLaws.{signed-short}
 use Rattle.wvpair_text.proofs.LineLaws.{end-short}
 use Rattle.wvpair_text.proofs.ReadingLaws.{reading-small}
@@ -41,7 +42,7 @@ lines-short (left ∷ right ∷ rest) h =
     )
 
 -- what is printed of a reading within the limits
-printed-short : (input : List ℕ) → frameCount input ≤ 1024 → length input ≤ 28686 → length (printed (readingOf input)) ≤ largestText
+printed-short : (input : List ℕ) → frameCount input ≤ mostFrames → length input ≤ largestInput → length (printed (readingOf input)) ≤ largestText
 unfolding report
 printed-short input h k =
     let told = readingOf input in
@@ -52,14 +53,14 @@ printed-short input h k =
       length-append (frameLines samples) (endLine (told .refusal) (told .bits)),
       lines-short samples (s .samples),
       length-take (told .written) (told .list),
-      end-short (told .refusal) (told .bits) (s .refusal) (omega (arith, s .bits, length-drop 14 input)),
+      end-short (told .refusal) (told .bits) (omega (arith, s .refusal)) (omega (arith, s .bits, length-drop headBytes input)),
     )
 
 -- and of any input
 pub text-short : (input : List ℕ) → length (wvpairText input) ≤ largestText
-text-short input = go (decLt (length input) 14) (decLt 1024 (frameCount input)) (decLt 28686 (length input))
+text-short input = go (decLt (length input) headBytes) (decLt mostFrames (frameCount input)) (decLt largestInput (length input))
   where
-    go : Dec (length input < 14) → Dec (1024 < frameCount input) → Dec (28686 < length input) → length (wvpairText input) ≤ largestText
+    go : Dec (length input < headBytes) → Dec (mostFrames < frameCount input) → Dec (largestInput < length input) → length (wvpairText input) ≤ largestText
     go (yes a) b c = rw (text-under input a) (omega (arith, end-short 1 0 (omega arith) (omega arith)))
     go (no a) (yes b) c = rw (text-frames input (omega arith) b) (omega (arith, end-short 5 0 (omega arith) (omega arith)))
     go (no a) (no b) (yes c) = rw (text-payload input (omega arith) c) (omega (arith, end-short 5 0 (omega arith) (omega arith)))

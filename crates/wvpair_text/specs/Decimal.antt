@@ -1,4 +1,5 @@
--- Document 01, "Proved cases" (C6): the numbers that `wvpair` prints, as ASCII text. A text is the list of its bytes.
+-- Document 01, "Proved cases" (C6): the numbers that `wvpair` prints, as ASCII text. A text is the
+-- list of its bytes.
 -- Assumes nothing.
 use mathlib.Core.Bool.{cond}
 use mathlib.Core.List.{List, [], _∷_, _++_}
@@ -6,7 +7,8 @@ use Prim.Native.Nat.{ℕ, zero, suc, _+_, _-_, _*_, _/_, _%_}
 use lib.Dec.{ltb, eqb}
 use lib.IntN.{ℤ, pos, negsuc, negℤ}
 
--- the digits of n, the most significant first, by at most k divisions by ten. The tenth part stands in a `let`, which is computed only where it is asked for
+-- the digits of n, the most significant first, by at most k divisions by ten. The tenth part stands
+-- in a `let`, which is computed only where it is asked for
 unfoldable pub digits : ℕ → ℕ → List ℕ
 digits zero n = []
 digits (suc k) n = let tens = digits k (n / 10) in cond (ltb n 10) ((48 + n) ∷ []) (tens ++ ((48 + n % 10) ∷ []))

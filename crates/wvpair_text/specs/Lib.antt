@@ -1,5 +1,6 @@
+pub mod Limits
+pub mod TextPut
 pub mod Decimal
 pub mod Lines
-pub mod Placed
 pub mod Starred
 pub mod Text

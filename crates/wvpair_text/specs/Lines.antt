@@ -1,4 +1,5 @@
--- Document 01, "Proved cases" (C6): what `wvpair` prints of a reading. "Each whole frame written is a line, left, space, right; last `end` refusal `bits` used".
+-- Document 01, "Proved cases" (C6): what `wvpair` prints of a reading. "Each whole frame written is
+-- a line, left, space, right; last `end` refusal `bits` used".
 -- Assumes nothing.
 use mathlib.Core.List.{List, [], _∷_, _++_}
 use Prim.Native.Nat.{ℕ}

@@ -1,11 +1,16 @@
-// Implements document 01, "Proved cases" (C6, C7): what `wvpair` prints, as a function from its input bytes to its output bytes.
-// `decimal` lays numbers into a buffer, `lines` the lines of a reading; here an input is taken apart, read and printed.
+// Implements document 01, "Proved cases" (C6, C7): what `wvpair` prints, as a function from its
+// input bytes to its output bytes. `decimal` lays numbers into a buffer, `lines` the lines of a
+// reading; here an input is taken apart, read and printed.
 ghost use mathlib.Core.Path.{_≡_};
 ghost use Prim.Native.Nat.{_≤_};
 ghost use lib.IntN.{pos};
 ghost use lib.ListN.{length, replicate};
-ghost use Rattle.wvpair_text.specs.Placed.{Laid};
-ghost use Rattle.wvpair_text.specs.Text.{frameCount, printed, readingOf, wvpairText, largestText, TextIs};
+ghost use Rattle.wvpair_text.specs.Limits.{headBytes, mostFrames, largestInput, largestText};
+ghost use Rattle.wvpair_text.specs.TextPut.{TextPut};
+ghost use Rattle.wvpair_text.specs.Text.{frameCount, printed, readingOf, wvpairText, TextIs};
+use crate::limits::HEAD_BYTES;
+use crate::limits::MOST_FRAMES;
+use crate::limits::MOST_SAMPLES;
 use crate::lines::put_end;
 use crate::lines::put_report;
 use answers::Outcome;
@@ -14,13 +19,11 @@ use answers::outcome_number;
 use samples::reading::decode_packed_samples_stereo_from_entropy;
 
 mod decimal;
+mod limits;
 mod lines;
 
-// The longest input that is read: 12 entropy bytes, 2 of the frame count and 28,672 of payload.
-pub const LARGEST_INPUT: usize = 28686;
-
-// The longest text that is printed: 1,024 lines of at most 24 bytes, and an `end` line of at most 18.
-pub const LARGEST_TEXT: usize = 24594;
+pub use crate::limits::LARGEST_INPUT;
+pub use crate::limits::LARGEST_TEXT;
 
 // Whether the text was laid into the lent buffer, and how many bytes it has.
 pub struct TextAnswer {
@@ -37,31 +40,31 @@ fn wide(x: u8) -> usize
 
 // The frame count of an input that has one.
 fn frame_count(input: &[u8]) -> usize
-    requires { ⌜ 14 ≤ length (now input) ⌝ }
+    requires { ⌜ headBytes ≤ length (now input) ⌝ }
     ensures { λ r. ⌜ r ≡ frameCount (now (input .entry)) ⌝ }
 {
     wide(input[12]) + 256 * wide(input[13])
 }
 
 // Room for the samples of the most frames, all 0.
-fn silence() -> [i32; 2048]
+fn silence() -> [i32; MOST_SAMPLES]
     ensures { λ r. ⌜ r ≡ replicate 2048 (pos 0) ⌝ }
 {
-    [0; 2048]
+    [0; MOST_SAMPLES]
 }
 
 // Reads an input that is within the limits, and lays what is printed of the reading.
 fn print_reading(input: &[u8], frames: usize, out: &mut [u8]) -> usize
-    requires { ⌜ (14 ≤ length (now input)) × (length (now input) ≤ 28686) ⌝ }
-    requires { ⌜ (frames ≡ frameCount (now input)) × (frames ≤ 1024) ⌝ }
-    requires { ⌜ largestText ≤ length (now out) ⌝ }
-    ensures { λ r. ⌜ Laid (now (out .entry)) (now (out .exit)) 0 r (printed (readingOf (now (input .entry)))) ⌝ }
+    requires input { ⌜ (headBytes ≤ length (now input)) × (length (now input) ≤ largestInput) ⌝ }
+    requires frames { ⌜ (frames ≡ frameCount (now input)) × (frames ≤ mostFrames) ⌝ }
+    requires room { ⌜ largestText ≤ length (now out) ⌝ }
+    ensures { λ r. ⌜ TextPut (now (out .entry)) (now (out .exit)) 0 r (printed (readingOf (now (input .entry)))) ⌝ }
 {
     let mut samples = silence();
     let n = 2 * frames;
     let answer = decode_packed_samples_stereo_from_entropy(
         &input[..12],
-        &input[14..],
+        &input[HEAD_BYTES..],
         frames,
         &mut samples[..n],
     );
@@ -78,13 +81,13 @@ fn print_reading(input: &[u8], frames: usize, out: &mut [u8]) -> usize
 // Lays what is printed of any input into a buffer that holds the largest text.
 fn print_input(input: &[u8], out: &mut [u8]) -> usize
     requires { ⌜ largestText ≤ length (now out) ⌝ }
-    ensures { λ r. ⌜ Laid (now (out .entry)) (now (out .exit)) 0 r (wvpairText (now (input .entry))) ⌝ }
+    ensures { λ r. ⌜ TextPut (now (out .entry)) (now (out .exit)) 0 r (wvpairText (now (input .entry))) ⌝ }
 {
-    if input.len() < 14 {
+    if input.len() < HEAD_BYTES {
         return put_end(out, 0, 1, 0);
     }
     let frames = frame_count(input);
-    if frames > 1024 {
+    if frames > MOST_FRAMES {
         return put_end(out, 0, 5, 0);
     }
     if input.len() > LARGEST_INPUT {
@@ -93,8 +96,8 @@ fn print_input(input: &[u8], out: &mut [u8]) -> usize
     print_reading(input, frames, out)
 }
 
-// Lays what `wvpair` prints of `input` at the start of `out`, and answers how many bytes that is. It refuses only a buffer that is too short
-// for the largest text: that one keeps its bytes.
+// Lays what `wvpair` prints of `input` at the start of `out`, and answers how many bytes that is.
+// It refuses only a buffer that is too short for the largest text: that one keeps its bytes.
 pub fn wvpair_text(input: &[u8], out: &mut [u8]) -> TextAnswer
     ensures { λ r. ⌜ TextIs (now (input .entry)) (now (out .entry)) (now (out .exit)) r ⌝ }
 {

@@ -1,9 +1,9 @@
-// Implements document 01, "Proved cases" (C6), the lines: one for each whole frame, and the `end` line.
-// Each writer goes on where the one before it ended, and answers where it ended itself.
+// Implements document 01, "Proved cases" (C6), the lines: one for each whole frame, and the `end`
+// line. Each writer goes on where the one before it ended, and answers where it ended itself.
 ghost use Prim.Native.Nat.{_+_, _*_, _≤_};
 ghost use lib.ListN.{length};
 ghost use Rattle.wvpair_text.specs.Lines.{frameLine, frameLines, endLine, report};
-ghost use Rattle.wvpair_text.specs.Placed.{Laid};
+ghost use Rattle.wvpair_text.specs.TextPut.{TextPut};
 use crate::decimal::put_byte;
 use crate::decimal::put_decimal;
 use crate::decimal::put_signed;
@@ -11,7 +11,7 @@ use crate::decimal::put_signed;
 // Lays a text at `at`.
 fn put_text(out: &mut [u8], at: usize, text: &[u8]) -> usize
     requires { ⌜ at + length (now text) ≤ length (now out) ⌝ }
-    ensures { λ r. ⌜ Laid (now (out .entry)) (now (out .exit)) at r (now (text .entry)) ⌝ }
+    ensures { λ r. ⌜ TextPut (now (out .entry)) (now (out .exit)) at r (now (text .entry)) ⌝ }
 {
     let mut place = at;
     let mut i = 0;
@@ -25,7 +25,7 @@ fn put_text(out: &mut [u8], at: usize, text: &[u8]) -> usize
 // Lays the line of one frame: at most 24 bytes.
 fn put_line(out: &mut [u8], at: usize, left: i32, right: i32) -> usize
     requires { ⌜ at + 24 ≤ length (now out) ⌝ }
-    ensures text { λ r. ⌜ Laid (now (out .entry)) (now (out .exit)) at r (frameLine left right) ⌝ }
+    ensures text { λ r. ⌜ TextPut (now (out .entry)) (now (out .exit)) at r (frameLine left right) ⌝ }
     ensures short { λ r. ⌜ r ≤ at + 24 ⌝ }
 {
     let space = put_signed(out, at, left);
@@ -37,7 +37,7 @@ fn put_line(out: &mut [u8], at: usize, left: i32, right: i32) -> usize
 // Lays a line for each whole frame of `samples`: at most 12 bytes a sample.
 fn put_lines(out: &mut [u8], at: usize, samples: &[i32]) -> usize
     requires { ⌜ at + 12 * length (now samples) ≤ length (now out) ⌝ }
-    ensures text { λ r. ⌜ Laid (now (out .entry)) (now (out .exit)) at r (frameLines (now (samples .entry))) ⌝ }
+    ensures text { λ r. ⌜ TextPut (now (out .entry)) (now (out .exit)) at r (frameLines (now (samples .entry))) ⌝ }
     ensures short { λ r. ⌜ r ≤ at + 12 * length (now (samples .entry)) ⌝ }
 {
     let mut place = at;
@@ -52,7 +52,7 @@ fn put_lines(out: &mut [u8], at: usize, samples: &[i32]) -> usize
 // Lays the `end` line.
 pub(crate) fn put_end(out: &mut [u8], at: usize, refusal: u32, bits: usize) -> usize
     requires { ⌜ at + length (endLine refusal bits) ≤ length (now out) ⌝ }
-    ensures { λ r. ⌜ Laid (now (out .entry)) (now (out .exit)) at r (endLine refusal bits) ⌝ }
+    ensures { λ r. ⌜ TextPut (now (out .entry)) (now (out .exit)) at r (endLine refusal bits) ⌝ }
 {
     let first = put_text(out, at, b"end ");
     let word = put_decimal(out, first, refusal as u64);
@@ -64,7 +64,7 @@ pub(crate) fn put_end(out: &mut [u8], at: usize, refusal: u32, bits: usize) -> u
 // Lays what is printed of a reading at the start of `out`.
 pub(crate) fn put_report(out: &mut [u8], samples: &[i32], refusal: u32, bits: usize) -> usize
     requires { ⌜ 12 * length (now samples) + length (endLine refusal bits) ≤ length (now out) ⌝ }
-    ensures { λ r. ⌜ Laid (now (out .entry)) (now (out .exit)) 0 r (report (now (samples .entry)) refusal bits) ⌝ }
+    ensures { λ r. ⌜ TextPut (now (out .entry)) (now (out .exit)) 0 r (report (now (samples .entry)) refusal bits) ⌝ }
 {
     let last = put_lines(out, 0, samples);
     put_end(out, last, refusal, bits)

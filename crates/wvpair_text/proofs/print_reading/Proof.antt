@@ -9,7 +9,7 @@ use lib.IntN.{ℤ, pos}
 use lib.ListN.{length, take, drop, replicate, length-take, length-drop, length-append}
 use lib.Seq.{length-take-le, take-all}
 use Rattle.answers.specs.Numbers.{outcomeNumber}
-use Rattle.samples.specs.View.{ReadTold, readToldOf}
+use Rattle.samples.specs.View.{ReadTold, viewReading}
 use Rattle.samples.specs.declared.ReadAnswer.{ReadAnswer}
 use Rattle.wvpair_text.specs.Lines.{endLine}
 use Rattle.wvpair_text.specs.Text.{readingOf}
@@ -19,38 +19,17 @@ use borrow.Author.Needs.{needs}
 use Rattle.wvpair_text.proofs.print_reading.Statement.{statement}
 use Rattle.wvpair_text.proofs.print_reading.Tie as tie
 
-silence-requires : tie.Need-silence-requires
-silence-requires c κs = search needs
-
-mul-n : tie.Need-mul-n
-mul-n c = search needs
-
 slice-aggregate-decode-packed-samples-stereo-from-entropy :
     tie.Need-slice-aggregate-decode-packed-samples-stereo-from-entropy
-slice-aggregate-decode-packed-samples-stereo-from-entropy c = sym (length-take-le 12 (c .before .before .before .before .args .input .now) (omega arith))
-
-sub-decode-packed-samples-stereo-from-entropy :
-    tie.Need-sub-decode-packed-samples-stereo-from-entropy
-sub-decode-packed-samples-stereo-from-entropy c = search needs
-
-part-decode-packed-samples-stereo-from-entropy-start :
-    tie.Need-part-decode-packed-samples-stereo-from-entropy-start
-part-decode-packed-samples-stereo-from-entropy-start c = search needs
-
-part-decode-packed-samples-stereo-from-entropy-end :
-    tie.Need-part-decode-packed-samples-stereo-from-entropy-end
-part-decode-packed-samples-stereo-from-entropy-end c = search needs
-
-array-borrow-prefix-samples : tie.Need-array-borrow-prefix-samples
-array-borrow-prefix-samples c = search needs
+slice-aggregate-decode-packed-samples-stereo-from-entropy c =
+    let start : tie.Start = search needs in
+    sym (length-take-le 12 (start .args .input .now) (omega arith))
 
 slice-aggregate-decode-packed-samples-stereo-from-entropy-2 :
     tie.Need-slice-aggregate-decode-packed-samples-stereo-from-entropy-2
-slice-aggregate-decode-packed-samples-stereo-from-entropy-2 c = sym (length-take-le _ _ (omega (arith, ap length (c .before .before .before .silence .ensures))))
-
-decode-packed-samples-stereo-from-entropy-requires :
-    tie.Need-decode-packed-samples-stereo-from-entropy-requires
-decode-packed-samples-stereo-from-entropy-requires c κs = search needs
+slice-aggregate-decode-packed-samples-stereo-from-entropy-2 c =
+    let after-silence : tie.After-silence = search needs in
+    sym (length-take-le _ _ (omega (arith, ap length (after-silence .silence .ensures))))
 
 -- once the words are read: the answer, the list that was lent, the input and its frames
 abbrev Read : Type 0
@@ -69,7 +48,7 @@ abbrev frames : Read → ℕ
 frames k = k .before .before .before .before .before .before .before .args .frames
 
 -- what was read, by the reading definition
-known : (k : Read) → readToldOf (answer k) (list k) ≡ readingOf (input k)
+known : (k : Read) → viewReading (answer k) (list k) ≡ readingOf (input k)
 known k =
     let s = k .before .before .before .before .before .before .before in
     let n = 2 * frames k in
@@ -108,7 +87,7 @@ room k =
 -- the `end` line of what was read is short
 end : (c : tie.After-outcome-number) → length (endLine (c .outcome-number .result) (answer (c .before .before .before .before) .bits)) ≤ 18
 end c =
-    let k = c .before .before .before .before in
+    let k : tie.After-decode-packed-samples-stereo-from-entropy = search needs in
     let r = room k in
     end-short (c .outcome-number .result) (answer k .bits) (omega (arith, c .outcome-number .ensures, r .refusal)) (r .bits)
 
@@ -116,40 +95,39 @@ array-share-prefix-samples : tie.Need-array-share-prefix-samples
 array-share-prefix-samples c = let r = room (c .before .before) in simp length-append (omega arith)
 
 slice-aggregate-put-report : tie.Need-slice-aggregate-put-report
-slice-aggregate-put-report c = let r = room (c .before .before .before) in simp (length-take, length-append) (omega arith)
-
-outcome-number-requires : tie.Need-outcome-number-requires
-outcome-number-requires c κs = search needs
+slice-aggregate-put-report c =
+    let after-decode-packed-samples-stereo-from-entropy : tie.After-decode-packed-samples-stereo-from-entropy = search needs in
+    let r = room after-decode-packed-samples-stereo-from-entropy in simp (length-take, length-append) (omega arith)
 
 put-report-requires : tie.Need-put-report-requires
 put-report-requires c κs =
-    let r = room (c .before .before .before .before) in
-    simp (length-take, length-append) (omega (arith, c .before .before .before .before .before .before .before .before .before .before .before .pre .1 .1, r .within, r .lent, r .most, end c))
-
-same-length : tie.Need-same-length
-same-length c = search needs
+    let start : tie.Start = search needs in
+    let after-decode-packed-samples-stereo-from-entropy : tie.After-decode-packed-samples-stereo-from-entropy = search needs in
+    let r = room after-decode-packed-samples-stereo-from-entropy in
+    simp (length-take, length-append) (omega (arith, start .pre .1 .1, r .within, r .lent, r .most, end c))
 
 returns : tie.Need-returns
 returns c =
-    let k = c .before .before .before .before .before .before .before in
-    rw (printed-told (readingOf (input k)) (answer k) (list k) _ _ (known k) (room k .within) (c .before .before .before .outcome-number .ensures)) at (c .before .before .put-report .ensures)
+    let k : tie.After-decode-packed-samples-stereo-from-entropy = search needs in
+    let after-outcome-number : tie.After-outcome-number = search needs in
+    rw (printed-told (readingOf (input k)) (answer k) (list k) _ _ (known k) (room k .within) (after-outcome-number .outcome-number .ensures)) at (c .before .before .put-report .ensures)
 
 pub print-reading-spec : {M : Type 1} → statement M
 print-reading-spec =
     tie.close
     (tie.spec
-    silence-requires
-    mul-n
+    (λ c κs. search needs)
+    (λ c. search needs)
     slice-aggregate-decode-packed-samples-stereo-from-entropy
-    sub-decode-packed-samples-stereo-from-entropy
-    part-decode-packed-samples-stereo-from-entropy-start
-    part-decode-packed-samples-stereo-from-entropy-end
-    array-borrow-prefix-samples
+    (λ c. search needs)
+    (λ c. search needs)
+    (λ c. search needs)
+    (λ c. search needs)
     slice-aggregate-decode-packed-samples-stereo-from-entropy-2
-    decode-packed-samples-stereo-from-entropy-requires
+    (λ c κs. search needs)
     array-share-prefix-samples
     slice-aggregate-put-report
-    outcome-number-requires
+    (λ c κs. search needs)
     put-report-requires
-    same-length
+    (λ c. search needs)
     returns)

@@ -8,7 +8,8 @@ use borrow.Author.Tests.{lt-ltb, le-ltb}
 use denote.Ref.{now}
 use lib.Dec.{ltb}
 use lib.ListN.{length}
-use Rattle.wvpair_text.specs.Text.{largestText, wvpairText}
+use Rattle.wvpair_text.specs.Text.{wvpairText}
+use Rattle.wvpair_text.specs.Limits.{largestText}
 use Rattle.wvpair_text.proofs.ShortLaws.{text-short}
 use borrow.Author.Needs.{needs}
 use Rattle.wvpair_text.proofs.wvpair_text.Statement.{statement}
@@ -16,21 +17,18 @@ use Rattle.wvpair_text.proofs.wvpair_text.Tie as tie
 
 returns : tie.Need-returns
 returns c =
-    let t : ltb (length (now (c .before .before .before .args .out))) largestText ≡ true = lt-ltb _ _ (c .if1 .taken) in
+    let start : tie.Start = search needs in
+    let t : ltb (length (now (start .args .out))) largestText ≡ true = lt-ltb _ _ (c .if1 .taken) in
     record { outcome = rw t; size = rw t; bytes = rw t; short = omega arith }
-
-print-input-requires : tie.Need-print-input-requires
-print-input-requires c κs = search needs
-
-same-length : tie.Need-same-length
-same-length c = search needs
 
 returns-2 : tie.Need-returns-2
 returns-2 c =
-    let t : ltb (length (now (c .before .before .before .before .before .before .before .args .out))) largestText ≡ false = le-ltb _ _ (c .before .before .before .before .if1 .left) in
+    let start : tie.Start = search needs in
+    let else1 : tie.Else1 = search needs in
+    let t : ltb (length (now (start .args .out))) largestText ≡ false = le-ltb _ _ (else1 .if1 .left) in
     let p = c .before .before .print-input .ensures in
-    let n : c .before .before .print-input .result ≡ length (wvpairText (now (c .before .before .before .before .before .before .before .args .input))) = p .place ∙ zero-add _ in
-    record { outcome = rw t; size = rw t n; bytes = rw t (p .bytes); short = omega (arith, text-short (now (c .before .before .before .before .before .before .before .args .input))) }
+    let n : c .before .before .print-input .result ≡ length (wvpairText (now (start .args .input))) = p .place ∙ zero-add _ in
+    record { outcome = rw t; size = rw t n; bytes = rw t (p .bytes); short = omega (arith, text-short (now (start .args .input))) }
 
 pub wvpair-text-spec : {M : Type 1} → statement M
-wvpair-text-spec = tie.close (tie.spec returns print-input-requires same-length returns-2)
+wvpair-text-spec = tie.close (tie.spec returns (λ c κs. search needs) (λ c. search needs) returns-2)

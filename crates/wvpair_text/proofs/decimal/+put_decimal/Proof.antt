@@ -1,9 +1,10 @@
--- A number below ten is one byte; any other is its tenth part, laid first, and its last digit. The measure is the number.
+-- A number below ten is one byte; any other is its tenth part, laid first, and its last digit. The
+-- measure is the number.
 -- Assumes nothing.
 use borrow.Author.Needs.{needs}
 use native.Mathlib.Omega.{arith}
 use Rattle.wvpair_text.proofs.DecimalLaws.{decimal-one, decimal-more, decimal-some, more-length}
-use Rattle.wvpair_text.proofs.PlacedLaws.{laid-laid}
+use Rattle.wvpair_text.proofs.PutLaws.{put-on}
 use Prim.Native.Nat.{ℕ, _≤_, _<_}
 use borrow.Fn.Kinds.{In}
 use borrow.Fn.PlainCycle.{Measures, is, falls, and}
@@ -124,7 +125,7 @@ put-decimal-returns-2 : (t : ℕ) → put-decimal-lts.Need-returns-2 (
 put-decimal-returns-2 t c =
     let s = c .before .before .before .before .before .before .before .before .before .before .before in
     rw (decimal-more (s .args .n) (c .before .before .before .before .before .before .before .before .before .if1 .left), ← c .before .before .before .digit2 .ensures)
-    (laid-laid (omega (arith, s .pre .1)) (c .before .before .before .before .before .before .before .put-decimal .ensures) (c .before .before .put-byte2 .ensures))
+    (put-on (omega (arith, s .pre .1)) (c .before .before .before .before .before .before .before .put-decimal .ensures) (c .before .before .put-byte2 .ensures))
 
 pub +put-decimal-spec : {M : Type 1} → statement M
 +put-decimal-spec = close μ-put-decimal λ t. put-decimal-lts.spec (

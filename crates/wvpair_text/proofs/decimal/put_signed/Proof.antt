@@ -12,58 +12,49 @@ use mir.Syntax.{w32}
 use mir.Val.{SFits}
 use Rattle.wvpair_text.specs.Decimal.{decimal}
 use Rattle.wvpair_text.proofs.DecimalLaws.{signed-short}
-use Rattle.wvpair_text.proofs.PlacedLaws.{laid-laid}
+use Rattle.wvpair_text.proofs.PutLaws.{put-on}
 use Rattle.wvpair_text.proofs.SignLaws.{negative-text, unsigned-text, size-short}
 use borrow.Author.Needs.{needs}
 use Rattle.wvpair_text.proofs.decimal.put_signed.Statement.{statement}
 use Rattle.wvpair_text.proofs.decimal.put_signed.Tie as tie
 
-put-byte-requires : tie.Need-put-byte-requires
-put-byte-requires c κs = search needs
-
-size-requires : tie.Need-size-requires
-size-requires c κs = search needs
-
 put-decimal-requires : tie.Need-put-decimal-requires
 put-decimal-requires c κs =
-    let s = c .before .before .before .before .before .before .before .before in
+    let s : tie.Start = search needs in
+    let after-put-byte : tie.After-put-byte = search needs in
     let f : SFits w32 (s .args .v) = search needs in
     let e : length (decimal (c .size .result)) ≤ 10 = rw (c .size .ensures ∙ ap natAbs (toZ-ofZ f)) (size-short (s .args .v) (f .sfits)) in
-    omega (arith, s .pre, c .before .before .before .before .put-byte .kept .0, c .before .before .before .before .put-byte .ensures .place)
-
-same-length : tie.Need-same-length
-same-length c = search needs
+    omega (arith, s .pre, after-put-byte .put-byte .kept .0, after-put-byte .put-byte .ensures .place)
 
 returns : tie.Need-returns
 returns c =
-    let s = c .before .before .before .before .before .before .before .before .before .before .before in
+    let s : tie.Start = search needs in
+    let then1 : tie.Then1 = search needs in
+    let after-put-byte : tie.After-put-byte = search needs in
+    let after-size : tie.After-size = search needs in
     let v = s .args .v in
     let f : SFits w32 v = search needs in
-    let t : ltZ v (pos 0) ≡ true = rw (toZ-ofZ f) at (c .before .before .before .before .before .before .before .before .before .if1 .taken) in
-    let n : c .before .before .before .size .result ≡ natAbs v = c .before .before .before .size .ensures ∙ ap natAbs (toZ-ofZ f) in
-    let l = rw (n, ← negative-text v t) at (laid-laid (omega (arith, s .pre)) (c .before .before .before .before .before .before .before .put-byte .ensures) (c .before .before .put-decimal .ensures)) in
+    let t : ltZ v (pos 0) ≡ true = rw (toZ-ofZ f) at (then1 .if1 .taken) in
+    let n : after-size .size .result ≡ natAbs v = after-size .size .ensures ∙ ap natAbs (toZ-ofZ f) in
+    let l = rw (n, ← negative-text v t) at (put-on (omega (arith, s .pre)) (after-put-byte .put-byte .ensures) (c .before .before .put-decimal .ensures)) in
     (l, omega (arith, signed-short v (f .sfits)))
-
-size-requires-2 : tie.Need-size-requires-2
-size-requires-2 c κs = search needs
 
 put-decimal-requires-2 : tie.Need-put-decimal-requires-2
 put-decimal-requires-2 c κs =
-    let s = c .before .before .before .before in
+    let s : tie.Start = search needs in
     let f : SFits w32 (s .args .v) = search needs in
     let e : length (decimal (c .size2 .result)) ≤ 10 = rw (c .size2 .ensures ∙ ap natAbs (toZ-ofZ f)) (size-short (s .args .v) (f .sfits)) in
     omega (arith, s .pre)
 
-same-length-2 : tie.Need-same-length-2
-same-length-2 c = search needs
-
 returns-2 : tie.Need-returns-2
 returns-2 c =
-    let s = c .before .before .before .before .before .before .before in
+    let s : tie.Start = search needs in
+    let else1 : tie.Else1 = search needs in
+    let after-size2 : tie.After-size2 = search needs in
     let v = s .args .v in
     let f : SFits w32 v = search needs in
-    let t : ltZ v (pos 0) ≡ false = rw (toZ-ofZ f) at (c .before .before .before .before .before .if1 .left) in
-    let n : c .before .before .before .size2 .result ≡ natAbs v = c .before .before .before .size2 .ensures ∙ ap natAbs (toZ-ofZ f) in
+    let t : ltZ v (pos 0) ≡ false = rw (toZ-ofZ f) at (else1 .if1 .left) in
+    let n : after-size2 .size2 .result ≡ natAbs v = after-size2 .size2 .ensures ∙ ap natAbs (toZ-ofZ f) in
     let l = rw (n, ← unsigned-text v t) at (c .before .before .put-decimal2 .ensures) in
     (l, omega (arith, signed-short v (f .sfits)))
 
@@ -71,12 +62,12 @@ pub put-signed-spec : {M : Type 1} → statement M
 put-signed-spec =
     tie.close
     (tie.spec
-    put-byte-requires
-    size-requires
+    (λ c κs. search needs)
+    (λ c κs. search needs)
     put-decimal-requires
-    same-length
+    (λ c. search needs)
     returns
-    size-requires-2
+    (λ c κs. search needs)
     put-decimal-requires-2
-    same-length-2
+    (λ c. search needs)
     returns-2)

@@ -7,7 +7,7 @@ use lib.Signed.{mag}
 use mir.Facts.{toZ-ofZ}
 use mir.Syntax.{w32}
 use mir.Val.{SFits, toZ, ofZ}
-use Rattle.samples.proofs.SignLaws.{neg-is, pos-is}
+use Rattle.word_state.proofs.SignLaws.{neg-is, pos-is}
 use Rattle.wvpair_text.proofs.SignLaws.{flipped-size}
 use borrow.Author.Needs.{needs}
 use Rattle.wvpair_text.proofs.decimal.size.Statement.{statement}
@@ -44,8 +44,5 @@ cast-result-2 c =
     let f : SFits w32 v = search needs in
     rw (toZ-ofZ f, pos-is v (rw (toZ-ofZ f) at (c .if1 .left))) (tt, record { fits = omega (arith, f .sfits) })
 
-returns-2 : tie.Need-returns-2
-returns-2 c = search needs
-
 pub size-spec : {M : Type 1} → statement M
-size-spec = tie.close (tie.spec sub-result cast-result add-result returns cast-result-2 returns-2)
+size-spec = tie.close (tie.spec sub-result cast-result add-result returns cast-result-2 (λ c. search needs))

@@ -21,44 +21,15 @@ abbrev μ-loop : tie.MeasureT-loop
 loop-holds : tie.Need-loop-holds Inv-loop μ-loop
 loop-holds c = printed-none _ _ _
 
-add-loop : tie.Need-add-loop Inv-loop μ-loop
-add-loop c = search needs
-
-mul-put-line : tie.Need-mul-put-line Inv-loop μ-loop
-mul-put-line c = search needs
-
-shared-slice-copy-out-put-line : tie.Need-shared-slice-copy-out-put-line Inv-loop μ-loop
-shared-slice-copy-out-put-line c = search needs
-
-add-put-line : tie.Need-add-put-line Inv-loop μ-loop
-add-put-line c = search needs
-
-mul-put-line-2 : tie.Need-mul-put-line-2 Inv-loop μ-loop
-mul-put-line-2 c = search needs
-
-shared-slice-copy-out-put-line-2 : tie.Need-shared-slice-copy-out-put-line-2 Inv-loop μ-loop
-shared-slice-copy-out-put-line-2 c = search needs
-
-put-line-requires : tie.Need-put-line-requires Inv-loop μ-loop
-put-line-requires c κs = search needs
-
-add-i : tie.Need-add-i Inv-loop μ-loop
-add-i c = search needs
-
-loop-less : tie.Need-loop-less Inv-loop μ-loop
-loop-less c = search needs
-
 loop-again : tie.Need-loop-again Inv-loop μ-loop
 loop-again c =
-    let s = c .before .before .before .before .before .before .before .before .before in
-    let l = c .before .before .before .before .before .before .before .loop in
+    let s : tie.Start Inv-loop μ-loop = search needs in
+    let at-loop : tie.At-loop Inv-loop μ-loop = search needs in
+    let l = at-loop .loop in
     let v = s .args .samples .now in
     let left : SFits w32 (getD v (l .i) (pos 0)) = search needs in
     let right : SFits w32 (getD v (l .i + 1) (pos 0)) = search needs in
     printed-more (omega (arith, s .pre)) (omega arith) (l .inv) (rw (toZ-ofZ left, toZ-ofZ right) at (c .before .before .put-line .ensures .0)) (c .before .before .put-line .ensures .1) (c .before .before .put-line .kept .0)
-
-same-length : tie.Need-same-length Inv-loop μ-loop
-same-length c = search needs
 
 returns : tie.Need-returns Inv-loop μ-loop
 returns c = (printed-all (omega arith) (c .before .loop .inv), omega arith)
@@ -70,15 +41,15 @@ put-lines-spec =
     Inv-loop
     μ-loop
     loop-holds
-    add-loop
-    mul-put-line
-    shared-slice-copy-out-put-line
-    add-put-line
-    mul-put-line-2
-    shared-slice-copy-out-put-line-2
-    put-line-requires
-    add-i
-    loop-less
+    (λ c. search needs)
+    (λ c. search needs)
+    (λ c. search needs)
+    (λ c. search needs)
+    (λ c. search needs)
+    (λ c. search needs)
+    (λ c κs. search needs)
+    (λ c. search needs)
+    (λ c. search needs)
     loop-again
-    same-length
+    (λ c. search needs)
     returns)

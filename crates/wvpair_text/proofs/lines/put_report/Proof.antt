@@ -2,23 +2,16 @@
 -- Assumes nothing.
 use native.Mathlib.Omega.{arith}
 use Rattle.wvpair_text.specs.Lines.{report}
-use Rattle.wvpair_text.proofs.PlacedLaws.{laid-laid}
+use Rattle.wvpair_text.proofs.PutLaws.{put-on}
 use borrow.Author.Needs.{needs}
 use Rattle.wvpair_text.proofs.lines.put_report.Statement.{statement}
 use Rattle.wvpair_text.proofs.lines.put_report.Tie as tie
 
-put-lines-requires : tie.Need-put-lines-requires
-put-lines-requires c κs = search needs
-
-put-end-requires : tie.Need-put-end-requires
-put-end-requires c κs = search needs
-
-same-length : tie.Need-same-length
-same-length c = search needs
-
 returns : tie.Need-returns
 unfolding report
-returns c = laid-laid (omega arith) (c .before .before .before .before .before .before .put-lines .ensures .0) (c .before .before .put-end .ensures)
+returns c =
+    let after-put-lines : tie.After-put-lines = search needs in
+    put-on (omega arith) (after-put-lines .put-lines .ensures .0) (c .before .before .put-end .ensures)
 
 pub put-report-spec : {M : Type 1} → statement M
-put-report-spec = tie.close (tie.spec put-lines-requires put-end-requires same-length returns)
+put-report-spec = tie.close (tie.spec (λ c κs. search needs) (λ c κs. search needs) (λ c. search needs) returns)

@@ -1,0 +1,31 @@
+-- The C interface of single values: what each call answers, and the values that it lays into the
+-- slots. The definitions of the layers below say what the values are.
+-- Assumes nothing.
+use Prim.Native.Nat.{ℕ}
+use mathlib.Core.List.{List, [], _∷_, _++_}
+use lib.IntN.{ℤ}
+use Rattle.logpack.specs.LogWord.{logWord}
+use Rattle.entropy.specs.Entropy.{entropyInfo, entropyRefusal}
+use Rattle.answers.specs.Guard.{orElse}
+use Rattle.decorrelation.specs.PassBytes.{termOfByte, deltaOfByte, weightOfByte}
+use Rattle.slots.specs.Slots.{slotRefusal}
+
+-- `wv_log_word`: the value of the word
+abbrev pub logWordValues : ℤ → List ℤ
+logWordValues word = logWord word ∷ []
+
+-- `wv_term_byte`: the term, then the delta
+abbrev pub termByteValues : ℕ → List ℤ
+termByteValues byte = termOfByte byte ∷ deltaOfByte byte ∷ []
+
+-- `wv_weight_byte`: the weight
+abbrev pub weightByteValues : ℕ → List ℤ
+weightByteValues byte = weightOfByte byte ∷ []
+
+-- `wv_entropy`: the three left medians, then the three right ones
+abbrev pub entropyValues : List ℕ → List ℤ
+entropyValues payload = entropyInfo payload .«medians_left» ++ entropyInfo payload .«medians_right»
+
+-- 6 before 1
+abbrev pub entropyAnswer : List ℕ → List ℤ → ℕ
+entropyAnswer payload medians = orElse (slotRefusal 6 medians) (entropyRefusal payload)

@@ -1,0 +1,50 @@
+-- `word_slots::calls::read_call` meets its contract: too few slots, or what reading told, whose
+-- counts fit 32 bits.
+-- Assumes nothing.
+use native.Mathlib.Omega.{arith}
+use Rattle.samples.proofs.ToldBounds.{read-fits}
+use Rattle.word_slots.proofs.CallLaws.{read-short, read-laid}
+use borrow.Author.Needs.{needs}
+use Rattle.word_slots.proofs.calls.read_call.Statement.{statement}
+use Rattle.word_slots.proofs.calls.read_call.Tie as tie
+
+returns : tie.Need-returns
+returns c =
+    let a = c .before .before .before .before .before .args in
+    read-short (a .entropy .now) (a .payload .now) (a .frames) (a .samples .now) (a .answer .now) _ (c .number .ensures) (c .before .if1 .taken)
+
+lay-counts-requires : tie.Need-lay-counts-requires
+lay-counts-requires c κs =
+    let a = c .before .before .before .before .before .before .before .before .before .args in
+    let x = c .before .before .before .decode-packed-samples-stereo-from-entropy in
+    let s = read-fits (a .entropy .now) (a .payload .now) (a .frames) (a .samples .now) _ (x .result) (x .ensures) in
+    (omega (arith, s .bits-small), omega (arith, c .before .before .before .before .before .if1 .left))
+
+cast-t20 : tie.Need-cast-t20
+cast-t20 c =
+    let a = c .before .before .before .before .before .before .before .before .before .before .before .before .args in
+    let x = c .before .before .before .before .before .before .decode-packed-samples-stereo-from-entropy in
+    let s = read-fits (a .entropy .now) (a .payload .now) (a .frames) (a .samples .now) _ (x .result) (x .ensures) in
+    omega (arith, s .written-small)
+
+returns-2 : tie.Need-returns-2
+returns-2 c =
+    let a = c .before .before .before .before .before .before .before .before .before .before .before .before .before .before .before .before .before .before .args in
+    let x = c .before .before .before .before .before .before .before .before .before .before .before .before .decode-packed-samples-stereo-from-entropy in
+    read-laid (a .entropy .now) (a .payload .now) (a .frames) (a .samples .now) (a .answer .now) (x .result) _ _ _ _ (x .ensures) (c .before .before .before .before .before .before .before .before .before .before .before .before .before .before .if1 .left) (c .outcome-number .ensures) (c .before .before .before .before .before .before .before .before .lay-counts .ensures) (c .before .before .before .lay-words .ensures)
+
+pub read-call-spec : {M : Type 1} → statement M
+read-call-spec =
+    tie.close
+    (tie.spec
+    (λ c κs. search needs)
+    returns
+    (λ c κs. search needs)
+    lay-counts-requires
+    cast-t20
+    (λ c. search needs)
+    (λ c κs. search needs)
+    (λ c κs. search needs)
+    (λ c. search needs)
+    (λ c. search needs)
+    returns-2)

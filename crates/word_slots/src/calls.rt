@@ -1,0 +1,65 @@
+// Reading, and one word for a caller that holds the state in a list of slots. Unlike the values,
+// what these two answer is laid into its slots on refusal too; only lists with too few slots are
+// left alone.
+use crate::lay_counts;
+use crate::lay_word;
+use crate::state_in;
+use answers::Refusal;
+use answers::number;
+use answers::outcome_number;
+use samples::one_word::decode_sample_stateful_stereo;
+use samples::reading::decode_packed_samples_stereo_from_entropy;
+use slots::lay_words;
+ghost use mathlib.Core.Path.{_≡_};
+ghost use Rattle.word_slots.specs.Calls.{readCall, wordCall};
+
+// `wv_read`: the samples, and into 8 slots bits used, left medians, right medians and samples
+// written.
+pub fn read_call(
+    entropy: &[u8],
+    payload: &[u8],
+    frames: usize,
+    samples: &mut [i32],
+    answer: &mut [u32],
+) -> u32
+    ensures { λ r. ⌜
+        record { refusal = r; samples = now (samples .exit); answer = now (answer .exit) }
+        ≡ readCall (now (entropy .entry)) (now (payload .entry)) frames (now (samples .entry)) (now (answer .entry))
+        ⌝ }
+{
+    if answer.len() < 8 {
+        return number(Refusal::ListLength);
+    }
+    let read = decode_packed_samples_stereo_from_entropy(entropy, payload, frames, samples);
+    let bits = read.bits;
+    let medians = read.medians;
+    let written = read.written;
+    let outcome = read.outcome;
+    lay_counts(bits, medians, answer);
+    let last = [written as u32];
+    lay_words(&last, 7, answer);
+    outcome_number(outcome)
+}
+
+// `wv_word`: the word at the place and in the state that 13 slots hold, its sample into 1 slot and
+// its report into 2.
+pub fn word_call(payload: &[u8], state: &mut [u32], sample: &mut [i32], report: &mut [u32]) -> u32
+    ensures { λ r. ⌜
+        record { refusal = r; state = now (state .exit); sample = now (sample .exit); report = now (report .exit) }
+        ≡ wordCall (now (payload .entry)) (now (state .entry)) (now (sample .entry)) (now (report .entry))
+        ⌝ }
+{
+    if state.len() < 13 {
+        return number(Refusal::ListLength);
+    }
+    if sample.len() < 1 {
+        return number(Refusal::ListLength);
+    }
+    if report.len() < 2 {
+        return number(Refusal::ListLength);
+    }
+    let place = state[0] as usize;
+    let held = state_in(state);
+    let word = decode_sample_stateful_stereo(payload, place, held);
+    lay_word(word, state, sample, report)
+}
