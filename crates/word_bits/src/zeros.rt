@@ -1,6 +1,5 @@
-// Stretches of zeros, and the span: both look at every residual, so that a list of zeros costs
-// little more than this. Whole blocks are counted without an early end, which the machine does
-// several residuals at once.
+// Stretches of zeros: in a list of zeros every residual is looked at, and little else is done.
+// Whole blocks are counted without an early end, which the machine does several residuals at once.
 ghost use mathlib.Core.Path.{_≡_};
 ghost use Prim.Native.Nat.{_+_, _≤_};
 ghost use lib.Dec.{leb};
