@@ -23,7 +23,8 @@ use Rattle.entropy.specs.Medians.{MedianPair, pairOf}
 use Rattle.entropy.specs.Seed.{seedMedians}
 use Rattle.entropy.proofs.SeedBounds.{seeds-small}
 use Rattle.word_state.specs.State.{start}
-use Rattle.packing.specs.Packing.{spanned, packed}
+use Rattle.word_bits.specs.Residuals.{spanned}
+use Rattle.packing.specs.Packing.{packed}
 use Rattle.packing.specs.Entry.{PackTold, viewPacking, packedFrom, tellPacking, refusePacking, refusalBeforeSpan, spanRefusal, packRefusal, packEntry, packedBytes}
 use Rattle.packing.specs.View.{PackedIs, Refuses}
 use Rattle.packing.specs.declared.PackAnswer.{PackAnswer}

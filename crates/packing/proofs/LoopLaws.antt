@@ -18,14 +18,16 @@ use Rattle.entropy.specs.Medians.{Medians, MedianPair, mediansOf, pairOf, zeroS
 use Rattle.word_state.specs.State.{State, start, flip, inRun}
 use Rattle.word_state.proofs.StateLaws.{noSet, turned}
 use Rattle.word_state.proofs.FlagLaws.{clash}
-use Rattle.packing.specs.Packing.{spanned, Out, behind, wordOut, packed}
+use Rattle.word_bits.specs.Residuals.{spanned}
+use Rattle.packing.specs.Packing.{Out, behind, wordOut, packed}
 use Rattle.packing.specs.View.{Seen, Next, RunTakes, PackedIs}
 use Rattle.packing.specs.declared.writing.Packed.{Packed}
 use Rattle.packing.proofs.PackedLaws.{packing-on, packing-end, settle}
 use Rattle.packing.proofs.SetLaws.{set-is, other-is, replaced}
-use Rattle.packing.proofs.LongLaws.{word-long}
-use Rattle.packing.proofs.InStepLaws.{Inv, start-inv, due-small, other-small, zeros-le, zeros-head, kept}
-use Rattle.packing.proofs.SpanLaws.{spanned-at}
+use Rattle.packing.proofs.SizeLaws.{word-long}
+use Rattle.packing.proofs.InStepLaws.{Inv, start-inv, due-small, other-small, kept}
+use Rattle.word_bits.proofs.ZeroLaws.{zeros-le, zeros-head}
+use Rattle.word_bits.proofs.SpanLaws.{spanned-at}
 
 -- w is written, and in this state the residuals from i on are left
 pub record Loop (before : List ℕ) (vs : List ℤ) (s₀ : State) (out : List ℕ) (sets : List AdaptiveMedians) (place : ℕ) (lz lo brk : Bool) (i : ℕ) : Type 0 where

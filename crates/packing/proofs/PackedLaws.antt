@@ -10,7 +10,8 @@ use lib.IntN.{ℤ, pos, negsuc}
 use lib.ListN.{drop}
 use Rattle.word_state.specs.State.{State, flip, paid}
 use Rattle.word_state.proofs.StateLaws.{turned}
-use Rattle.packing.specs.Packing.{zeros, Out, behind, silent, wordOut, packed}
+use Rattle.word_bits.specs.Residuals.{zeros}
+use Rattle.packing.specs.Packing.{Out, behind, silent, wordOut, packed}
 
 -- w is written, and the first of the residuals that are left is written next
 pub packing-on : (w : List Bool) (s : State) (v : ℤ) (vs : List ℤ)

@@ -15,7 +15,8 @@ use Rattle.overlay.specs.Overlay.{overlay}
 use Rattle.entropy.specs.Medians.{MedianPair, pairOf, zeroPair}
 use Rattle.entropy.specs.Seed.{seedRefusal, seedMedians}
 use Rattle.word_state.specs.State.{start}
-use Rattle.packing.specs.Packing.{spanned, Out, packed}
+use Rattle.word_bits.specs.Residuals.{spanned}
+use Rattle.packing.specs.Packing.{Out, packed}
 use Rattle.packing.specs.declared.PackAnswer.{PackAnswer}
 
 -- the refusal's number (0: accepted), bits written, medians after; and the bytes of the lent buffer

@@ -7,19 +7,19 @@ ghost use Prim.Native.Nat.{_*_, _≤_};
 ghost use lib.ListN.{length};
 ghost use Rattle.answers.specs.Limits.{maxElements};
 ghost use Rattle.entropy.specs.Medians.{pairOf, Small};
-ghost use Rattle.packing.specs.Packing.{spanned};
+ghost use Rattle.word_bits.specs.Residuals.{spanned};
 ghost use Rattle.answers.specs.Numbers.{outcomeNumber};
 ghost use Rattle.packing.specs.Entry.{viewPacking, refusalBeforeSpan, packEntry};
 ghost use Rattle.packing.specs.View.{PackedIs, Refuses};
 use crate::PackAnswer;
-use crate::word::put_turn;
-use crate::zeros::in_span;
+use crate::turn::put_turn;
 use answers::Outcome;
 use answers::Refusal;
 use answers::limits::BYTES_PER_FRAME;
 use answers::limits::MAX_FRAMES;
 use entropy::AdaptiveMedians;
 use entropy::stereo_pair_from_entropy;
+use word_bits::span::in_span;
 
 // The bits written, and the medians after them.
 pub struct Packed {

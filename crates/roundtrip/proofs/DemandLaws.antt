@@ -16,7 +16,7 @@ use Rattle.passes.specs.Run.{Chain, decorrelated, analysed}
 use Rattle.passes.proofs.RunInverse.{analysed-fit, analysed-length, decorrelated-analysed}
 use Rattle.passes.proofs.Unique.{residuals-unique}
 use Rattle.decorrelation.specs.Lists.{Answer, decorrelationNumber, analysisNumber, decorrelation, analysis}
-use Rattle.packing.specs.Packing.{spanned}
+use Rattle.word_bits.specs.Residuals.{spanned}
 use Rattle.packing.specs.Entry.{PackTold, packedFrom, tellPacking, packEntry, packedBytes}
 use Rattle.packing.proofs.EntryLaws.{packed-is}
 use Rattle.roundtrip.proofs.ReadTrips.{read-what-was-packed}

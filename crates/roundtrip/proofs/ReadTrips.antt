@@ -21,11 +21,12 @@ use Rattle.entropy.specs.Seed.{seedRefusal, seedMedians}
 use Rattle.word_state.specs.State.{State, start}
 use Rattle.samples.specs.Reading.{Reading, reading}
 use Rattle.samples.specs.View.{tellReading, readRefusal, readEntry}
-use Rattle.packing.specs.Packing.{spanned, Out, wordOut, packed}
+use Rattle.word_bits.specs.Residuals.{spanned}
+use Rattle.packing.specs.Packing.{Out, wordOut, packed}
 use Rattle.packing.specs.Entry.{PackTold, packedFrom, packEntry, packedBytes}
 use Rattle.packing.proofs.EntryLaws.{packing-accepted, packed-is, bytes-are}
 use Rattle.packing.proofs.InStepLaws.{Inv, start-inv, kept}
-use Rattle.packing.proofs.SpanLaws.{spanned-parts}
+use Rattle.word_bits.proofs.SpanLaws.{spanned-parts}
 use Rattle.roundtrip.proofs.WordTrips.{word-at}
 
 -- ---- all words

@@ -20,12 +20,15 @@ use Rattle.medians.specs.Interval.{lowOf, highOf}
 use Rattle.word_state.specs.State.{State, due, other, paid, inRun, unbroken, cleared, flagged, after, runHere, onZeros}
 use Rattle.samples.specs.Word.{Report, none, zoneOf, Word, given, onPrefix, signed, value, plain, fresh, word}
 use Rattle.samples.proofs.PartLaws.{fresh-word, fresh-run}
-use Rattle.packing.specs.Counts.{count}
-use Rattle.packing.specs.Packing.{zeros, ahead, sign, Out, behind, silent, valueField, valueOut, plainOut, freshOut, wordOut}
-use Rattle.packing.specs.Written.{runField, prefixField, codeField}
-use Rattle.packing.proofs.CountLaws.{smallest}
-use Rattle.packing.proofs.InStepLaws.{Inv, due-small, zeros-head, zeros-le}
-use Rattle.packing.proofs.LongLaws.{val-le}
+use Rattle.word_bits.specs.Counts.{count}
+use Rattle.word_bits.specs.Residuals.{zeros, ahead, sign}
+use Rattle.packing.specs.Packing.{Out, behind, silent, valueOut, plainOut, freshOut, wordOut}
+use Rattle.word_bits.specs.Word.{valueField}
+use Rattle.word_bits.specs.Written.{runField, prefixField, codeField}
+use Rattle.word_bits.proofs.CountLaws.{smallest}
+use Rattle.packing.proofs.InStepLaws.{Inv, due-small}
+use Rattle.word_bits.proofs.ZeroLaws.{zeros-head, zeros-le}
+use Rattle.word_bits.proofs.LongLaws.{val-le}
 use Rattle.roundtrip.proofs.FieldTrips.{run-at, prefix-at, code-at}
 
 -- ---- code and sign

@@ -13,7 +13,7 @@ use Rattle.samples.specs.View.{ReadTold, readEntry}
 use Rattle.passes.specs.declared.DecorrPass.{DecorrPass}
 use Rattle.passes.specs.Run.{Fit}
 use Rattle.decorrelation.specs.Lists.{Answer, allValid, decorrelation, analysis}
-use Rattle.packing.specs.Packing.{spanned}
+use Rattle.word_bits.specs.Residuals.{spanned}
 use Rattle.packing.specs.Entry.{PackTold, packedFrom, tellPacking, packEntry, packedBytes}
 
 -- M1: "A recording is any list of 32-bit samples, two per frame, 0 frames included; a residual list

@@ -122,7 +122,7 @@ pub fn round_trip(
         return refused(early);
     };
     copy(recording, scratch);
-    // Accepted: the test above is its own.
+    // It accepts: what it refuses was asked above. The passes' states are not needed here.
     recorrelate_array(passes, count, scratch);
     let frames = elements / 2;
     let written = encode_packed_samples_stereo_from_entropy(scratch, entropy, frames, packed);

@@ -49,13 +49,13 @@ returns-2 c =
 
 returns-3 : tie.Need-returns-3
 returns-3 c =
-    let e = c .before .before .before in
+    let e : tie.Else1 = search needs in
     let a = e .before .before .args in
     third (a .read) (a .decorrelated) (a .used) (a .written) (a .equal) (read-is e) (decorrelated-is (c .before)) (c .if3 .taken)
 
 returns-4 : tie.Need-returns-4
 returns-4 c =
-    let e = c .before .before .before in
+    let e : tie.Else1 = search needs in
     let a = e .before .before .args in
     last (a .read) (a .decorrelated) (a .used) (a .written) (a .equal) (read-is e) (decorrelated-is (c .before)) (c .if3 .left)
 

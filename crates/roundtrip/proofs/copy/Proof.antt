@@ -22,12 +22,14 @@ loop-holds : tie.Need-loop-holds Inv-loop μ-loop
 loop-holds c = copied-start _ _
 
 slice-set-from-to : tie.Need-slice-set-from-to Inv-loop μ-loop
-slice-set-from-to c = omega (arith, c .before .before .loop .inv, c .before .before .before .pre)
+slice-set-from-to c =
+    let start : tie.Start Inv-loop μ-loop = search needs in
+    omega (arith, c .before .before .loop .inv, start .pre)
 
 loop-again : tie.Need-loop-again Inv-loop μ-loop
 loop-again c =
+    let x : tie.Start Inv-loop μ-loop = search needs in
     let l = c .before .before .loop in
-    let x = c .before .before .before in
     let f : SFits w32 (getD (x .args .from .now) (l .i) (pos 0)) = search needs in
     rw (toZ-ofZ f) (copied-step _ _ _ (l .i) (omega arith) (x .pre) f (l .inv))
 

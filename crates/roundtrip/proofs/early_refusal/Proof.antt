@@ -10,7 +10,8 @@ returns c = first-refuses _ _ _ _ (c .enum-told2 .given .1) (c .before .before .
 
 returns-2 : tie.Need-returns-2
 returns-2 c =
-    second-decides _ (c .refusal-before-span .result) _ _ (c .before .enum-told .given .1) (c .before .before .before .analysis-refusal .ensures) (c .refusal-before-span .ensures)
+    let after-analysis-refusal : tie.After-analysis-refusal = search needs in
+    second-decides _ (c .refusal-before-span .result) _ _ (c .before .enum-told .given .1) (after-analysis-refusal .analysis-refusal .ensures) (c .refusal-before-span .ensures)
 
 pub early-refusal-spec : {M : Type 1} → statement M
 early-refusal-spec =

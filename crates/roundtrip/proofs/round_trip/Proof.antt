@@ -18,7 +18,7 @@ returns c = trip-length _ _ _ _ _ _ (c .refused .result) (c .before .if1 .taken)
 
 returns-2 : tie.Need-returns-2
 returns-2 c =
-    let tested = c .before .before .before in
+    let tested : tie.After-early-refusal = search needs in
     trip-early _ _ _ _ _ _ (c .refused2 .result) _ _ (tested .before .if1 .left) (tested .early-refusal .ensures) (c .before .enum-told2 .given .1) (c .refused2 .ensures)
 
 -- ---- the calls before each stop
@@ -56,7 +56,7 @@ none-early c = sym (tested-at c .early-refusal .ensures) ∙ ap outcomeNumber (c
 
 returns-3 : tie.Need-returns-3
 returns-3 c =
-    let wrote = c .before .before .before .before .before in
+    let wrote : tie.After-encode-packed-samples-stereo-from-entropy = search needs in
     let ran = ran-at wrote in
     let copied = copied-at ran in
     let free = free-at copied in
@@ -94,7 +94,7 @@ same-requires c κs =
 
 same-length-3 : tie.Need-same-length-3
 same-length-3 c =
-    let run = c .before .before .before .before in
+    let run : tie.After-decorrelate-array = search needs in
     let read = read-at run in
     let ran = ran-at (wrote-at (packed-at read)) in
     let copied = copied-at ran in

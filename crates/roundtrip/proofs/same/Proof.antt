@@ -26,13 +26,15 @@ loop-holds c = (omega arith, refl)
 
 returns : tie.Need-returns Inv-loop μ-loop
 returns c =
-    let i = c .before .before .before .before .loop .i in
+    let at-loop : tie.At-loop Inv-loop μ-loop = search needs in
+    let i = at-loop .loop .i in
     record { told = λ e. absurd (c .if1 .taken (ap (λ (l : List ℤ). ofZ w32 (getD l i (pos 0))) e)); true-is = λ e. clash e refl }
 
 loop-again : tie.Need-loop-again Inv-loop μ-loop
 loop-again c =
-    let l = c .before .before .before .before .loop in
-    let x = c .before .before .before .before .before in
+    let x : tie.Start Inv-loop μ-loop = search needs in
+    let at-loop : tie.At-loop Inv-loop μ-loop = search needs in
+    let l = at-loop .loop in
     let f : SFits w32 (getD (x .args .a .now) (l .i) (pos 0)) = search needs in
     let g : SFits w32 (getD (x .args .b .now) (l .i) (pos 0)) = search needs in
     (omega arith, same-step _ _ (l .i) (omega arith) (x .pre) (l .inv .1) (sym (toZ-ofZ f) ∙ ap (toZ w32) (c .if1 .left) ∙ toZ-ofZ g))

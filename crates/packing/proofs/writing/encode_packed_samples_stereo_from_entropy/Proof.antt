@@ -10,12 +10,10 @@ use lib.ListN.{length}
 use Rattle.entropy.proofs.SeedBounds.{seeds-small}
 use Rattle.answers.specs.Numbers.{outcomeNumber}
 use Rattle.entropy.specs.Medians.{MedianPair, Small}
-use Rattle.packing.specs.Packing.{spanned}
+use Rattle.word_bits.specs.Residuals.{spanned}
 use Rattle.packing.proofs.RefusalLaws.{Ready, ready}
 use Rattle.packing.proofs.EntryLaws.{refuses-before, refuses-span, accepts}
-use Rattle.packing.proofs.writing.encode_packed_samples_stereo_from_entropy.Statement.{
-  statement,
-}
+use Rattle.packing.proofs.writing.encode_packed_samples_stereo_from_entropy.Statement.{statement}
 use Rattle.packing.proofs.writing.encode_packed_samples_stereo_from_entropy.Tie as tie
 
 returns : tie.Need-returns

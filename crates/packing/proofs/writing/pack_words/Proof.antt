@@ -18,9 +18,9 @@ use Rattle.bits.specs.Laid.{put}
 use Rattle.bits.proofs.WriteLaws.{put-lent}
 use Rattle.packing.specs.Packing.{wordOut}
 use Rattle.packing.specs.View.{Turned}
-use Rattle.packing.specs.declared.word.Turn.{Turn}
+use Rattle.packing.specs.declared.turn.Turn.{Turn}
 use Rattle.packing.proofs.LoopLaws.{Loop, loop-start, loop-due-small, loop-other-small, loop-seen, word-room, run-room, loop-word, loop-run, loop-end}
-use Rattle.packing.proofs.SpanLaws.{spanned-at}
+use Rattle.word_bits.proofs.SpanLaws.{spanned-at}
 use Rattle.packing.proofs.writing.pack_words.Statement.{statement}
 use Rattle.packing.proofs.writing.pack_words.Tie as tie
 
