@@ -14,12 +14,10 @@ pub extern "C" fn wv_pack(
     out: &mut [u8],
     answer: &mut [u32],
 ) -> u32
-    ensures {
-        λ r. ⌜
-            record { refusal = r; bytes = now (out .exit); answer = now (answer .exit) }
-                ≡ packCall (now (residuals .entry)) (now (entropy .entry)) frames (now (out .entry)) (now (answer .entry))
-        ⌝
-    }
+    ensures { λ r. ⌜
+        record { refusal = r; bytes = now (out .exit); answer = now (answer .exit) }
+        ≡ packCall (now (residuals .entry)) (now (entropy .entry)) frames (now (out .entry)) (now (answer .entry))
+        ⌝ }
 {
     pack_slots::pack_call(residuals, entropy, frames, out, answer)
 }

@@ -15,12 +15,10 @@ pub extern "C" fn wv_read(
     samples: &mut [i32],
     answer: &mut [u32],
 ) -> u32
-    ensures {
-        λ r. ⌜
-            record { refusal = r; samples = now (samples .exit); answer = now (answer .exit) }
-                ≡ readCall (now (entropy .entry)) (now (payload .entry)) frames (now (samples .entry)) (now (answer .entry))
-        ⌝
-    }
+    ensures { λ r. ⌜
+        record { refusal = r; samples = now (samples .exit); answer = now (answer .exit) }
+        ≡ readCall (now (entropy .entry)) (now (payload .entry)) frames (now (samples .entry)) (now (answer .entry))
+        ⌝ }
 {
     word_slots::calls::read_call(entropy, payload, frames, samples, answer)
 }
@@ -35,12 +33,10 @@ pub extern "C" fn wv_word(
     sample: &mut [i32],
     report: &mut [u32],
 ) -> u32
-    ensures {
-        λ r. ⌜
-            record { refusal = r; state = now (state .exit); sample = now (sample .exit); report = now (report .exit) }
-                ≡ wordCall (now (payload .entry)) (now (state .entry)) (now (sample .entry)) (now (report .entry))
-        ⌝
-    }
+    ensures { λ r. ⌜
+        record { refusal = r; state = now (state .exit); sample = now (sample .exit); report = now (report .exit) }
+        ≡ wordCall (now (payload .entry)) (now (state .entry)) (now (sample .entry)) (now (report .entry))
+        ⌝ }
 {
     word_slots::calls::word_call(payload, state, sample, report)
 }
