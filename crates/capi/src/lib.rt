@@ -1,6 +1,8 @@
-// The C interface of the decoder: thin functions over the layers below, declared for C in include/wavpack_stereo.h.
-// Each answers a refusal number of document 01, 0 for accepted. Values are laid into the first slots of a lent list; one that
-// has fewer slots is refused with 6, and then nothing is written. Only the passes of a list are copied, into an array of 16.
+// The C interface of the decoder, declared for C in include/wavpack_stereo.h. Each function is one
+// call of a function with the same contract in a crate of slots. It answers a refusal number of
+// document 01, 0 for accepted. Values are laid into the first slots of a lent list; one that has
+// fewer slots is refused with 6, and then nothing is written. Only the passes of a list are copied,
+// into an array of 16.
 pub mod pack;
 pub mod pass_lists;
 pub mod values;
