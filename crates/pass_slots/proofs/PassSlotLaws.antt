@@ -13,8 +13,8 @@ use mir.Syntax.{w8}
 use mir.Val.{SFits}
 use borrow.Author.Tests.{ltb-true, ltb-false, le-leb, lt-leb}
 use Rattle.passes.specs.declared.DecorrPass.{DecorrPass}
-use Rattle.slots.specs.Slots.{laid, laidAt}
-use Rattle.slots.proofs.SlotLaws.{laid-first, laid-next, laid-whole}
+use Rattle.overlay.specs.Overlay.{overlay}
+use Rattle.overlay.proofs.OverlayLaws.{overlay-none, overlay-on, overlay-whole}
 use Rattle.pass_slots.specs.PassSlots.{slotTerm, passOf, slotsOf, passesOf, listSlots}
 
 -- ---- the term of a slot
@@ -46,20 +46,20 @@ pub part-is : (a : ℕ) (l : List ℤ) → take (length l - a) (drop a l) ≡ dr
 part-is a l = rw (← length-drop a l) (take-length (drop a l))
 
 -- a history that was laid into eight slots
-history-held : (l h : List ℤ) (at : ℕ) → at + 8 ≤ length l → length h ≡ 8 → laidAt 0 (take 8 (drop at l)) h ≡ take 8 (drop at l)
+history-held : (l h : List ℤ) (at : ℕ) → at + 8 ≤ length l → length h ≡ 8 → overlay h 0 (take 8 (drop at l)) ≡ take 8 (drop at l)
 history-held l h at k e =
     let part = take 8 (drop at l) in
     let n : length part ≡ length h = length-take-le 8 (drop at l) (rw (length-drop at l) (omega arith)) ∙ sym e in
-    laid-first part h ∙ laid-whole part h n
+    overlay-whole h part n
 
 -- a pass from the parts of its slots
-pub pass-held : (s h g : List ℤ) (t : ℤ) (a b : List ℤ) → 20 ≤ length s → length h ≡ 8 → length g ≡ 8 → t ≡ slotTerm (getD s 0 (pos 0)) → a ≡ laidAt 0 (take 8 (drop 4 s)) h → b ≡ laidAt 0 (take 8 (drop 12 s)) g
+pub pass-held : (s h g : List ℤ) (t : ℤ) (a b : List ℤ) → 20 ≤ length s → length h ≡ 8 → length g ≡ 8 → t ≡ slotTerm (getD s 0 (pos 0)) → a ≡ overlay h 0 (take 8 (drop 4 s)) → b ≡ overlay g 0 (take 8 (drop 12 s))
     → record { term = t; delta = getD s 1 (pos 0); «weight_a» = getD s 2 (pos 0); «weight_b» = getD s 3 (pos 0); «history_a» = a; «history_b» = b } ≡ passOf s
 unfolding passOf
 pass-held s h g t a b long i j e f k = rw (e, f, k, history-held s h 4 (omega arith) i, history-held s g 12 (omega arith) j)
 
 -- the 20 slots of a pass: four numbers, then the two histories
-pub twenty : (p : DecorrPass) (head none first second third : List ℤ) → first ≡ laidAt 0 head none → second ≡ laidAt 4 (p .«history_a») first → third ≡ laidAt 12 (p .«history_b») second → length none ≡ 20
+pub twenty : (p : DecorrPass) (head none first second third : List ℤ) → first ≡ overlay none 0 head → second ≡ overlay first 4 (p .«history_a») → third ≡ overlay second 12 (p .«history_b») → length none ≡ 20
     → length (p .«history_a») ≡ 8 → length (p .«history_b») ≡ 8 → head ≡ p .term ∷ p .delta ∷ p .«weight_a» ∷ p .«weight_b» ∷ [] → third ≡ slotsOf p
 unfolding slotsOf
 twenty p head none first second third e f g n la lb h =
@@ -68,7 +68,7 @@ twenty p head none first second third e f g n la lb h =
     let four : length head ≡ 4 = ap length h in
     let twelve : length (head ++ a) ≡ 12 = rw (length-append head a, four, la) in
     let all : length ((head ++ a) ++ b) ≡ length none = rw (length-append (head ++ a) b, twelve, lb, n) in
-    g ∙ rw (f, e, laid-first head none, laid-next 4 head a none four, laid-next 12 (head ++ a) b none twelve, laid-whole ((head ++ a) ++ b) none all, append-assoc head a b, h)
+    g ∙ rw (f, e, overlay-on none 0 4 head a (omega arith) (omega arith), overlay-on none 0 12 (head ++ a) b (omega arith) (omega arith), overlay-whole none ((head ++ a) ++ b) all, append-assoc head a b, h)
 
 -- the slots of a pass hold that pass
 pub pass-again : (p : DecorrPass) → SFits w8 (p .term) → length (p .«history_a») ≡ 8 → length (p .«history_b») ≡ 8 → passOf (slotsOf p) ≡ p
@@ -104,23 +104,23 @@ slots-append (p ∷ ps) qs = rw (slots-append ps qs, append-assoc (slotsOf p) (l
 -- the slots of the first i passes are laid
 pub record Laying (i : ℕ) (ps : List DecorrPass) (before slots : List ℤ) : Type 0 where
   pub long : length (listSlots (take i ps)) ≡ i * 20
-  pub holds : slots ≡ laid (listSlots (take i ps)) before
+  pub holds : slots ≡ overlay before 0 (listSlots (take i ps))
 
 pub laying-none : (ps : List DecorrPass) (before : List ℤ) → Laying 0 ps before before
-laying-none ps before = record { long = refl; holds = refl }
+laying-none ps before = record { long = refl; holds = sym (overlay-none before 0) }
 
 -- one more is laid behind them
 pub laying-more : (i : ℕ) (ps : List DecorrPass) (d : DecorrPass) (before slots values after : List ℤ) → i < length ps → length values ≡ 20 → values ≡ slotsOf (getD ps i d)
-    → after ≡ laidAt (i * 20) values slots → Laying i ps before slots → Laying (suc i) ps before after
+    → after ≡ overlay slots (i * 20) values → Laying i ps before slots → Laying (suc i) ps before after
 laying-more i ps d before slots values after h n v e l =
     let done = listSlots (take i ps) in
     let more : listSlots (take (suc i) ps) ≡ done ++ values = rw (take-suc ps i d h, slots-append (take i ps) (getD ps i d ∷ []), append-nil (slotsOf (getD ps i d)), v) in
     let long : length (done ++ values) ≡ suc i * 20 = rw (length-append done values, l .long, n) (omega arith) in
-    record { long = rw more long; holds = rw more (e ∙ ap (laidAt (i * 20) values) (l .holds) ∙ laid-next (i * 20) done values before (l .long)) }
+    record { long = rw more long; holds = rw more (e ∙ ap (λ (x : List ℤ). overlay x (i * 20) values) (l .holds) ∙ overlay-on before 0 (i * 20) done values (omega arith) (omega (arith, l .long))) }
 
 -- all of them are laid
 pub laying-all : (n i : ℕ) (ps : List DecorrPass) (before slots : List ℤ) → n ≤ i → i ≤ n → length before ≡ n * 20 → Laying i ps before slots → slots ≡ listSlots (take n ps)
 laying-all n i ps before slots h k e l =
     let same : i ≡ n = omega arith in
     let whole : length (listSlots (take i ps)) ≡ length before = l .long ∙ rw same (sym e) in
-    rw (← same) (l .holds ∙ laid-whole (listSlots (take i ps)) before whole)
+    rw (← same) (l .holds ∙ overlay-whole before (listSlots (take i ps)) whole)

@@ -6,7 +6,7 @@ use native.Mathlib.Numerals.{add-one}
 use native.Mathlib.Omega.{arith}
 use borrow.Author.Needs.{needs}
 use lib.ListN.{length}
-use Rattle.slots.proofs.SlotLaws.{laid-length}
+use Rattle.overlay.proofs.OverlayLaws.{overlay-length}
 use Rattle.pass_slots.proofs.PassSlotLaws.{Laying, laying-none, laying-more, laying-all}
 use Rattle.pass_slots.proofs.lay_passes.Statement.{statement}
 use Rattle.pass_slots.proofs.lay_passes.Tie as tie
@@ -56,7 +56,7 @@ loop-again c =
     let few : t .i < length (s .args .t1) = omega (arith, s .pre .0, s .good .0 .1 .0 .1) in
     let room : t .i * 20 + length (x .result) ≤ length (t .slots) = omega (arith, s .pre .1, t .inv .1) in (
       omega arith,
-      ap length (c .before .lay .ensures) ∙ laid-length (t .i * 20) (x .result) (t .slots) room ∙ t .inv .1,
+      ap length (c .before .lay .ensures) ∙ overlay-length (t .slots) (t .i * 20) (x .result) room ∙ t .inv .1,
       rw (add-one (t .i)) (laying-more (t .i) (s .args .t1) _ (s .args .slots .now) (t .slots) (x .result) _ few n (x .ensures) (c .before .lay .ensures) (t .inv .2)),
     )
 
