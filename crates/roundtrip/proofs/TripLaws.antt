@@ -5,7 +5,7 @@ use mathlib.Core.Bool.{Bool, true, false}
 use mathlib.Core.List.{List, [], _++_, append-nil}
 use Prim.Native.Nat.{ℕ, zero, suc, _+_, _/_, _≤_, _<_}
 use native.Mathlib.Omega.{arith}
-use borrow.Author.Tests.{le-ltb, eq-eqb, ne-eqb, ltb-false}
+use borrow.Author.Tests.{eq-eqb, ne-eqb}
 use lib.Dec.{ltb}
 use lib.IntN.{ℤ}
 use lib.ListN.{length, take, drop}
@@ -18,7 +18,9 @@ use Rattle.samples.specs.declared.ReadAnswer.{ReadAnswer}
 use Rattle.passes.specs.declared.DecorrPass.{DecorrPass}
 use Rattle.passes.specs.Run.{Fit, Chain, decorrelated, analysed}
 use Rattle.passes.proofs.RunInverse.{decorrelated-analysed}
-use Rattle.decorrelation.specs.Lists.{Answer, allValid, analysisNumber, decorrelationNumber, pickNumber, answerBy, arrayAnswer, arrayBy, chained, followed}
+use Rattle.passes.specs.declared.Direction.the-variants.{Decorrelation, Analysis}
+use Rattle.decorrelation.specs.Lists.{Answer, arrayAnswer}
+use Rattle.decorrelation.proofs.Theorems.{ArrayAccepted, array-made, array-runs}
 use Rattle.bits.proofs.LaidLaws.{length-laid}
 use Rattle.entropy.specs.Seed.{seedMedians}
 use Rattle.packing.specs.Entry.{PackTold, packToldOf, packedFrom, packEntry, packedBytes}
@@ -28,52 +30,6 @@ use Rattle.packing.specs.declared.PackAnswer.{PackAnswer}
 use Rattle.packing.proofs.TripLaws.{packing-accepted, pack-refused, packed-is, bytes-few, read-what-was-packed}
 use Rattle.roundtrip.specs.declared.TripAnswer.{TripAnswer}
 use Rattle.roundtrip.specs.Trip.{TripTold, tripToldOf, tripRefused, unlessTrip, tripBack, tripEntry, SameIs}
-
--- ---- an array of passes
-
--- what analysis by the first n of an array accepts
-record Made (ps : List DecorrPass) (n : ℕ) (l : List ℤ) : Type 0 where
-  few : n ≤ 16
-  size : length l ≤ 262144
-  valid : allValid (take n ps) ≡ true
-
--- an answer tells its number
-number-is : (m : ℕ) (c : Chain) (ps : List DecorrPass) (l : List ℤ) → answerBy m c ps l .refusal ≡ m
-number-is zero c ps l = refl
-number-is (suc m) c ps l = refl
-
--- an answer without a refusal tells it
-array-made : (ps : List DecorrPass) (n : ℕ) (l : List ℤ) → arrayAnswer true ps n l .refusal ≡ 0 → Made ps n l
-unfolding arrayAnswer analysisNumber
-array-made ps n l e = first (ltb 16 n) refl e
-  where
-    third : (v : Bool) → allValid (take n ps) ≡ v → ltb 16 n ≡ false → ltb 262144 (length l) ≡ false → pickNumber v 0 7 ≡ 0 → Made ps n l
-    third true v f s e = record { few = ltb-false 16 n f; size = ltb-false 262144 (length l) s; valid = v }
-    third false v f s e = absurd (omega arith)
-
-    size-test : (v s : Bool) → ltb 262144 (length l) ≡ s → allValid (take n ps) ≡ v → ltb 16 n ≡ false → pickNumber s 5 (pickNumber (ltb 16 n) 9 (pickNumber v 0 7)) ≡ 0 → Made ps n l
-    size-test v true s w f e = absurd (omega arith)
-    size-test v false s w f e = third v w f s (rw f at e)
-
-    many : (s : Bool) → pickNumber s 5 (pickNumber true 9 0) ≡ 0 → Made ps n l
-    many true e = absurd (omega arith)
-    many false e = absurd (omega arith)
-
-    first : (t : Bool) → ltb 16 n ≡ t → arrayBy t true ps n l .refusal ≡ 0 → Made ps n l
-    first true t e =
-        let m : pickNumber (ltb 262144 (length l)) 5 (pickNumber (ltb 16 n) 9 0) ≡ 0 =
-        sym (number-is (pickNumber (ltb 262144 (length l)) 5 (pickNumber (ltb 16 n) 9 0)) (chained true ps l) ps l) ∙ e in
-        many (ltb 262144 (length l)) (rw t at m)
-    first false t e =
-        size-test (allValid (take n ps)) (ltb 262144 (length l)) refl refl t
-        (sym (number-is _ (followed (drop n ps) (chained true (take n ps) l)) ps l) ∙ e)
-
--- what both then leave
-array-runs : (back : Bool) (ps : List DecorrPass) (n : ℕ) (l : List ℤ) → Made ps n l
-    → arrayAnswer back ps n l ≡ record { refusal = 0; passes = chained back (take n ps) l .passes ++ drop n ps; buffer = chained back (take n ps) l .buffer }
-unfolding arrayAnswer analysisNumber decorrelationNumber
-array-runs true ps n l m = let f = le-ltb 16 n (m .few) in rw (f, le-ltb 262144 (length l) (m .size), m .valid, f)
-array-runs false ps n l m = let f = le-ltb 16 n (m .few) in rw (f, le-ltb 262144 (length l) (m .size), m .valid, f)
 
 -- ---- where the packed bytes end
 
@@ -122,12 +78,12 @@ module _ (ps : List DecorrPass) (n : ℕ) (x : List ℤ) (entropy : List ℕ) (s
   trip-length h t = rw (ne-eqb (length scratch) (length x) h) (refused-is r (Outcome.Refused Refusal.ListLength) 6 scratch buffer refl t)
 
   -- what analysis left, by the code's copy of the recording
-  analysed-as : (copied : List ℤ) (aps : List DecorrPass) (v : List ℤ) (m : ℕ) → copied ≡ x → record { refusal = m; passes = aps; buffer = v } ≡ arrayAnswer true ps n copied
-      → arrayAnswer true ps n x ≡ record { refusal = m; passes = aps; buffer = v }
-  analysed-as copied aps v m c e = sym (e ∙ ap (arrayAnswer true ps n) c)
+  analysed-as : (copied : List ℤ) (aps : List DecorrPass) (v : List ℤ) (m : ℕ) → copied ≡ x → record { refusal = m; passes = aps; buffer = v } ≡ arrayAnswer Analysis ps n copied
+      → arrayAnswer Analysis ps n x ≡ record { refusal = m; passes = aps; buffer = v }
+  analysed-as copied aps v m c e = sym (e ∙ ap (arrayAnswer Analysis ps n) c)
 
   -- the definition, by what analysis left
-  by-analysis : (aps : List DecorrPass) (v : List ℤ) (m : ℕ) → length scratch ≡ length x → arrayAnswer true ps n x ≡ record { refusal = m; passes = aps; buffer = v }
+  by-analysis : (aps : List DecorrPass) (v : List ℤ) (m : ℕ) → length scratch ≡ length x → arrayAnswer Analysis ps n x ≡ record { refusal = m; passes = aps; buffer = v }
       → tripEntry ps n x entropy scratch buffer
       ≡ unlessTrip m v buffer (unlessTrip (packEntry v entropy (length x / 2) buffer .refusal) v buffer (tripBack x (packEntry v entropy (length x / 2) buffer)))
   unfolding tripEntry
@@ -135,7 +91,7 @@ module _ (ps : List DecorrPass) (n : ℕ) (x : List ℤ) (entropy : List ℕ) (s
 
   -- what analysis refuses
   pub trip-analysis : (copied : List ℤ) (aps : List DecorrPass) (v : List ℤ) (o : Outcome) (q : Refusal) → length scratch ≡ length x → copied ≡ x
-      → record { refusal = outcomeNumber o; passes = aps; buffer = v } ≡ arrayAnswer true ps n copied → o ≡ Outcome.Refused q
+      → record { refusal = outcomeNumber o; passes = aps; buffer = v } ≡ arrayAnswer Analysis ps n copied → o ≡ Outcome.Refused q
       → (r .outcome ≡ o) × (r .bits ≡ 0) × (r .same ≡ false) → tripToldOf r v buffer ≡ tripEntry ps n x entropy scratch buffer
   trip-analysis copied aps v o q h c e s t =
       let p : 0 < outcomeNumber o = rw s (number-positive q) in
@@ -144,7 +100,7 @@ module _ (ps : List DecorrPass) (n : ℕ) (x : List ℤ) (entropy : List ℕ) (s
 
   -- what packing left
   pub trip-packing : (copied : List ℤ) (aps : List DecorrPass) (v : List ℤ) (after : List ℕ) (o : Outcome) (w : PackAnswer) (q : Refusal) → length scratch ≡ length x → copied ≡ x
-      → record { refusal = outcomeNumber o; passes = aps; buffer = v } ≡ arrayAnswer true ps n copied → o ≡ Outcome.Accepted
+      → record { refusal = outcomeNumber o; passes = aps; buffer = v } ≡ arrayAnswer Analysis ps n copied → o ≡ Outcome.Accepted
       → packToldOf w after ≡ packEntry v entropy (length x / 2) buffer → w .outcome ≡ Outcome.Refused q
       → (r .outcome ≡ w .outcome) × (r .bits ≡ 0) × (r .same ≡ false) → tripToldOf r v after ≡ tripEntry ps n x entropy scratch buffer
   trip-packing copied aps v after o w q h c e s k u t =
@@ -159,24 +115,24 @@ module _ (ps : List DecorrPass) (n : ℕ) (x : List ℤ) (entropy : List ℕ) (s
   -- the recording is back
   pub trip-back : Fit x → (copied : List ℤ) (aps sps : List DecorrPass) (v list y : List ℤ) (after payload : List ℕ) (o z : Outcome) (w : PackAnswer) (d : ReadAnswer) (q : Bool)
       → length scratch ≡ length x → copied ≡ x
-      → record { refusal = outcomeNumber o; passes = aps; buffer = v } ≡ arrayAnswer true ps n copied → o ≡ Outcome.Accepted
+      → record { refusal = outcomeNumber o; passes = aps; buffer = v } ≡ arrayAnswer Analysis ps n copied → o ≡ Outcome.Accepted
       → packToldOf w after ≡ packEntry v entropy (length x / 2) buffer → w .outcome ≡ Outcome.Accepted
       → readToldOf d list ≡ readEntry entropy payload (length x / 2) v → payload ≡ take ((w .bits + 7) / 8) after
-      → record { refusal = outcomeNumber z; passes = sps; buffer = y } ≡ arrayAnswer false ps n list → SameIs x y q
+      → record { refusal = outcomeNumber z; passes = sps; buffer = y } ≡ arrayAnswer Decorrelation ps n list → SameIs x y q
       → r .outcome ≡ z → r .bits ≡ d .bits → r .same ≡ q → tripToldOf r y after ≡ tripEntry ps n x entropy scratch buffer
   trip-back fit copied aps sps v list y after payload o z w d q h c e s k u g b f i ro rb rs =
       let f₀ = length x / 2 in
       let p = packEntry v entropy f₀ buffer in
       let A = analysed-as copied aps v 0 c (ap (λ (a : ℕ). record { refusal = a; passes = aps; buffer = v }) (sym (ap outcomeNumber s)) ∙ e) in
-      let made = array-made ps n x (ap (λ (a : Answer). a .refusal) A) in
-      let ve : v ≡ analysed (take n ps) x .buffer = sym (ap (λ (a : Answer). a .buffer) A) ∙ ap (λ (a : Answer). a .buffer) (array-runs true ps n x made) in
+      let made = array-made Analysis ps n x (ap (λ (a : Answer). a .refusal) A) in
+      let ve : v ≡ analysed (take n ps) x .buffer = sym (ap (λ (a : Answer). a .buffer) A) ∙ ap (λ (a : Answer). a .buffer) (array-runs Analysis ps n x made) in
       let P : p .refusal ≡ 0 = sym (ap (λ (a : PackTold). a .refusal) k) ∙ ap outcomeNumber u in
       let acc = packing-accepted v entropy f₀ buffer P in
       let pb : payload ≡ packedBytes p ++ [] = b ∙ ap packedBytes k ∙ sym (append-nil (packedBytes p)) in
       let limit : length (packedBytes p ++ []) ≤ 4194304 = rw (append-nil (packedBytes p)) (omega (arith, bytes-few v entropy f₀ buffer acc, acc .frames-few)) in
       let R = g ∙ ap (λ (a : List ℕ). readEntry entropy a f₀ v) pb ∙ read-what-was-packed v entropy f₀ buffer [] v P limit (acc .list-is) in
       let size : length v ≤ 262144 = omega (arith, acc .list-is, acc .frames-few) in
-      let D = f ∙ ap (λ (a : ReadTold). arrayAnswer false ps n (a .list)) R ∙ array-runs false ps n v (record { few = made .few; size = size; valid = made .valid }) in
+      let D = f ∙ ap (λ (a : ReadTold). arrayAnswer Decorrelation ps n (a .list)) R ∙ array-runs Decorrelation ps n v (record { few = made .few; size = size; valid = made .valid }) in
       let back : y ≡ x =
       ap (λ (a : Answer). a .buffer) D ∙ ap (λ (a : List ℤ). decorrelated (take n ps) a .buffer) ve ∙ ap (λ (a : Chain). a .buffer) (decorrelated-analysed (take n ps) x fit) in
       told-is (outcomeNumber (r .outcome)) 0 (r .bits) (p .bits) (r .same) true y x after (p .bytes)

@@ -10,6 +10,7 @@ use lib.ListN.{length}
 use Rattle.answers.specs.Numbers.{outcomeNumber}
 use Rattle.passes.specs.declared.DecorrPass.{DecorrPass}
 use Rattle.passes.specs.Run.{Fit}
+use Rattle.passes.specs.declared.Direction.the-variants.{Analysis}
 use Rattle.decorrelation.specs.Lists.{arrayAnswer}
 use Rattle.packing.specs.Entry.{PackTold, packEntry}
 use Rattle.roundtrip.specs.declared.TripAnswer.{TripAnswer}
@@ -43,7 +44,7 @@ tripBack recording p = record { refusal = 0; bits = p .bits; same = true; scratc
 unfoldable pub tripEntry : List DecorrPass → ℕ → List ℤ → List ℕ → List ℤ → List ℕ → TripTold
 tripEntry passes count recording entropy scratch buffer =
     cond (eqb (length scratch) (length recording))
-    (let a = arrayAnswer true passes count recording in
+    (let a = arrayAnswer Analysis passes count recording in
     let p = packEntry (a .buffer) entropy (length recording / 2) buffer in
     unlessTrip (a .refusal) (a .buffer) buffer (unlessTrip (p .refusal) (a .buffer) buffer (tripBack recording p)))
     (tripRefused 6 scratch buffer)
