@@ -1,10 +1,12 @@
 -- What holds of the two entries together. A recording, or a residual list, is a list of 32-bit numbers (`Fit`); passes are well-made when
 -- every term is valid, whatever their weights, deltas and histories hold. Assumes nothing.
 use mathlib.Core.Path.{_≡_, refl, sym, ap, _∙_}
-use mathlib.Core.Bool.{Bool, true}
+use mathlib.Core.Bool.{Bool, true, false, cond}
 use mathlib.Core.List.{List, _++_}
 use Prim.Native.Nat.{ℕ, zero, suc, _≤_}
-use borrow.Author.Tests.{le-ltb}
+use native.Mathlib.Omega.{arith}
+use borrow.Author.Tests.{le-ltb, ltb-false}
+use lib.Dec.{ltb}
 use lib.IntN.{ℤ}
 use lib.ListN.{length, take, drop, take-append-drop}
 use lib.Seq.{length-take-le}
@@ -113,3 +115,33 @@ array-as-list dir ps n l k =
     rw (length-take-le n ps k)
     (ap (λ qs. unlessRefused number (kept qs l) (done (followed (drop n ps) (chained dir (take n ps) l)))) (sym whole)
     ∙ extended-by number (chained dir (take n ps) l) (take n ps) (drop n ps) l)
+
+-- what the array form accepts: at most 16 passes, at most 262,144 elements, and valid terms
+pub record ArrayAccepted (ps : List DecorrPass) (n : ℕ) (l : List ℤ) : Type 0 where
+  pub few : n ≤ maxPasses
+  pub size : length l ≤ maxElements
+  pub valid : allValid (take n ps) ≡ true
+
+-- then the first n passes are run
+pub array-runs : (dir : Direction) (ps : List DecorrPass) (n : ℕ) (l : List ℤ) → ArrayAccepted ps n l → arrayAnswer dir ps n l ≡ done (followed (drop n ps) (chained dir (take n ps) l))
+unfolding arrayAnswer listNumber
+array-runs dir ps n l h = rw (number-by dir (allValid (take n ps)) n (length l), le-ltb maxElements (length l) (h .size), le-ltb maxPasses n (h .few), h .valid)
+
+number-told : (k : ℕ) (ps : List DecorrPass) (l : List ℤ) (c : Chain) → unlessRefused k (kept ps l) (done c) .refusal ≡ k
+number-told zero ps l c = refl
+number-told (suc k) ps l c = refl
+
+no-refusal : (s t v : Bool) → _≡_ {A = ℕ} (cond s 5 (cond t 9 (cond v 0 7))) 0 → (s ≡ false) × (t ≡ false) × (v ≡ true)
+no-refusal true t v e = absurd (omega arith)
+no-refusal false true v e = absurd (omega arith)
+no-refusal false false true e = (refl, refl, refl)
+no-refusal false false false e = absurd (omega arith)
+
+-- an answer without a refusal tells that it was accepted
+pub array-made : (dir : Direction) (ps : List DecorrPass) (n : ℕ) (l : List ℤ) → arrayAnswer dir ps n l .refusal ≡ 0 → ArrayAccepted ps n l
+unfolding arrayAnswer listNumber
+array-made dir ps n l e =
+    let v = allValid (take n ps) in
+    let t = no-refusal (ltb maxElements (length l)) (ltb maxPasses n) v
+    (sym (number-by dir v n (length l)) ∙ sym (number-told (numberBy dir v n (length l)) ps l (followed (drop n ps) (chained dir (take n ps) l))) ∙ e) in
+    record { few = ltb-false maxPasses n (t .1); size = ltb-false maxElements (length l) (t .0); valid = t .2 }

@@ -1,21 +1,18 @@
+-- `capi::pass_lists::wv_pass` meets its contract: its numbers reach the call as they are.
+-- Assumes nothing.
+use mir.Syntax.{w8, w32}
+use mir.ValLaws.{toZ-ofZ}
 use borrow.Author.Needs.{needs}
 use Rattle.capi.proofs.pass_lists.wv_pass.Statement.{statement}
 use Rattle.capi.proofs.pass_lists.wv_pass.Tie as tie
-use Rattle.capi.proofs.pass_lists.wv_pass.Reads as reads
-use Rattle.capi.proofs.pass_lists.wv_pass.Lts as lts
-use Rattle.pass_slots.proofs.make_pass.Reads as make-pass-reads
 
--- src/pass_lists.rt:33:5
-make-pass-requires : tie.Need-make-pass-requires
-make-pass-requires c κs = search needs
-
--- src/pass_lists.rt:11:1
-same-length : tie.Need-same-length
-same-length c = search needs
-
--- src/pass_lists.rt:11:1
 returns : tie.Need-returns
-returns c = ?
+returns c =
+    let s = c .before .before .before in
+    let a = s .args in
+    let f = s .fits in
+    rw (toZ-ofZ w8 (a .term) (f .term), toZ-ofZ w32 (a .delta) (f .delta), toZ-ofZ w32 (a .weight-a) (f .weight-a), toZ-ofZ w32 (a .weight-b) (f .weight-b))
+    at (c .before .make-pass .ensures)
 
 pub wv-pass-spec : {M : Type 1} → statement M
-wv-pass-spec = tie.close (tie.spec make-pass-requires same-length returns)
+wv-pass-spec = tie.close (tie.spec (λ c κs. search needs) (λ c. search needs) returns)
