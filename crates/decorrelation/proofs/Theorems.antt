@@ -127,21 +127,16 @@ pub array-runs : (dir : Direction) (ps : List DecorrPass) (n : ℕ) (l : List �
 unfolding arrayAnswer listNumber
 array-runs dir ps n l h = rw (number-by dir (allValid (take n ps)) n (length l), le-ltb maxElements (length l) (h .size), le-ltb maxPasses n (h .few), h .valid)
 
-number-told : (k : ℕ) (ps : List DecorrPass) (l : List ℤ) (c : Chain) → unlessRefused k (kept ps l) (done c) .refusal ≡ k
-number-told zero ps l c = refl
-number-told (suc k) ps l c = refl
-
 no-refusal : (s t v : Bool) → _≡_ {A = ℕ} (cond s 5 (cond t 9 (cond v 0 7))) 0 → (s ≡ false) × (t ≡ false) × (v ≡ true)
 no-refusal true t v e = absurd (omega arith)
 no-refusal false true v e = absurd (omega arith)
 no-refusal false false true e = (refl, refl, refl)
 no-refusal false false false e = absurd (omega arith)
 
--- an answer without a refusal tells that it was accepted
-pub array-made : (dir : Direction) (ps : List DecorrPass) (n : ℕ) (l : List ℤ) → arrayAnswer dir ps n l .refusal ≡ 0 → ArrayAccepted ps n l
-unfolding arrayAnswer listNumber
-array-made dir ps n l e =
+-- so it is where no refusal applies
+pub array-accepts : (dir : Direction) (ps : List DecorrPass) (n : ℕ) (l : List ℤ) → numberBy dir (allValid (take n ps)) n (length l) ≡ 0 → ArrayAccepted ps n l
+unfolding listNumber
+array-accepts dir ps n l e =
     let v = allValid (take n ps) in
-    let t = no-refusal (ltb maxElements (length l)) (ltb maxPasses n) v
-    (sym (number-by dir v n (length l)) ∙ sym (number-told (numberBy dir v n (length l)) ps l (followed (drop n ps) (chained dir (take n ps) l))) ∙ e) in
+    let t = no-refusal (ltb maxElements (length l)) (ltb maxPasses n) v (sym (number-by dir v n (length l)) ∙ e) in
     record { few = ltb-false maxPasses n (t .1); size = ltb-false maxElements (length l) (t .0); valid = t .2 }
