@@ -7,7 +7,7 @@ use answers::outcome_number;
 use decorrelation::DecorrPass;
 use decorrelation::decorrelate_array;
 use decorrelation::recorrelate_array;
-use packing::packing::encode_packed_samples_stereo_from_entropy;
+use packing::writing::encode_packed_samples_stereo_from_entropy;
 use samples::reading::decode_packed_samples_stereo_from_entropy;
 
 // How much of each part a block holds.
