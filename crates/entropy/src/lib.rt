@@ -10,7 +10,8 @@ ghost use lib.ListN.{length};
 ghost use Rattle.answers.specs.Numbers.{outcomeNumber};
 ghost use Rattle.entropy.specs.Medians.{mediansOf, pairOf, zeroPair};
 ghost use Rattle.entropy.specs.Entropy.{wordSet, entropyInfo, entropyRefusal, isMono};
-ghost use Rattle.entropy.specs.Seed.{anyNegative, notStereo, seedRefusal, seedSet, seedMedians};
+ghost use Rattle.entropy.specs.Seed.{anyNegative, notStereo, seedSet};
+ghost use Rattle.entropy.specs.Seed.{seedRefusal, seedMedians};
 
 // The three adaptive medians of one channel.
 pub struct AdaptiveMedians {

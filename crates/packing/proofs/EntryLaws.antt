@@ -1,4 +1,5 @@
--- The packing entry: what an answer tells of the input, each way out, and the answer of an accepted list.
+-- The packing entry: what an answer tells of the input, each way out, and the answer of an accepted
+-- list.
 -- Assumes nothing.
 use mathlib.Core.Path.{_≡_, refl, sym, ap, _∙_}
 use mathlib.Core.Bool.{Bool, true, false, cond}
@@ -10,7 +11,7 @@ use lib.ListN.{length, take}
 use Rattle.answers.specs.declared.Outcome.{Outcome}
 use Rattle.answers.specs.declared.Refusal.{Refusal}
 use Rattle.answers.specs.Guard.{orElse, unlessRefused}
-use Rattle.answers.specs.Limits.{maxFrames, bytesPerFrame}
+use Rattle.answers.specs.Limits.{bytesPerFrame, maxWordBits, maxElements}
 use Rattle.answers.specs.Numbers.{outcomeNumber}
 use Rattle.answers.proofs.GuardLaws.{refused-first, guard-refused, guard-accepted}
 use Rattle.answers.proofs.NumberLaws.{number-positive}
@@ -18,17 +19,19 @@ use Rattle.bits.specs.Laid.{bytesHolding}
 use Rattle.overlay.specs.Overlay.{overlay}
 use Rattle.overlay.proofs.OverlayLaws.{overlay-take}
 use Rattle.bits.proofs.LaidLaws.{put-start, length-holding}
-use Rattle.entropy.specs.Medians.{MedianPair, pairOf, Small}
-use Rattle.entropy.specs.Seed.{seedRefusal, seedMedians}
+use Rattle.entropy.specs.Medians.{MedianPair, pairOf}
+use Rattle.entropy.specs.Seed.{seedMedians}
 use Rattle.entropy.proofs.SeedBounds.{seeds-small}
 use Rattle.word_state.specs.State.{start}
-use Rattle.packing.specs.Packing.{spanned, packed}
+use Rattle.word_bits.specs.Residuals.{spanned}
+use Rattle.packing.specs.Packing.{packed}
 use Rattle.packing.specs.Entry.{PackTold, viewPacking, packedFrom, tellPacking, refusePacking, refusalBeforeSpan, spanRefusal, packRefusal, packEntry, packedBytes}
 use Rattle.packing.specs.View.{PackedIs, Refuses}
 use Rattle.packing.specs.declared.PackAnswer.{PackAnswer}
 use Rattle.packing.specs.declared.writing.Packed.{Packed}
+use Rattle.packing.proofs.InStepLaws.{start-inv}
 use Rattle.packing.proofs.RefusalLaws.{Ready, before-none, ready}
-use Rattle.packing.proofs.SizeLaws.{bytes-enough}
+use Rattle.packing.proofs.SizeLaws.{packed-long, bytes-enough}
 
 -- ---- what an answer tells
 
@@ -91,6 +94,31 @@ module _ (residuals : List ℤ) (entropy : List ℕ) (frames : ℕ) (buffer : Li
       let s = seeds-small entropy in
       rw (bytes-are a)
       (bytes-enough (seedMedians entropy .left) (seedMedians entropy .right) residuals frames (s .0) (s .1) (a .span) (a .before .frames-few) (a .before .list-is))
+
+  -- they lie within the buffer
+  pub bits-within : Accepted residuals entropy frames buffer → (packEntry residuals entropy frames buffer .bits + 7) / 8 ≤ length buffer
+  bits-within a =
+      let s = seeds-small entropy in
+      let w = packedFrom entropy residuals .bits in
+      let b : packEntry residuals entropy frames buffer .bits ≡ length w = ap (λ (t : PackTold). t .bits) (packed-is a) in
+      let q = bytes-enough (seedMedians entropy .left) (seedMedians entropy .right) residuals frames (s .0) (s .1) (a .span) (a .before .frames-few) (a .before .list-is) in
+      rw b (omega (arith, q, length-holding w, a .before .enough))
+
+  -- at most 111 bits for each of 262,144 residuals, and none on refusal
+  pub bits-few : packEntry residuals entropy frames buffer .bits ≤ maxWordBits * maxElements
+  unfolding packEntry
+  bits-few = go (packRefusal residuals entropy frames buffer) refl
+    where
+      go : (n : ℕ) → packRefusal residuals entropy frames buffer ≡ n
+          → unlessRefused n (refusePacking buffer) (tellPacking buffer (packedFrom entropy residuals)) .bits ≤ maxWordBits * maxElements
+      go zero e =
+          let a = packing-accepted (refusal-is ∙ e) in
+          let s = seeds-small entropy in
+          let l = seedMedians entropy .left in
+          let r = seedMedians entropy .right in
+          let few : length residuals ≤ maxElements = omega (arith, a .before .list-is, a .before .frames-few) in
+          omega (arith, few, packed-long (start l r) residuals (start-inv l r residuals (s .0) (s .1)) (a .span) (omega arith))
+      go (suc n) e = omega arith
 
 -- ---- the ways out of the code
 

@@ -1,23 +1,26 @@
--- State and residuals in step: no more zeros are owed than stand next, a set flag tells of the next count, medians have 32 bits; so it stays after each word.
+-- State and residuals in step: no more zeros are owed than stand next, a set flag tells of the next
+-- count, medians have 32 bits; so it stays after each word.
 -- Assumes nothing.
 use mathlib.Core.Path.{_≡_, refl}
 use mathlib.Core.Bool.{Bool, true, false, not, cond}
-use mathlib.Core.List.{List, [], _∷_}
+use mathlib.Core.List.{List, _∷_}
 use Prim.Native.Nat.{ℕ, zero, suc, _≤_}
 use native.Mathlib.Omega.{arith}
 use borrow.Author.Tests.{not-true}
-use lib.IntN.{ℤ, pos, negsuc}
-use lib.ListN.{length}
+use lib.IntN.{ℤ}
 use lib.Signed.{mag}
+use Rattle.word_bits.proofs.ZeroLaws.{zeros-head}
 use Rattle.entropy.proofs.SeedBounds.{none-small}
 use Rattle.medians.proofs.AdaptationLaws.{adapt-small}
-use Rattle.entropy.specs.Medians.{Medians, mediansOf, zeroSet, Small}
+use Rattle.entropy.specs.Medians.{Medians, Small}
 use Rattle.medians.specs.Adaptation.{adapt}
 use Rattle.word_state.specs.State.{State, start, due, other, flip, side, paid, inRun, unbroken, cleared, flagged, after, runDue, runHere, onZeros}
 use Rattle.word_state.proofs.FlagLaws.{clash, both, due-flags}
-use Rattle.packing.specs.Counts.{count}
-use Rattle.packing.specs.Packing.{zeros, ahead, Out, behind, silent, valueOut, plainOut, freshOut, wordOut, prefixOf}
-use Rattle.packing.specs.Written.{runField, prefixField}
+use Rattle.word_bits.specs.Counts.{count}
+use Rattle.word_bits.specs.Residuals.{zeros, ahead}
+use Rattle.packing.specs.Packing.{Out, behind, silent, valueOut, plainOut, freshOut, wordOut}
+use Rattle.word_bits.specs.Word.{prefixOf}
+use Rattle.word_bits.specs.Written.{runField, prefixField}
 
 -- how the state and the residuals that are left hang together
 pub record Inv (s : State) (vs : List ℤ) : Type 0 where
@@ -45,23 +48,6 @@ due-small {s} i = side-small (s .channel) (i .small-left) (i .small-right)
 -- and so have the others
 pub other-small : {s : State} {vs : List ℤ} → Inv s vs → Small (other s)
 other-small {s} i = side-small (s .channel) (i .small-right) (i .small-left)
-
--- ---- stretches of zeros
-
--- the first residual of a stretch of zeros is 0, and the stretch goes on
-pub zeros-head : (v : ℤ) (vs : List ℤ) (d : ℕ) → suc d ≤ zeros (v ∷ vs) → (pos 0 ≡ v) × (d ≤ zeros vs)
-unfolding zeros
-zeros-head (pos zero) vs d h = (refl, omega arith)
-zeros-head (pos (suc n)) vs d h = absurd (omega arith)
-zeros-head (negsuc n) vs d h = absurd (omega arith)
-
--- no stretch is longer than the list
-pub zeros-le : (vs : List ℤ) → zeros vs ≤ length vs
-unfolding zeros
-zeros-le [] = omega arith
-zeros-le (pos zero ∷ vs) = omega (arith, zeros-le vs)
-zeros-le (pos (suc n) ∷ vs) = omega arith
-zeros-le (negsuc n ∷ vs) = omega arith
 
 -- neither flag is set where a run length stands
 pub here-flags : (s : State) → runHere s ≡ true → (s .lastZero ≡ false) × (s .lastOne ≡ false)

@@ -2,101 +2,32 @@
 -- Assumes nothing.
 use mathlib.Core.Path.{_≡_, refl, sym, ap, ap₂, _∙_}
 use mathlib.Core.Bool.{Bool, true, false}
-use mathlib.Core.List.{List, [], _∷_, _++_, append-assoc, append-nil}
-use Prim.Native.Nat.{ℕ, zero, suc, _+_, _-_, _*_, _%_, _^_, _≤_, _<_}
+use mathlib.Core.List.{List, [], _∷_, _++_}
+use Prim.Native.Nat.{ℕ, suc, _+_, _-_, _*_, _%_, _^_, _≤_, _<_}
 use native.Mathlib.Numerals.{add-one}
 use native.Mathlib.Omega.{arith}
-use lib.IntN.{ℤ, pos, negsuc}
+use lib.IntN.{ℤ, pos}
 use lib.ListN.{length, drop, getD, set, length-append, length-drop, length-set, drop-of-length-le}
 use lib.Seq.{drop-cons, drop-drop}
-use lib.Signed.{mag}
 use Rattle.answers.specs.Limits.{maxElements, maxWordBits}
 use Rattle.entropy.proofs.SeedBounds.{none-small}
 use Rattle.bits.specs.Laid.{put}
 use Rattle.bits.proofs.LaidLaws.{Bytes, put-put, put-nil}
 use Rattle.entropy.specs.declared.AdaptiveMedians.{AdaptiveMedians}
 use Rattle.entropy.specs.Medians.{Medians, MedianPair, mediansOf, pairOf, zeroSet, Small}
-use Rattle.word_state.specs.State.{State, start, side, flip, paid, inRun}
-use Rattle.word_state.proofs.StateLaws.{noSet, there, turned, picked}
+use Rattle.word_state.specs.State.{State, start, flip, inRun}
+use Rattle.word_state.proofs.StateLaws.{noSet, turned}
 use Rattle.word_state.proofs.FlagLaws.{clash}
-use Rattle.packing.specs.Packing.{zeros, spanned, Out, behind, silent, wordOut, packed}
+use Rattle.word_bits.specs.Residuals.{spanned}
+use Rattle.packing.specs.Packing.{Out, behind, wordOut, packed}
 use Rattle.packing.specs.View.{Seen, Next, RunTakes, PackedIs}
 use Rattle.packing.specs.declared.writing.Packed.{Packed}
-use Rattle.packing.proofs.LongLaws.{word-long}
-use Rattle.packing.proofs.InStepLaws.{Inv, start-inv, due-small, other-small, zeros-le, zeros-head, kept}
-use Rattle.packing.proofs.SpanLaws.{spanned-at}
-
--- ---- the definition, word by word
-
--- w is written, and the first of the residuals that are left is written next
-packing-on : (w : List Bool) (s : State) (v : ℤ) (vs : List ℤ)
-    → behind w (packed s (v ∷ vs)) ≡ behind (w ++ wordOut s v vs .bits) (packed (wordOut s v vs .next) vs)
-unfolding packed
-packing-on w s v vs =
-    let o = wordOut s v vs in
-    ap (λ (l : List Bool). record { bits = l; next = packed (o .next) vs .next }) (sym (append-assoc w (o .bits) (packed (o .next) vs .bits)))
-
--- none is left
-packing-end : (w : List Bool) (s : State) → behind w (packed s []) ≡ record { bits = w; next = s }
-unfolding packed
-packing-end w s = ap (λ (l : List Bool). record { bits = l; next = s }) (append-nil w)
-
--- ---- a debt is paid
-
--- the zeros of a debt write no bits, and leave all but the channel
-record Settled (s : State) (l : List ℤ) (d j : ℕ) : Type 0 where
-  t : State
-  same : packed s l ≡ packed t (drop d l)
-  owes : t .debt ≡ 0
-  left-is : t .left ≡ s .left
-  right-is : t .right ≡ s .right
-  zero-is : t .lastZero ≡ s .lastZero
-  one-is : t .lastOne ≡ s .lastOne
-  break-is : t .runBreak ≡ s .runBreak
-  channel-is : t .channel ≡ (j + d) % 2
-
--- a word out of a debt writes nothing
-word-paid : (s : State) (v : ℤ) (l : List ℤ) (d : ℕ) → s .debt ≡ suc d → wordOut s v l ≡ silent (paid d s)
-unfolding wordOut
-word-paid s v l d e = rw e
-
--- and so the words behind it are all that is written
-packed-paid : (s : State) (v : ℤ) (l : List ℤ) (d : ℕ) → s .debt ≡ suc d → packed s (v ∷ l) ≡ packed (paid d s) l
-unfolding packed
-packed-paid s v l d e = ap (λ (o : Out). behind (o .bits) (packed (o .next) l)) (word-paid s v l d e)
-
--- so all zeros of a debt are passed over
-settle : (d j : ℕ) (s : State) (l : List ℤ) → s .debt ≡ d → d ≤ zeros l → s .channel ≡ j % 2 → Settled s l d j
-unfolding zeros paid
-settle zero j s l e h c = record {
-  t = s;
-  same = refl;
-  owes = e;
-  left-is = refl;
-  right-is = refl;
-  zero-is = refl;
-  one-is = refl;
-  break-is = refl;
-  channel-is = c ∙ omega arith;
-}
-settle (suc d) j s [] e h c = absurd (omega arith)
-settle (suc d) j s (pos (suc n) ∷ l) e h c = absurd (omega arith)
-settle (suc d) j s (negsuc n ∷ l) e h c = absurd (omega arith)
-settle (suc d) j s (pos zero ∷ l) e h c =
-    let r = settle d (j + 1) (paid d s) l refl (omega arith) (ap flip c ∙ turned j) in
-    record {
-      t = r .t;
-      same = packed-paid s (pos 0) l d e ∙ r .same;
-      owes = r .owes;
-      left-is = r .left-is;
-      right-is = r .right-is;
-      zero-is = r .zero-is;
-      one-is = r .one-is;
-      break-is = r .break-is;
-      channel-is = r .channel-is ∙ omega arith;
-    }
-
--- ---- the loop
+use Rattle.packing.proofs.PackedLaws.{packing-on, packing-end, settle}
+use Rattle.packing.proofs.SetLaws.{set-is, other-is, replaced}
+use Rattle.packing.proofs.SizeLaws.{word-long}
+use Rattle.packing.proofs.InStepLaws.{Inv, start-inv, due-small, other-small, kept}
+use Rattle.word_bits.proofs.ZeroLaws.{zeros-le, zeros-head}
+use Rattle.word_bits.proofs.SpanLaws.{spanned-at}
 
 -- w is written, and in this state the residuals from i on are left
 pub record Loop (before : List ℕ) (vs : List ℤ) (s₀ : State) (out : List ℕ) (sets : List AdaptiveMedians) (place : ℕ) (lz lo brk : Bool) (i : ℕ) : Type 0 where
@@ -118,29 +49,6 @@ pub record Loop (before : List ℕ) (vs : List ℤ) (s₀ : State) (out : List �
   pub one-is : state .lastOne ≡ lo
   pub break-is : state .runBreak ≡ brk
   pub inv : Inv state (drop i vs)
-
--- one of the two sets, and the other
-set-is : (sets : List AdaptiveMedians) (c : ℕ) → length sets ≡ 2 → c < 2 → side c (mediansOf (getD sets 0 zeroSet)) (mediansOf (getD sets 1 zeroSet)) ≡ mediansOf (getD sets c noSet)
-set-is sets c e h = picked sets c h ∙ ap mediansOf (sym (there sets c e h))
-
--- the other of them
-other-is : (sets : List AdaptiveMedians) (c : ℕ) → length sets ≡ 2 → c < 2 → side c (mediansOf (getD sets 1 zeroSet)) (mediansOf (getD sets 0 zeroSet)) ≡ mediansOf (getD sets (1 - c) noSet)
-other-is sets zero e h = ap mediansOf (sym (there sets 1 e (omega arith)))
-other-is sets (suc zero) e h = ap mediansOf (sym (there sets 0 e (omega arith)))
-other-is sets (suc (suc c)) e h = absurd (omega arith)
-
--- one of them replaced
-record Replaced (sets : List AdaptiveMedians) (x : AdaptiveMedians) (c : ℕ) : Type 0 where
-  at-left : side c (mediansOf x) (mediansOf (getD sets 0 zeroSet)) ≡ mediansOf (getD (set sets c x) 0 zeroSet)
-  at-right : side c (mediansOf (getD sets 1 zeroSet)) (mediansOf x) ≡ mediansOf (getD (set sets c x) 1 zeroSet)
-
--- the set of channel c is the new one, the other is as it was
-replaced : (sets : List AdaptiveMedians) (x : AdaptiveMedians) (c : ℕ) → length sets ≡ 2 → c < 2 → Replaced sets x c
-replaced [] x c l h = absurd (omega arith)
-replaced (a ∷ []) x c l h = absurd (omega arith)
-replaced (a ∷ b ∷ l) x zero e h = record { at-left = refl; at-right = refl }
-replaced (a ∷ b ∷ l) x (suc zero) e h = record { at-left = refl; at-right = refl }
-replaced (a ∷ b ∷ l) x (suc (suc c)) e h = absurd (omega arith)
 
 -- nothing is written yet
 pub loop-start : (before : List ℕ) (vs : List ℤ) (sets : List AdaptiveMedians) → Bytes before → length sets ≡ 2 → Small (pairOf sets .left) → Small (pairOf sets .right)

@@ -1,4 +1,5 @@
--- What packing refuses before it looks at a residual: each way out of the tests, and what holds where none applies.
+-- What packing refuses before it looks at a residual: each way out of the tests, and what holds
+-- where none applies.
 -- Assumes nothing.
 use mathlib.Core.Path.{_≡_, refl, sym, ap, _∙_}
 use mathlib.Core.Bool.{Bool, true, false, cond}

@@ -1,4 +1,5 @@
--- A turn of the packing loop writes what the definition writes for its residual, in every state that has its medians and flags.
+-- A turn of the packing loop writes what the definition writes for its residual, in every state
+-- that has its medians and flags.
 -- Assumes nothing.
 use mathlib.Core.Path.{_≡_, refl, sym, ap, _∙_, subst}
 use mathlib.Core.Bool.{Bool, true, false, not, cond, _&&_}
@@ -13,16 +14,18 @@ use Rattle.entropy.specs.Medians.{Medians}
 use Rattle.medians.specs.Adaptation.{adapt}
 use Rattle.word_state.specs.State.{State, due, other, side, flip, inRun, unbroken, cleared, flagged, after, runDue, runHere, onZeros}
 use Rattle.word_state.proofs.FlagLaws.{here-due}
-use Rattle.packing.specs.Counts.{count}
-use Rattle.packing.specs.Packing.{zeros, ahead, Out, behind, silent, prefixOf, valueOut, plainOut, freshOut, wordOut}
-use Rattle.packing.specs.Written.{runField, prefixField}
-use Rattle.packing.specs.View.{wordField, WordIs, BeforeIs, Seen, Next, Turned}
-use Rattle.packing.specs.declared.word.Before.{Before}
-use Rattle.packing.specs.declared.word.Turn.{Turn}
-use Rattle.packing.specs.declared.word.Word.{Word}
+use Rattle.word_bits.specs.Counts.{count}
+use Rattle.word_bits.specs.Residuals.{zeros, ahead}
+use Rattle.packing.specs.Packing.{Out, behind, silent, valueOut, plainOut, freshOut, wordOut}
+use Rattle.word_bits.specs.Word.{prefixOf, wordField}
+use Rattle.word_bits.specs.Written.{runField, prefixField}
+use Rattle.word_bits.specs.View.{WordIs, BeforeIs}
+use Rattle.packing.specs.View.{Seen, Next, Turned}
+use Rattle.word_bits.specs.declared.word.Before.{Before}
+use Rattle.packing.specs.declared.turn.Turn.{Turn}
+use Rattle.word_bits.specs.declared.word.Word.{Word}
 use Rattle.packing.proofs.InStepLaws.{here-flags}
-use Rattle.packing.proofs.LongLaws.{run-zero-long}
-use Rattle.packing.proofs.PutLaws.{put-both}
+use Rattle.word_bits.proofs.PutLaws.{put-both}
 
 -- ---- the word
 
@@ -97,21 +100,6 @@ word-of s v vs true e a z =
     (record { bits-are = ap (λ (f : List Bool). runField (zeros (v ∷ vs)) ++ f) (w .bits-are); next-is = w .next-is })
 word-of s v vs false e a z =
     subst (λ (o : Out). WordOf s v (ahead (other s) vs) (s .lastZero) [] o) (sym (word-bare s v vs e a)) (plain-word s v vs)
-
--- a run length that was written is the definition's
-pub before-run : (before after : List ℕ) (at : ℕ) (vs : List ℤ) (run place : ℕ) → run ≡ zeros vs → (after ≡ put before at (runField run)) × (place ≡ at + length (runField run))
-    → BeforeIs before after at true vs (record { place = place; run = run })
-before-run before after at vs run place e p = record {
-  put-is = record { bytes = p .0 ∙ ap (λ (n : ℕ). put before at (runField n)) e; place = p .1 ∙ ap (λ (n : ℕ). at + length (runField n)) e };
-  run-is = e;
-}
-
--- one that tells of no zeros takes one bit at the most
-pub before-few : (before after : List ℕ) (at : ℕ) (t : Bool) (vs : List ℤ) (b : Before) → BeforeIs before after at t vs b → b .run ≡ 0 → b .place ≤ at + 1
-before-few before after at true vs b h n =
-    let z : zeros vs ≡ 0 = sym (h .run-is) ∙ n in
-    omega (arith, h .put-is .place, ap (λ (x : ℕ). length (runField x)) z, run-zero-long)
-before-few before after at false vs b h n = omega (arith, h .put-is .place)
 
 -- ---- the turn
 

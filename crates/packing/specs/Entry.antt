@@ -1,4 +1,5 @@
--- Document 01, "Packing" (K8, K9) and "Why each operation says no" (X6): what the packing entry answers, and what the lent buffer then holds.
+-- Document 01, "Packing" (K8, K9) and "Why each operation says no" (X6): what the packing entry
+-- answers, and what the lent buffer then holds.
 -- Assumes nothing.
 use mathlib.Core.Bool.{cond}
 use mathlib.Core.List.{List}
@@ -14,7 +15,8 @@ use Rattle.overlay.specs.Overlay.{overlay}
 use Rattle.entropy.specs.Medians.{MedianPair, pairOf, zeroPair}
 use Rattle.entropy.specs.Seed.{seedRefusal, seedMedians}
 use Rattle.word_state.specs.State.{start}
-use Rattle.packing.specs.Packing.{spanned, Out, packed}
+use Rattle.word_bits.specs.Residuals.{spanned}
+use Rattle.packing.specs.Packing.{Out, packed}
 use Rattle.packing.specs.declared.PackAnswer.{PackAnswer}
 
 -- the refusal's number (0: accepted), bits written, medians after; and the bytes of the lent buffer
@@ -45,8 +47,8 @@ tellPacking buffer o = record {
 abbrev pub refusePacking : List ℕ → ℕ → PackTold
 refusePacking buffer number = record { refusal = number; bits = 0; medians = zeroPair; bytes = buffer }
 
--- document 01 (X6), by the lengths and the entropy payload alone: "5, over 131,072 frames; 6, residual list not twice the frames; 1; 2; 11, under 28
--- bytes per frame lent"; 0 for none of them
+-- document 01 (X6), by the lengths and the entropy payload alone: "5, over 131,072 frames; 6,
+-- residual list not twice the frames; 1; 2; 11, under 28 bytes per frame lent"; 0 for none of them
 unfoldable pub refusalBeforeSpan : ℕ → List ℕ → ℕ → ℕ → ℕ
 refusalBeforeSpan elements entropy frames room =
     cond (ltb maxFrames frames) 5 (
@@ -68,6 +70,7 @@ unfoldable pub packEntry : List ℤ → List ℕ → ℕ → List ℕ → PackTo
 packEntry residuals entropy frames buffer =
     unlessRefused (packRefusal residuals entropy frames buffer) (refusePacking buffer) (tellPacking buffer (packedFrom entropy residuals))
 
--- document 01, "The words of demand 3" (M5): "The packed bytes are those that hold the bits written."
+-- document 01, "The words of demand 3" (M5): "The packed bytes are those that hold the bits
+-- written."
 abbrev pub packedBytes : PackTold → List ℕ
 packedBytes told = take ((told .bits + 7) / 8) (told .bytes)

@@ -1,24 +1,25 @@
-// All words, and the entry. The loop holds the medians of both channels, the flags and the place in locals; a run is one turn, so that no debt is held: the
-// zeros that it tells of are passed over. Each turn is lent the rest of the buffer from its first unfinished byte.
+// All words, and the entry. The loop holds the medians of both channels, the flags and the place in
+// locals; a run is one turn, so that no debt is held: the zeros that it tells of are passed over.
+// Each turn is lent the rest of the buffer from its first unfinished byte.
 ghost use mathlib.Core.Path.{_≡_};
 ghost use mathlib.Core.Bool.{true};
 ghost use Prim.Native.Nat.{_*_, _≤_};
 ghost use lib.ListN.{length};
 ghost use Rattle.answers.specs.Limits.{maxElements};
 ghost use Rattle.entropy.specs.Medians.{pairOf, Small};
-ghost use Rattle.packing.specs.Packing.{spanned};
+ghost use Rattle.word_bits.specs.Residuals.{spanned};
 ghost use Rattle.answers.specs.Numbers.{outcomeNumber};
 ghost use Rattle.packing.specs.Entry.{viewPacking, refusalBeforeSpan, packEntry};
 ghost use Rattle.packing.specs.View.{PackedIs, Refuses};
 use crate::PackAnswer;
-use crate::word::put_turn;
-use crate::zeros::in_span;
+use crate::turn::put_turn;
 use answers::Outcome;
 use answers::Refusal;
 use answers::limits::BYTES_PER_FRAME;
 use answers::limits::MAX_FRAMES;
 use entropy::AdaptiveMedians;
 use entropy::stereo_pair_from_entropy;
+use word_bits::span::in_span;
 
 // The bits written, and the medians after them.
 pub struct Packed {
@@ -28,9 +29,12 @@ pub struct Packed {
 
 // All words, from the start of the buffer on.
 fn pack_words(residuals: &[i32], seeds: [AdaptiveMedians; 2], out: &mut [u8]) -> Packed
-    requires { ⌜ (length (now residuals) ≤ maxElements) × (14 * length (now residuals) ≤ length (now out)) ⌝ }
-    requires { ⌜ (spanned (now residuals) ≡ true) × Small (pairOf seeds .left) × Small (pairOf seeds .right) ⌝ }
-    ensures { λ r. ⌜ PackedIs (now (out .entry)) (now (out .exit)) (pairOf seeds) (now (residuals .entry)) r ⌝ }
+    requires room { ⌜ (length (now residuals) ≤ maxElements)
+        × (14 * length (now residuals) ≤ length (now out)) ⌝ }
+    requires span { ⌜ (spanned (now residuals) ≡ true)
+        × Small (pairOf seeds .left) × Small (pairOf seeds .right) ⌝ }
+    ensures { λ r. ⌜ PackedIs (now (out .entry)) (now (out .exit)) (pairOf seeds)
+        (now (residuals .entry)) r ⌝ }
 {
     let mut medians = seeds;
     let mut bits: usize = 0;
@@ -67,10 +71,12 @@ fn pack_words(residuals: &[i32], seeds: [AdaptiveMedians; 2], out: &mut [u8]) ->
     Packed { bits, medians }
 }
 
-// What packing refuses by the lengths of what is lent and by the entropy payload, before it looks at a residual: 5 over 131,072 frames, 6 where there are not
-// two residuals a frame, 1 and 2 about the entropy payload, 11 where under 28 bytes a frame are lent. Writes nothing.
+// What packing refuses by the lengths of what is lent and by the entropy payload, before it looks
+// at a residual: 5 over 131,072 frames, 6 where there are not two residuals a frame, 1 and 2 about
+// the entropy payload, 11 where under 28 bytes a frame are lent. Writes nothing.
 pub fn refusal_before_span(elements: usize, entropy: &[u8], frames: usize, room: usize) -> Outcome
-    ensures { λ r. ⌜ outcomeNumber r ≡ refusalBeforeSpan elements (now (entropy .entry)) frames room ⌝ }
+    ensures { λ r. ⌜ outcomeNumber r
+        ≡ refusalBeforeSpan elements (now (entropy .entry)) frames room ⌝ }
 {
     if frames > MAX_FRAMES {
         return Outcome::Refused(Refusal::TooLarge);
@@ -101,8 +107,9 @@ fn refused(outcome: Outcome) -> PackAnswer
     }
 }
 
-// Answers the bits written and the medians after. Refuses with 5, 6, 1, 2 and 11 as `refusal_before_span` does, and then with 10 for a residual outside the
-// span; the buffer then keeps its bytes.
+// Answers the bits written and the medians after. Refuses with 5, 6, 1, 2 and 11 as
+// `refusal_before_span` does, and then with 10 for a residual outside the span; the buffer then
+// keeps its bytes.
 pub fn encode_packed_samples_stereo_from_entropy(
     residuals: &[i32],
     entropy: &[u8],

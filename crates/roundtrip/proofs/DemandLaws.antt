@@ -8,6 +8,7 @@ use native.Mathlib.Omega.{arith}
 use borrow.Author.Tests.{le-ltb}
 use lib.IntN.{ℤ}
 use lib.ListN.{length}
+use Rattle.answers.specs.Limits.{maxFrames, maxPayloadBytes, bytesPerFrame, maxElements, maxPasses}
 use Rattle.entropy.specs.Seed.{acceptsEntropy}
 use Rattle.samples.specs.View.{ReadTold, readEntry}
 use Rattle.passes.specs.declared.DecorrPass.{DecorrPass}
@@ -15,34 +16,34 @@ use Rattle.passes.specs.Run.{Chain, decorrelated, analysed}
 use Rattle.passes.proofs.RunInverse.{analysed-fit, analysed-length, decorrelated-analysed}
 use Rattle.passes.proofs.Unique.{residuals-unique}
 use Rattle.decorrelation.specs.Lists.{Answer, decorrelationNumber, analysisNumber, decorrelation, analysis}
-use Rattle.packing.specs.Packing.{spanned}
-use Rattle.packing.specs.Entry.{PackTold, packedFrom, toldPacked, packEntry, packedBytes}
-use Rattle.packing.proofs.EntryLaws.{accepts}
-use Rattle.packing.proofs.TripLaws.{read-what-was-packed}
+use Rattle.word_bits.specs.Residuals.{spanned}
+use Rattle.packing.specs.Entry.{PackTold, packedFrom, tellPacking, packEntry, packedBytes}
+use Rattle.packing.proofs.EntryLaws.{packed-is}
+use Rattle.roundtrip.proofs.ReadTrips.{read-what-was-packed}
 use Rattle.roundtrip.specs.Demand.{Recording, WellMade, Demand3, Writable, writtenBytes, NoTwoAlike}
 
 -- what decorrelation and analysis leave of well-made passes
 abbrev run : Chain → Answer
 run c = record { refusal = 0; passes = c .passes; buffer = c .buffer }
 
-module _ (ps : List DecorrPass) (l : List ℤ) (w : WellMade ps) (h : length l ≤ 262144) where
+module _ (ps : List DecorrPass) (l : List ℤ) (w : WellMade ps) (h : length l ≤ maxElements) where
   -- decorrelation accepts them, and runs them
   decorrelation-is : decorrelation ps l ≡ run (decorrelated ps l)
   unfolding decorrelation decorrelationNumber
-  decorrelation-is = rw (le-ltb 262144 (length l) h, le-ltb 16 (length ps) (w .at-most-16), w .terms-valid)
+  decorrelation-is = rw (le-ltb maxElements (length l) h, le-ltb maxPasses (length ps) (w .at-most-16), w .terms-valid)
 
   -- and so does analysis
   analysis-is : analysis ps l ≡ run (analysed ps l)
   unfolding analysis analysisNumber
-  analysis-is = rw (le-ltb 262144 (length l) h, le-ltb 16 (length ps) (w .at-most-16), w .terms-valid)
+  analysis-is = rw (le-ltb maxElements (length l) h, le-ltb maxPasses (length ps) (w .at-most-16), w .terms-valid)
 
-module _ (frames : ℕ) (passes : List DecorrPass) (recording : List ℤ) (few : frames ≤ 131072) (w : WellMade passes) (x : Recording frames recording) where
+module _ (frames : ℕ) (passes : List DecorrPass) (recording : List ℤ) (few : frames ≤ maxFrames) (w : WellMade passes) (x : Recording frames recording) where
   -- the residuals that analysis leaves, and what decorrelation makes of them
   abbrev found : List ℤ
   found = analysed passes recording .buffer
 
   -- a recording has at most 262,144 samples
-  size : (l : List ℤ) → length l ≡ 2 * frames → length l ≤ 262144
+  size : (l : List ℤ) → length l ≡ 2 * frames → length l ≤ maxElements
   size l e = omega arith
 
   -- they are a residual list
@@ -68,16 +69,18 @@ module _ (frames : ℕ) (passes : List DecorrPass) (recording : List ℤ) (few :
       (sym (ap (λ (a : Answer). a .buffer) (decorrelation-is passes other w (size other (o .two-per-frame)))) ∙ e ∙ sym (ap (λ (c : Chain). c .buffer) back))
 
   -- in the span they are packed
-  packed-is : (entropy buffer : List ℕ) → spanned found ≡ true → acceptsEntropy entropy → 28 * frames ≤ length buffer
-      → packEntry found entropy frames buffer ≡ toldPacked buffer (packedFrom entropy found)
-  packed-is entropy buffer s a r = accepts found entropy frames buffer few (found-is .two-per-frame) (sym a) r s
+  writes : (entropy buffer : List ℕ) → spanned found ≡ true → acceptsEntropy entropy → bytesPerFrame * frames ≤ length buffer
+      → packEntry found entropy frames buffer ≡ tellPacking buffer (packedFrom entropy found)
+  writes entropy buffer s a r =
+      packed-is found entropy frames buffer
+      (record { before = record { frames-few = few; list-is = found-is .two-per-frame; seeded = sym a; enough = r }; span = s })
 
   -- what is read back is what was found
-  pub read-is : (entropy buffer behind : List ℕ) (list : List ℤ) → spanned found ≡ true → acceptsEntropy entropy → 28 * frames ≤ length buffer
-      → let p = packEntry found entropy frames buffer in length (packedBytes p ++ behind) ≤ 4194304 → length list ≡ 2 * frames
+  pub read-is : (entropy buffer behind : List ℕ) (list : List ℤ) → spanned found ≡ true → acceptsEntropy entropy → bytesPerFrame * frames ≤ length buffer
+      → let p = packEntry found entropy frames buffer in length (packedBytes p ++ behind) ≤ maxPayloadBytes → length list ≡ 2 * frames
       → readEntry entropy (packedBytes p ++ behind) frames list ≡ record { refusal = 0; bits = p .bits; medians = p .medians; written = 2 * frames; list = found }
   read-is entropy buffer behind list s a r n l =
-      read-what-was-packed found entropy frames buffer behind list (ap (λ (t : PackTold). t .refusal) (packed-is entropy buffer s a r)) n l
+      read-what-was-packed found entropy frames buffer behind list (ap (λ (t : PackTold). t .refusal) (writes entropy buffer s a r)) n l
 
   -- all of it, of these residuals
   demand : Demand3 frames passes recording found
@@ -88,7 +91,7 @@ module _ (frames : ℕ) (passes : List DecorrPass) (recording : List ℤ) (few :
     others-differ = λ other o n e. n (only other o e);
     analysis-accepts = ap (λ (a : Answer). a .refusal) analysed-is;
     analysis-finds = ap (λ (a : Answer). a .buffer) analysed-is;
-    packs = packed-is;
+    packs = writes;
     returns = λ entropy buffer behind list s a r n l.
         let t = read-is entropy buffer behind list s a r n l in
         record {
@@ -105,14 +108,14 @@ module _ (frames : ℕ) (passes : List DecorrPass) (recording : List ℤ) (few :
   }
 
 -- Demand 3: every recording of at most 131,072 frames, under any at most 16 well-made passes.
-pub demand-3 : (frames : ℕ) (passes : List DecorrPass) (recording : List ℤ) → frames ≤ 131072 → WellMade passes → Recording frames recording
+pub demand-3 : (frames : ℕ) (passes : List DecorrPass) (recording : List ℤ) → frames ≤ maxFrames → WellMade passes → Recording frames recording
     → Demand3 frames passes recording (analysis passes recording .buffer)
 demand-3 frames passes recording few w x =
     subst (Demand3 frames passes recording) (sym (ap (λ (a : Answer). a .buffer) (analysed-is frames passes recording few w x))) (demand frames passes recording few w x)
 
 -- reading and decorrelating what the writer made of a recording returns it
-written-back : (frames : ℕ) (passes : List DecorrPass) (entropy buffer behind : List ℕ) (recording list : List ℤ) → frames ≤ 131072 → WellMade passes → acceptsEntropy entropy
-    → Writable frames passes entropy buffer recording → length (writtenBytes frames passes entropy buffer recording ++ behind) ≤ 4194304 → length list ≡ 2 * frames
+written-back : (frames : ℕ) (passes : List DecorrPass) (entropy buffer behind : List ℕ) (recording list : List ℤ) → frames ≤ maxFrames → WellMade passes → acceptsEntropy entropy
+    → Writable frames passes entropy buffer recording → length (writtenBytes frames passes entropy buffer recording ++ behind) ≤ maxPayloadBytes → length list ≡ 2 * frames
     → decorrelation passes (readEntry entropy (writtenBytes frames passes entropy buffer recording ++ behind) frames list .list) .buffer ≡ recording
 written-back frames passes entropy buffer behind recording list few w a x n l =
     demand-3 frames passes recording few w (x .is-recording) .returns entropy buffer behind list (x .in-span) a (x .room) n l .recording-back
@@ -122,4 +125,4 @@ pub no-two-alike : NoTwoAlike
 no-two-alike frames passes entropy few w a one other buffer buffer′ behind behind′ x y n e =
     sym (written-back frames passes entropy buffer behind one one few w a x n (x .is-recording .two-per-frame))
     ∙ ap (λ (payload : List ℕ). decorrelation passes (readEntry entropy payload frames one .list) .buffer) e
-    ∙ written-back frames passes entropy buffer′ behind′ other one few w a y (subst (λ (payload : List ℕ). length payload ≤ 4194304) e n) (x .is-recording .two-per-frame)
+    ∙ written-back frames passes entropy buffer′ behind′ other one few w a y (subst (λ (payload : List ℕ). length payload ≤ maxPayloadBytes) e n) (x .is-recording .two-per-frame)

@@ -1,4 +1,5 @@
--- A run length, a prefix and a code that stand at a place are read as their values, and the place after them.
+-- A run length, a prefix and a code that stand at a place are read as their values, and the place
+-- after them.
 -- Assumes nothing.
 use mathlib.Core.Path.{_≡_, refl, ap, ap₂, _∙_}
 use mathlib.Core.Bool.{Bool, true, false, cond}
@@ -20,7 +21,7 @@ use Rattle.fields.specs.Counts.{counted, runLength, escaped, prefix}
 use Rattle.fields.specs.Code.{bitLength, codeOf, truncatedBinary}
 use Rattle.fields.specs.declared.Prefix.{Prefix}
 use Rattle.fields.proofs.LengthLaws.{long, long-le}
-use Rattle.packing.specs.Written.{runField, prefixField, codeBits, codeField}
+use Rattle.word_bits.specs.Written.{runField, prefixField, codeBits, codeField}
 
 -- the top bit and the bits under it
 top-bit : (P n : ℕ) → P ≤ n → n < 2 * P → P + n % P ≡ n

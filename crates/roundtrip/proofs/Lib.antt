@@ -1,3 +1,8 @@
-pub mod DemandLaws
+-- What other crates cite.
 pub mod ListLaws
+pub mod FieldTrips
+pub mod WordTrips
+pub mod ReadTrips
+pub mod ArrayLaws
 pub mod TripLaws
+pub mod DemandLaws

@@ -1,13 +1,16 @@
--- Reading what packing wrote, whatever bytes follow, returns the residuals, the bits written and the medians: over the definitions of both entries.
+-- Reading what packing wrote, whatever bytes follow, returns the residuals, the bits written and
+-- the medians: over the definitions of both entries.
 -- Assumes nothing.
 use mathlib.Core.Path.{_≡_, sym, ap, _∙_}
 use mathlib.Core.Bool.{Bool, true}
-use mathlib.Core.List.{List, [], _∷_, _++_, append-nil}
+use mathlib.Core.List.{List, [], _∷_, _++_}
 use Prim.Native.Nat.{ℕ, _+_, _*_, _^_, _≤_, _<_}
 use native.Mathlib.Omega.{arith}
 use borrow.Author.Tests.{le-ltb, eq-eqb}
 use lib.IntN.{ℤ}
-use lib.ListN.{length, drop, length-append, drop-of-length-le}
+use lib.ListN.{length, length-append}
+use Rattle.answers.specs.Limits.{maxFrames, maxPayloadBytes}
+use Rattle.overlay.proofs.OverlayLaws.{overlay-whole}
 use Rattle.entropy.proofs.SeedBounds.{seeds-small}
 use Rattle.bits.specs.Bits.{bitsOf}
 use Rattle.bits.specs.Laid.{bytesHolding}
@@ -17,12 +20,13 @@ use Rattle.entropy.specs.Medians.{Medians, Small}
 use Rattle.entropy.specs.Seed.{seedRefusal, seedMedians}
 use Rattle.word_state.specs.State.{State, start}
 use Rattle.samples.specs.Reading.{Reading, reading}
-use Rattle.samples.specs.View.{toldReading, readRefusal, readEntry}
-use Rattle.packing.specs.Packing.{spanned, Out, wordOut, packed}
+use Rattle.samples.specs.View.{tellReading, readRefusal, readEntry}
+use Rattle.word_bits.specs.Residuals.{spanned}
+use Rattle.packing.specs.Packing.{Out, wordOut, packed}
 use Rattle.packing.specs.Entry.{PackTold, packedFrom, packEntry, packedBytes}
-use Rattle.packing.proofs.AcceptedLaws.{packing-accepted, packed-is, bytes-are}
+use Rattle.packing.proofs.EntryLaws.{packing-accepted, packed-is, bytes-are}
 use Rattle.packing.proofs.InStepLaws.{Inv, start-inv, kept}
-use Rattle.packing.proofs.SpanLaws.{spanned-parts}
+use Rattle.word_bits.proofs.SpanLaws.{spanned-parts}
 use Rattle.roundtrip.proofs.WordTrips.{word-at}
 
 -- ---- all words
@@ -31,7 +35,8 @@ use Rattle.roundtrip.proofs.WordTrips.{word-at}
 abbrev accepted : List ℤ → ℕ → State → Reading
 accepted vs p s = record { refusal = 0; samples = vs; place = p; state = s }
 
--- words that stand at a place are read: the residuals, the place behind them and the state after them
+-- words that stand at a place are read: the residuals, the place behind them and the state after
+-- them
 read-packed : {bits : List Bool} {p : ℕ} (s : State) (vs : List ℤ) → Inv s vs → spanned vs ≡ true → length vs < 2 ^ 32
     → At bits p (packed s vs .bits) → reading bits (length vs) p s ≡ accepted vs (p + length (packed s vs .bits)) (packed s vs .next)
 unfolding reading packed
@@ -55,25 +60,23 @@ read-back l r vs behind sl sr h few =
 -- ---- the entries
 
 -- reading accepts such a payload and list
-reads : (entropy payload : List ℕ) (frames : ℕ) (list : List ℤ) → frames ≤ 131072 → length payload ≤ 4194304 → length list ≡ 2 * frames → 0 ≡ seedRefusal entropy
+reads : (entropy payload : List ℕ) (frames : ℕ) (list : List ℤ) → frames ≤ maxFrames → length payload ≤ maxPayloadBytes → length list ≡ 2 * frames → 0 ≡ seedRefusal entropy
     → readEntry entropy payload frames list
-    ≡ toldReading list (reading (bitsOf payload) (2 * frames) 0 (start (seedMedians entropy .left) (seedMedians entropy .right)))
+    ≡ tellReading list (reading (bitsOf payload) (2 * frames) 0 (start (seedMedians entropy .left) (seedMedians entropy .right)))
 unfolding readEntry readRefusal
 reads entropy payload frames list f p l s =
-    rw (le-ltb 131072 frames f, le-ltb 4194304 (length payload) p, eq-eqb (length list) (2 * frames) l, ← s)
+    rw (le-ltb maxFrames frames f, le-ltb maxPayloadBytes (length payload) p, eq-eqb (length list) (2 * frames) l, ← s)
 
 -- a reading of as many samples as the list has leaves no element of it
 whole : (residuals list : List ℤ) (frames : ℕ) (w : Out) → length residuals ≡ 2 * frames → length list ≡ 2 * frames
-    → toldReading list (accepted residuals (length (w .bits)) (w .next))
+    → tellReading list (accepted residuals (length (w .bits)) (w .next))
     ≡ record { refusal = 0; bits = length (w .bits); medians = record { left = w .next .left; right = w .next .right }; written = 2 * frames; list = residuals }
-whole residuals list frames w e l =
-    let d : drop (length residuals) list ≡ [] = drop-of-length-le list {i = length residuals} (omega arith) in
-    rw (d, append-nil residuals, e)
+whole residuals list frames w e l = rw (overlay-whole list residuals (omega arith), e)
 
--- Whatever bytes or none follow the packed bytes, within the payload limit, reading returns the residuals; the bits used are the bits written, and the
--- medians after are the writer's.
+-- Whatever bytes or none follow the packed bytes, within the payload limit, reading returns the
+-- residuals; the bits used are the bits written, and the medians after are the writer's.
 pub read-what-was-packed : (residuals : List ℤ) (entropy : List ℕ) (frames : ℕ) (buffer behind : List ℕ) (list : List ℤ) → let p = packEntry residuals entropy frames buffer in
-    p .refusal ≡ 0 → length (packedBytes p ++ behind) ≤ 4194304 → length list ≡ 2 * frames
+    p .refusal ≡ 0 → length (packedBytes p ++ behind) ≤ maxPayloadBytes → length list ≡ 2 * frames
     → readEntry entropy (packedBytes p ++ behind) frames list ≡ record { refusal = 0; bits = p .bits; medians = p .medians; written = 2 * frames; list = residuals }
 read-what-was-packed residuals entropy frames buffer behind list e n l =
     let a = packing-accepted residuals entropy frames buffer e in
@@ -82,10 +85,10 @@ read-what-was-packed residuals entropy frames buffer behind list e n l =
     let b = bytes-are residuals entropy frames buffer a in
     let m = seedMedians entropy in
     let j : reading (bitsOf (bytesHolding (w .bits) ++ behind)) (2 * frames) 0 (start (m .left) (m .right)) ≡ accepted residuals (length (w .bits)) (w .next) =
-    ap (λ (k : ℕ). reading (bitsOf (bytesHolding (w .bits) ++ behind)) k 0 (start (m .left) (m .right))) (sym (a .list-is))
-    ∙ read-back (m .left) (m .right) residuals behind (s .0) (s .1) (a .span) (omega (arith, a .list-is, a .frames-few)) in
+    ap (λ (k : ℕ). reading (bitsOf (bytesHolding (w .bits) ++ behind)) k 0 (start (m .left) (m .right))) (sym (a .before .list-is))
+    ∙ read-back (m .left) (m .right) residuals behind (s .0) (s .1) (a .span) (omega (arith, a .before .list-is, a .before .frames-few)) in
     ap (λ (x : List ℕ). readEntry entropy (x ++ behind) frames list) b
-    ∙ reads entropy (bytesHolding (w .bits) ++ behind) frames list (a .frames-few) (rw b at n) l (a .seeded)
-    ∙ ap (toldReading list) j
-    ∙ whole residuals list frames w (a .list-is) l
+    ∙ reads entropy (bytesHolding (w .bits) ++ behind) frames list (a .before .frames-few) (rw b at n) l (a .before .seeded)
+    ∙ ap (tellReading list) j
+    ∙ whole residuals list frames w (a .before .list-is) l
     ∙ ap (λ (x : PackTold). record { refusal = 0; bits = x .bits; medians = x .medians; written = 2 * frames; list = residuals }) (sym (packed-is residuals entropy frames buffer a))

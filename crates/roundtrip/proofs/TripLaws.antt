@@ -3,99 +3,74 @@
 use mathlib.Core.Path.{_≡_, refl, sym, ap, _∙_}
 use mathlib.Core.Bool.{Bool, true, false}
 use mathlib.Core.List.{List, [], _++_, append-nil}
-use Prim.Native.Nat.{ℕ, zero, suc, _+_, _/_, _≤_, _<_}
+use Prim.Native.Nat.{ℕ, zero, suc, _+_, _*_, _/_, _≤_, _<_}
 use native.Mathlib.Omega.{arith}
-use borrow.Author.Tests.{le-ltb, eq-eqb, ne-eqb, ltb-false}
-use lib.Dec.{ltb}
+use borrow.Author.Tests.{eq-eqb, ne-eqb}
 use lib.IntN.{ℤ}
-use lib.ListN.{length, take, drop}
-use Rattle.entropy.proofs.SeedBounds.{seeds-small}
+use lib.ListN.{length, take}
 use Rattle.answers.specs.declared.Outcome.{Outcome}
 use Rattle.answers.specs.declared.Refusal.{Refusal}
+use Rattle.answers.specs.Guard.{orElse, unlessRefused}
+use Rattle.answers.specs.Limits.{maxElements, maxPayloadBytes, maxWordBits}
 use Rattle.answers.specs.Numbers.{outcomeNumber}
+use Rattle.answers.proofs.GuardLaws.{refused-first, guard-refused, guard-accepted}
 use Rattle.answers.proofs.NumberLaws.{number-positive}
-use Rattle.samples.specs.View.{ReadTold, readToldOf, readEntry}
+use Rattle.samples.specs.View.{ReadTold, viewReading, readEntry}
 use Rattle.samples.specs.declared.ReadAnswer.{ReadAnswer}
 use Rattle.passes.specs.declared.DecorrPass.{DecorrPass}
-use Rattle.passes.specs.Run.{Fit, Chain, decorrelated, analysed}
-use Rattle.passes.proofs.RunInverse.{decorrelated-analysed}
-use Rattle.decorrelation.specs.Lists.{Answer, allValid, analysisNumber, decorrelationNumber, pickNumber, answerBy, arrayAnswer, arrayBy, chained, followed}
-use Rattle.bits.proofs.LaidLaws.{length-holding}
-use Rattle.entropy.specs.Seed.{seedMedians}
-use Rattle.packing.specs.Entry.{PackTold, packToldOf, packedFrom, packEntry, packedBytes}
-use Rattle.packing.proofs.SizeLaws.{bytes-enough}
+use Rattle.passes.specs.Run.{Fit, Chain, decorrelated}
+use Rattle.passes.proofs.RunInverse.{analysed-length, decorrelated-analysed}
+use Rattle.decorrelation.specs.Lists.{Answer, allValid, analysisNumber, arrayAnswer}
+use Rattle.packing.specs.Entry.{PackTold, viewPacking, refusalBeforeSpan, spanRefusal, packEntry, packedBytes}
 use Rattle.packing.specs.declared.PackAnswer.{PackAnswer}
-use Rattle.packing.proofs.TripLaws.{packing-accepted, pack-refused, packed-is, bytes-few, read-what-was-packed}
+use Rattle.packing.proofs.EntryLaws.{refusal-is, pack-refused, span-decides, packing-accepted, bytes-few, bits-within, bits-few}
+use Rattle.packing.proofs.RefusalLaws.{Ready, ready}
 use Rattle.roundtrip.specs.declared.TripAnswer.{TripAnswer}
-use Rattle.roundtrip.specs.Trip.{TripTold, tripToldOf, tripRefused, unlessTrip, tripBack, tripEntry, SameIs}
+use Rattle.roundtrip.specs.Trip.{TripTold, viewTrip, refuseTrip, tellTrip, earlyRefusal, tripRefusal, found, tripEntry, cameBack, Refuses, SameIs}
+use Rattle.roundtrip.proofs.ArrayLaws.{Made, made, array-runs}
+use Rattle.roundtrip.proofs.ReadTrips.{read-what-was-packed}
 
--- ---- an array of passes
+-- ---- the early tests
 
--- what analysis by the first n of an array accepts
-record Made (ps : List DecorrPass) (n : ℕ) (l : List ℤ) : Type 0 where
-  few : n ≤ 16
-  size : length l ≤ 262144
-  valid : allValid (take n ps) ≡ true
+-- a refusal of the first is told
+pub first-refuses : (o : Outcome) (q : Refusal) (m later : ℕ) → o ≡ Outcome.Refused q → outcomeNumber o ≡ m → outcomeNumber o ≡ orElse m later
+first-refuses o q m later s e =
+    let p : 0 < outcomeNumber o = rw s (number-positive q) in
+    rw (← e) (sym (refused-first (outcomeNumber o) later p))
 
--- an answer tells its number
-number-is : (m : ℕ) (c : Chain) (ps : List DecorrPass) (l : List ℤ) → answerBy m c ps l .refusal ≡ m
-number-is zero c ps l = refl
-number-is (suc m) c ps l = refl
+-- where the first refuses nothing, the second decides
+pub second-decides : (o r : Outcome) (m later : ℕ) → o ≡ Outcome.Accepted → outcomeNumber o ≡ m → outcomeNumber r ≡ later → outcomeNumber r ≡ orElse m later
+second-decides o r m later s e t = let z : m ≡ 0 = sym e ∙ ap outcomeNumber s in rw z t
 
--- an answer without a refusal tells it
-array-made : (ps : List DecorrPass) (n : ℕ) (l : List ℤ) → arrayAnswer true ps n l .refusal ≡ 0 → Made ps n l
-unfolding arrayAnswer analysisNumber
-array-made ps n l e = first (ltb 16 n) refl e
+-- analysis and packing before the span accept
+pub record Early (ps : List DecorrPass) (n : ℕ) (x : List ℤ) (entropy buffer : List ℕ) : Type 0 where
+  pub passes-made : Made ps n x
+  pub lent : Ready (length x) entropy (length x / 2) (length buffer)
+
+-- so it is where no refusal is known early
+pub early : (ps : List DecorrPass) (n : ℕ) (x : List ℤ) (entropy buffer : List ℕ) → earlyRefusal ps n (length x) entropy (length buffer) ≡ 0
+    → Early ps n x entropy buffer
+early ps n x entropy buffer e = go (analysisNumber (allValid (take n ps)) n (length x)) refl e
   where
-    third : (v : Bool) → allValid (take n ps) ≡ v → ltb 16 n ≡ false → ltb 262144 (length l) ≡ false → pickNumber v 0 7 ≡ 0 → Made ps n l
-    third true v f s e = record { few = ltb-false 16 n f; size = ltb-false 262144 (length l) s; valid = v }
-    third false v f s e = absurd (omega arith)
-
-    size-test : (v s : Bool) → ltb 262144 (length l) ≡ s → allValid (take n ps) ≡ v → ltb 16 n ≡ false → pickNumber s 5 (pickNumber (ltb 16 n) 9 (pickNumber v 0 7)) ≡ 0 → Made ps n l
-    size-test v true s w f e = absurd (omega arith)
-    size-test v false s w f e = third v w f s (rw f at e)
-
-    many : (s : Bool) → pickNumber s 5 (pickNumber true 9 0) ≡ 0 → Made ps n l
-    many true e = absurd (omega arith)
-    many false e = absurd (omega arith)
-
-    first : (t : Bool) → ltb 16 n ≡ t → arrayBy t true ps n l .refusal ≡ 0 → Made ps n l
-    first true t e =
-        let m : pickNumber (ltb 262144 (length l)) 5 (pickNumber (ltb 16 n) 9 0) ≡ 0 =
-        sym (number-is (pickNumber (ltb 262144 (length l)) 5 (pickNumber (ltb 16 n) 9 0)) (chained true ps l) ps l) ∙ e in
-        many (ltb 262144 (length l)) (rw t at m)
-    first false t e =
-        size-test (allValid (take n ps)) (ltb 262144 (length l)) refl refl t
-        (sym (number-is _ (followed (drop n ps) (chained true (take n ps) l)) ps l) ∙ e)
-
--- what both then leave
-array-runs : (back : Bool) (ps : List DecorrPass) (n : ℕ) (l : List ℤ) → Made ps n l
-    → arrayAnswer back ps n l ≡ record { refusal = 0; passes = chained back (take n ps) l .passes ++ drop n ps; buffer = chained back (take n ps) l .buffer }
-unfolding arrayAnswer analysisNumber decorrelationNumber
-array-runs true ps n l m = let f = le-ltb 16 n (m .few) in rw (f, le-ltb 262144 (length l) (m .size), m .valid, f)
-array-runs false ps n l m = let f = le-ltb 16 n (m .few) in rw (f, le-ltb 262144 (length l) (m .size), m .valid, f)
+    go : (m : ℕ) → analysisNumber (allValid (take n ps)) n (length x) ≡ m → orElse m (refusalBeforeSpan (length x) entropy (length x / 2) (length buffer)) ≡ 0
+        → Early ps n x entropy buffer
+    go zero a e = record { passes-made = made ps n x a; lent = ready (length x) entropy (length x / 2) (length buffer) e }
+    go (suc m) a e = absurd (omega arith)
 
 -- ---- where the packed bytes end
 
 -- within the buffer, and far below the end of a word
 pub record Ends (bits size : ℕ) : Type 0 where
   pub within : (bits + 7) / 8 ≤ size
-  pub few : bits ≤ 29360128
+  pub few : bits ≤ maxWordBits * maxElements
 
 -- so they do where packing accepts
-pub trip-ends : (v : List ℤ) (entropy : List ℕ) (frames : ℕ) (buffer after : List ℕ) (w : PackAnswer) → packToldOf w after ≡ packEntry v entropy frames buffer
+pub trip-ends : (v : List ℤ) (entropy : List ℕ) (frames : ℕ) (buffer after : List ℕ) (w : PackAnswer) → viewPacking w after ≡ packEntry v entropy frames buffer
     → w .outcome ≡ Outcome.Accepted → Ends (w .bits) (length buffer)
 trip-ends v entropy frames buffer after w k u =
-    let acc = packing-accepted v entropy frames buffer (sym (ap (λ (a : PackTold). a .refusal) k) ∙ ap outcomeNumber u) in
-    let s = seeds-small entropy in
-    let m = seedMedians entropy in
-    let f = packedFrom entropy v .bits in
-    let b : w .bits ≡ length f = ap (λ (a : PackTold). a .bits) (k ∙ packed-is v entropy frames buffer acc) in
-    let q = bytes-enough (m .left) (m .right) v frames (s .0) (s .1) (acc .span) (acc .frames-few) (acc .list-is) in
-    record {
-      within = omega (arith, q, length-holding f, acc .room);
-      few = omega (arith, q, length-holding f, acc .frames-few);
-    }
+    let b = ap (λ (t : PackTold). t .bits) k in
+    let acc = packing-accepted v entropy frames buffer (sym (ap (λ (t : PackTold). t .refusal) k) ∙ ap outcomeNumber u) in
+    record { within = rw b (bits-within v entropy frames buffer acc); few = rw b (bits-few v entropy frames buffer) }
 
 -- ---- the ways out
 
@@ -105,81 +80,106 @@ told-is : (n n′ b b′ : ℕ) (s s′ : Bool) (l l′ : List ℤ) (y y′ : Li
 told-is n n′ b b′ s s′ l l′ y y′ p q r t u = rw (p, q, r, t, u)
 
 -- a refusal of the number that is told
-refused-is : (r : TripAnswer) (o : Outcome) (n : ℕ) (l : List ℤ) (y : List ℕ) → outcomeNumber o ≡ n → (r .outcome ≡ o) × (r .bits ≡ 0) × (r .same ≡ false)
-    → tripToldOf r l y ≡ tripRefused n l y
-refused-is r o n l y e t = told-is (outcomeNumber (r .outcome)) n (r .bits) 0 (r .same) false l l y y (ap outcomeNumber (t .0) ∙ e) (t .1) (t .2) refl refl
-
--- a number above 0 refuses
-unless-refused : (n : ℕ) (l : List ℤ) (y : List ℕ) (t : TripTold) → 0 < n → tripRefused n l y ≡ unlessTrip n l y t
-unless-refused zero l y t p = absurd (omega arith)
-unless-refused (suc n) l y t p = refl
+refuses : (r : TripAnswer) (o : Outcome) (l : List ℤ) (y : List ℕ) → Refuses o r → viewTrip r l y ≡ refuseTrip l y (outcomeNumber o)
+refuses r o l y t = told-is (outcomeNumber (r .outcome)) (outcomeNumber o) (r .bits) 0 (r .same) false l l y y (ap outcomeNumber (t .outcome-is)) (t .no-bits) (t .not-same) refl refl
 
 module _ (ps : List DecorrPass) (n : ℕ) (x : List ℤ) (entropy : List ℕ) (scratch : List ℤ) (buffer : List ℕ) (r : TripAnswer) where
+  -- what follows where nothing is refused early
+  later : TripTold
+  later =
+      unlessRefused (spanRefusal (found ps n x)) (refuseTrip (found ps n x) buffer) (tellTrip x (packEntry (found ps n x) entropy (length x / 2) buffer))
+
+  -- a refusal that is known before anything is written
+  known : (o : Outcome) → 0 < outcomeNumber o → tripRefusal ps n x entropy scratch buffer ≡ outcomeNumber o → Refuses o r
+      → viewTrip r scratch buffer ≡ tripEntry ps n x entropy scratch buffer
+  unfolding tripEntry later
+  known o p e t = refuses r o scratch buffer t ∙ sym (guard-refused (outcomeNumber o) (refuseTrip scratch buffer) later p) ∙ rw e
+
   -- 6: a scratch list of another length
-  pub trip-length : (length scratch ≡ length x → ⊥) → (r .outcome ≡ Outcome.Refused Refusal.ListLength) × (r .bits ≡ 0) × (r .same ≡ false)
-      → tripToldOf r scratch buffer ≡ tripEntry ps n x entropy scratch buffer
-  unfolding tripEntry
-  trip-length h t = rw (ne-eqb (length scratch) (length x) h) (refused-is r (Outcome.Refused Refusal.ListLength) 6 scratch buffer refl t)
+  pub trip-length : (length scratch ≡ length x → ⊥) → Refuses (Outcome.Refused Refusal.ListLength) r → viewTrip r scratch buffer ≡ tripEntry ps n x entropy scratch buffer
+  unfolding tripRefusal
+  trip-length h t = known (Outcome.Refused Refusal.ListLength) (omega arith) (rw (ne-eqb (length scratch) (length x) h)) t
 
-  -- what analysis left, by the code's copy of the recording
-  analysed-as : (copied : List ℤ) (aps : List DecorrPass) (v : List ℤ) (m : ℕ) → copied ≡ x → record { refusal = m; passes = aps; buffer = v } ≡ arrayAnswer true ps n copied
-      → arrayAnswer true ps n x ≡ record { refusal = m; passes = aps; buffer = v }
-  analysed-as copied aps v m c e = sym (e ∙ ap (arrayAnswer true ps n) c)
-
-  -- the definition, by what analysis left
-  by-analysis : (aps : List DecorrPass) (v : List ℤ) (m : ℕ) → length scratch ≡ length x → arrayAnswer true ps n x ≡ record { refusal = m; passes = aps; buffer = v }
-      → tripEntry ps n x entropy scratch buffer
-      ≡ unlessTrip m v buffer (unlessTrip (packEntry v entropy (length x / 2) buffer .refusal) v buffer (tripBack x (packEntry v entropy (length x / 2) buffer)))
-  unfolding tripEntry
-  by-analysis aps v m h e = rw (eq-eqb (length scratch) (length x) h, e)
-
-  -- what analysis refuses
-  pub trip-analysis : (copied : List ℤ) (aps : List DecorrPass) (v : List ℤ) (o : Outcome) (q : Refusal) → length scratch ≡ length x → copied ≡ x
-      → record { refusal = outcomeNumber o; passes = aps; buffer = v } ≡ arrayAnswer true ps n copied → o ≡ Outcome.Refused q
-      → (r .outcome ≡ o) × (r .bits ≡ 0) × (r .same ≡ false) → tripToldOf r v buffer ≡ tripEntry ps n x entropy scratch buffer
-  trip-analysis copied aps v o q h c e s t =
+  -- what analysis refuses, and packing before the span
+  pub trip-early : (o : Outcome) (q : Refusal) → length scratch ≡ length x → outcomeNumber o ≡ earlyRefusal ps n (length x) entropy (length buffer) → o ≡ Outcome.Refused q
+      → Refuses o r → viewTrip r scratch buffer ≡ tripEntry ps n x entropy scratch buffer
+  unfolding tripRefusal
+  trip-early o q h e s t =
       let p : 0 < outcomeNumber o = rw s (number-positive q) in
-      refused-is r o (outcomeNumber o) v buffer refl t ∙ unless-refused (outcomeNumber o) v buffer _ p
-      ∙ sym (by-analysis aps v (outcomeNumber o) h (analysed-as copied aps v (outcomeNumber o) c e))
+      known o p (rw (eq-eqb (length scratch) (length x) h) (sym e)) t
 
-  -- what packing left
-  pub trip-packing : (copied : List ℤ) (aps : List DecorrPass) (v : List ℤ) (after : List ℕ) (o : Outcome) (w : PackAnswer) (q : Refusal) → length scratch ≡ length x → copied ≡ x
-      → record { refusal = outcomeNumber o; passes = aps; buffer = v } ≡ arrayAnswer true ps n copied → o ≡ Outcome.Accepted
-      → packToldOf w after ≡ packEntry v entropy (length x / 2) buffer → w .outcome ≡ Outcome.Refused q
-      → (r .outcome ≡ w .outcome) × (r .bits ≡ 0) × (r .same ≡ false) → tripToldOf r v after ≡ tripEntry ps n x entropy scratch buffer
-  trip-packing copied aps v after o w q h c e s k u t =
-      let p : 0 < outcomeNumber (w .outcome) = rw u (number-positive q) in
-      let m = ap (λ (a : PackTold). a .refusal) k in
-      let y : after ≡ buffer = ap (λ (a : PackTold). a .bytes) k ∙ pack-refused v entropy (length x / 2) buffer (outcomeNumber (w .outcome)) p (sym m) in
-      rw y (refused-is r (w .outcome) (outcomeNumber (w .outcome)) v buffer refl t)
-      ∙ unless-refused (outcomeNumber (w .outcome)) v buffer (tripBack x (packEntry v entropy (length x / 2) buffer)) p
-      ∙ ap (λ (a : ℕ). unlessTrip a v buffer (tripBack x (packEntry v entropy (length x / 2) buffer))) m
-      ∙ sym (by-analysis aps v 0 h (analysed-as copied aps v 0 c (ap (λ (a : ℕ). record { refusal = a; passes = aps; buffer = v }) (sym (ap outcomeNumber s)) ∙ e)))
+  -- the definition, where nothing is refused early
+  entry-is : length scratch ≡ length x → earlyRefusal ps n (length x) entropy (length buffer) ≡ 0 → tripEntry ps n x entropy scratch buffer ≡ later
+  unfolding tripEntry tripRefusal later
+  entry-is h e = rw (eq-eqb (length scratch) (length x) h, e)
+
+  -- the code has found the residuals, and packing was lent what it asks for
+  record Found (v : List ℤ) : Type 0 where
+    is : v ≡ found ps n x
+    size : length v ≡ length x
+    lent : Ready (length v) entropy (length x / 2) (length buffer)
+    passes-made : Made ps n x
+
+  -- so it is after analysis
+  found-is : (copied : List ℤ) (aps : List DecorrPass) (v : List ℤ) (m : ℕ) → copied ≡ x → record { refusal = m; passes = aps; buffer = v } ≡ arrayAnswer true ps n copied
+      → earlyRefusal ps n (length x) entropy (length buffer) ≡ 0 → Found v
+  found-is copied aps v m c e h =
+      let a = early ps n x entropy buffer h in
+      let is : v ≡ found ps n x = ap (λ (a : Answer). a .buffer) (e ∙ ap (arrayAnswer true ps n) c ∙ array-runs true ps n x (a .passes-made)) in
+      let size : length v ≡ length x = ap length is ∙ analysed-length (take n ps) x in
+      record { is = is; size = size; lent = rw size (a .lent); passes-made = a .passes-made }
+
+  -- 10: a residual outside the span
+  pub trip-span : (copied : List ℤ) (aps : List DecorrPass) (v : List ℤ) (m : ℕ) (after : List ℕ) (w : PackAnswer) (q : Refusal) → length scratch ≡ length x → copied ≡ x
+      → record { refusal = m; passes = aps; buffer = v } ≡ arrayAnswer true ps n copied → earlyRefusal ps n (length x) entropy (length buffer) ≡ 0
+      → viewPacking w after ≡ packEntry v entropy (length x / 2) buffer → w .outcome ≡ Outcome.Refused q
+      → Refuses (w .outcome) r → viewTrip r v after ≡ tripEntry ps n x entropy scratch buffer
+  unfolding later
+  trip-span copied aps v m after w q h c e g k u t =
+      let f = found-is copied aps v m c e g in
+      let f₀ = length x / 2 in
+      let o = outcomeNumber (w .outcome) in
+      let p : 0 < o = rw u (number-positive q) in
+      let k₀ : o ≡ packEntry v entropy f₀ buffer .refusal = ap (λ (a : PackTold). a .refusal) k in
+      let s : o ≡ spanRefusal (found ps n x) = k₀ ∙ refusal-is v entropy f₀ buffer ∙ span-decides v entropy f₀ buffer (f .lent) ∙ ap spanRefusal (f .is) in
+      let y : after ≡ buffer = ap (λ (a : PackTold). a .bytes) k ∙ pack-refused v entropy f₀ buffer (rw (← k₀) p) in
+      let next = tellTrip x (packEntry (found ps n x) entropy f₀ buffer) in
+      rw (y, f .is) (refuses r (w .outcome) (found ps n x) buffer t)
+      ∙ sym (guard-refused o (refuseTrip (found ps n x) buffer) next p)
+      ∙ ap (λ (a : ℕ). unlessRefused a (refuseTrip (found ps n x) buffer) next) s
+      ∙ sym (entry-is h g)
 
   -- the recording is back
-  pub trip-back : Fit x → (copied : List ℤ) (aps sps : List DecorrPass) (v list y : List ℤ) (after payload : List ℕ) (o z : Outcome) (w : PackAnswer) (d : ReadAnswer) (q : Bool)
+  pub trip-back : Fit x → (copied : List ℤ) (aps sps : List DecorrPass) (v list y : List ℤ) (after payload : List ℕ) (m : ℕ) (z : Outcome) (w : PackAnswer) (d : ReadAnswer) (q : Bool)
       → length scratch ≡ length x → copied ≡ x
-      → record { refusal = outcomeNumber o; passes = aps; buffer = v } ≡ arrayAnswer true ps n copied → o ≡ Outcome.Accepted
-      → packToldOf w after ≡ packEntry v entropy (length x / 2) buffer → w .outcome ≡ Outcome.Accepted
-      → readToldOf d list ≡ readEntry entropy payload (length x / 2) v → payload ≡ take ((w .bits + 7) / 8) after
+      → record { refusal = m; passes = aps; buffer = v } ≡ arrayAnswer true ps n copied → earlyRefusal ps n (length x) entropy (length buffer) ≡ 0
+      → viewPacking w after ≡ packEntry v entropy (length x / 2) buffer → w .outcome ≡ Outcome.Accepted
+      → viewReading d list ≡ readEntry entropy payload (length x / 2) v → payload ≡ take ((w .bits + 7) / 8) after
       → record { refusal = outcomeNumber z; passes = sps; buffer = y } ≡ arrayAnswer false ps n list → SameIs x y q
-      → r .outcome ≡ z → r .bits ≡ d .bits → r .same ≡ q → tripToldOf r y after ≡ tripEntry ps n x entropy scratch buffer
-  trip-back fit copied aps sps v list y after payload o z w d q h c e s k u g b f i ro rb rs =
+      → r .outcome ≡ Outcome.Accepted → r .bits ≡ w .bits → r .same ≡ cameBack (d .outcome) z (d .bits) (w .bits) q
+      → viewTrip r y after ≡ tripEntry ps n x entropy scratch buffer
+  unfolding later
+  trip-back fit copied aps sps v list y after payload m z w d q h c e g k u a b f i ro rb rs =
+      let w₀ = found-is copied aps v m c e g in
       let f₀ = length x / 2 in
       let p = packEntry v entropy f₀ buffer in
-      let A = analysed-as copied aps v 0 c (ap (λ (a : ℕ). record { refusal = a; passes = aps; buffer = v }) (sym (ap outcomeNumber s)) ∙ e) in
-      let made = array-made ps n x (ap (λ (a : Answer). a .refusal) A) in
-      let ve : v ≡ analysed (take n ps) x .buffer = sym (ap (λ (a : Answer). a .buffer) A) ∙ ap (λ (a : Answer). a .buffer) (array-runs true ps n x made) in
-      let P : p .refusal ≡ 0 = sym (ap (λ (a : PackTold). a .refusal) k) ∙ ap outcomeNumber u in
+      let P : p .refusal ≡ 0 = sym (ap (λ (t : PackTold). t .refusal) k) ∙ ap outcomeNumber u in
+      let B : w .bits ≡ p .bits = ap (λ (t : PackTold). t .bits) k in
       let acc = packing-accepted v entropy f₀ buffer P in
       let pb : payload ≡ packedBytes p ++ [] = b ∙ ap packedBytes k ∙ sym (append-nil (packedBytes p)) in
-      let limit : length (packedBytes p ++ []) ≤ 4194304 = rw (append-nil (packedBytes p)) (omega (arith, bytes-few v entropy f₀ buffer acc, acc .frames-few)) in
-      let R = g ∙ ap (λ (a : List ℕ). readEntry entropy a f₀ v) pb ∙ read-what-was-packed v entropy f₀ buffer [] v P limit (acc .list-is) in
-      let size : length v ≤ 262144 = omega (arith, acc .list-is, acc .frames-few) in
-      let D = f ∙ ap (λ (a : ReadTold). arrayAnswer false ps n (a .list)) R ∙ array-runs false ps n v (record { few = made .few; size = size; valid = made .valid }) in
+      let limit : length (packedBytes p ++ []) ≤ maxPayloadBytes = rw (append-nil (packedBytes p)) (omega (arith, bytes-few v entropy f₀ buffer acc, acc .before .frames-few)) in
+      let R = a ∙ ap (λ (t : List ℕ). readEntry entropy t f₀ v) pb ∙ read-what-was-packed v entropy f₀ buffer [] v P limit (acc .before .list-is) in
+      let M = w₀ .passes-made in
+      let size : length v ≤ maxElements = omega (arith, w₀ .size, M .size) in
+      let D = f ∙ ap (λ (t : ReadTold). arrayAnswer false ps n (t .list)) R ∙ array-runs false ps n v (record { few = M .few; size = size; valid = M .valid }) in
       let back : y ≡ x =
-      ap (λ (a : Answer). a .buffer) D ∙ ap (λ (a : List ℤ). decorrelated (take n ps) a .buffer) ve ∙ ap (λ (a : Chain). a .buffer) (decorrelated-analysed (take n ps) x fit) in
+      ap (λ (t : Answer). t .buffer) D ∙ ap (λ (t : List ℤ). decorrelated (take n ps) t .buffer) (w₀ .is) ∙ ap (λ (t : Chain). t .buffer) (decorrelated-analysed (take n ps) x fit) in
+      let used : d .bits ≡ w .bits = ap (λ (t : ReadTold). t .bits) R ∙ sym B in
+      let same : cameBack (d .outcome) z (d .bits) (w .bits) q ≡ true =
+      rw (ap (λ (t : ReadTold). t .refusal) R, ap (λ (t : Answer). t .refusal) D, eq-eqb (d .bits) (w .bits) used) (i .told (sym back)) in
+      let s : spanRefusal (found ps n x) ≡ 0 = rw (← w₀ .is, acc .span) in
       told-is (outcomeNumber (r .outcome)) 0 (r .bits) (p .bits) (r .same) true y x after (p .bytes)
-      (ap outcomeNumber ro ∙ ap (λ (a : Answer). a .refusal) D) (rb ∙ ap (λ (a : ReadTold). a .bits) R) (rs ∙ i .told (sym back)) back (ap (λ (a : PackTold). a .bytes) k)
-      ∙ ap (λ (a : ℕ). unlessTrip a v buffer (tripBack x p)) (sym P)
-      ∙ sym (by-analysis aps v 0 h A)
+      (ap outcomeNumber ro) (rb ∙ B) (rs ∙ same) back (ap (λ (t : PackTold). t .bytes) k)
+      ∙ ap (λ (t : List ℤ). tellTrip x (packEntry t entropy f₀ buffer)) (w₀ .is)
+      ∙ sym (guard-accepted (spanRefusal (found ps n x)) (refuseTrip (found ps n x) buffer) (tellTrip x (packEntry (found ps n x) entropy f₀ buffer)) s)
+      ∙ sym (entry-is h g)

@@ -1,4 +1,5 @@
--- A word that was packed is read back: the residual, the place behind the word, and the state that packing goes on with.
+-- A word that was packed is read back: the residual, the place behind the word, and the state that
+-- packing goes on with.
 -- Assumes nothing.
 use mathlib.Core.Path.{_≡_, refl, ap, ap₂, _∙_}
 use mathlib.Core.Bool.{Bool, true, false, cond}
@@ -14,16 +15,20 @@ use Rattle.entropy.specs.Medians.{Small}
 use Rattle.bits.specs.Bits.{val, bitOf, low}
 use Rattle.bits.proofs.BitLaws.{length-low}
 use Rattle.bits.proofs.RoundTrip.{At, at-first, at-second, low-at}
-use Rattle.fields.specs.Counts.{runLength, prefix}
+use Rattle.fields.specs.Counts.{prefix}
 use Rattle.medians.specs.Interval.{lowOf, highOf}
-use Rattle.word_state.specs.State.{State, due, other, paid, inRun, unbroken, cleared, flagged, after, runDue, onZeros}
-use Rattle.samples.specs.Word.{Report, none, zoneOf, Word, given, onField, onPrefix, signed, value, plain, fresh, word}
-use Rattle.packing.specs.Counts.{count}
-use Rattle.packing.specs.Packing.{zeros, ahead, sign, Out, behind, silent, valueField, valueOut, plainOut, freshOut, wordOut}
-use Rattle.packing.specs.Written.{runField, prefixField, codeField}
-use Rattle.packing.proofs.CountLaws.{smallest}
-use Rattle.packing.proofs.InStepLaws.{Inv, due-small, zeros-head, zeros-le}
-use Rattle.packing.proofs.LongLaws.{val-le}
+use Rattle.word_state.specs.State.{State, due, other, paid, inRun, unbroken, cleared, flagged, after, runHere, onZeros}
+use Rattle.samples.specs.Word.{Report, none, zoneOf, Word, given, onPrefix, signed, value, plain, fresh, word}
+use Rattle.samples.proofs.PartLaws.{fresh-word, fresh-run}
+use Rattle.word_bits.specs.Counts.{count}
+use Rattle.word_bits.specs.Residuals.{zeros, ahead, sign}
+use Rattle.packing.specs.Packing.{Out, behind, silent, valueOut, plainOut, freshOut, wordOut}
+use Rattle.word_bits.specs.Word.{valueField}
+use Rattle.word_bits.specs.Written.{runField, prefixField, codeField}
+use Rattle.word_bits.proofs.CountLaws.{smallest}
+use Rattle.packing.proofs.InStepLaws.{Inv, due-small}
+use Rattle.word_bits.proofs.ZeroLaws.{zeros-head, zeros-le}
+use Rattle.word_bits.proofs.LongLaws.{val-le}
 use Rattle.roundtrip.proofs.FieldTrips.{run-at, prefix-at, code-at}
 
 -- ---- code and sign
@@ -105,38 +110,42 @@ plain-at {bits} {p} s v vs i h a = go (s .lastZero) refl a
 zero-gives : (q : ℕ) (v : ℤ) (t : State) → pos 0 ≡ v → Gives (given (pos 0) q t none) q v (silent t)
 zero-gives q v t e = record { report = none; reads = ap₂ (λ (x : ℤ) (n : ℕ). given x n t none) e (omega arith) }
 
+-- the same with run_break cleared
+unbroken-at : {bits : List Bool} {p : ℕ} (s : State) (v : ℤ) (vs : List ℤ) → Inv s (v ∷ vs) → mag v < residualSpan
+    → At bits p (plainOut (unbroken s) v vs .bits) → Gives (plain bits p (unbroken s)) p v (plainOut (unbroken s) v vs)
+unfolding unbroken
+unbroken-at s v vs i h a =
+    plain-at (unbroken s) v vs (record { owed = i .owed; zeroed = i .zeroed; oned = i .oned; small-left = i .small-left; small-right = i .small-right }) h a
+
 -- a word with or without a run length is read back
 pub fresh-at : {bits : List Bool} {p : ℕ} (s : State) (v : ℤ) (vs : List ℤ) → Inv s (v ∷ vs) → mag v < residualSpan → length (v ∷ vs) < 2 ^ 32
     → At bits p (freshOut s v vs .bits) → Gives (fresh bits p s) p v (freshOut s v vs)
-unfolding fresh freshOut unbroken
-fresh-at {bits} {p} s v vs i h few a = go (s .runBreak) a
+unfolding freshOut
+fresh-at {bits} {p} s v vs i h few a = here? (runHere s) refl a
   where
     n : ℕ
     n = zeros (v ∷ vs)
 
     -- the reader's and the packer's continuation after a run length of m
     read : ℕ → ℕ → Word
-    read m q = onZeros m (λ d. given (pos 0) q (inRun d s) none) (plain bits q s)
+    read m q = onZeros m (λ d. given (pos 0) q (inRun d s) none) (plain bits q (unbroken s))
 
     out : ℕ → Out
-    out m = onZeros m (λ d. silent (inRun d s)) (plainOut s v vs)
+    out m = onZeros m (λ d. silent (inRun d s)) (plainOut (unbroken s) v vs)
 
     run : (m q : ℕ) → n ≡ m → At bits q (out m .bits) → Gives (read m q) q v (out m)
-    run zero q e a = plain-at s v vs i h a
+    run zero q e a = unbroken-at s v vs i h a
     run (suc x) q e a = zero-gives q v (inRun x s) (zeros-head v vs x (omega arith) .0)
 
-    due? : (t : Bool) → At bits p (cond t (behind (runField n) (out n)) (plainOut s v vs) .bits)
-        → Gives (cond t (onField (runLength bits p) read) (plain bits p s)) p v (cond t (behind (runField n) (out n)) (plainOut s v vs))
-    due? true a =
-        behind-gives (runField n) (out n) (rw (run-at n (omega (arith, zeros-le (v ∷ vs))) (at-first (runField n) (out n .bits) a)))
+    here? : (t : Bool) → runHere s ≡ t → At bits p (cond t (behind (runField n) (out n)) (plainOut (unbroken s) v vs) .bits)
+        → Gives (fresh bits p s) p v (cond t (behind (runField n) (out n)) (plainOut (unbroken s) v vs))
+    here? true t a =
+        behind-gives (runField n) (out n)
+        (fresh-run bits p s t ∙ rw (run-at n (omega (arith, zeros-le (v ∷ vs))) (at-first (runField n) (out n .bits) a)))
         (run n (p + length (runField n)) refl (at-second (runField n) (out n .bits) a))
-    due? false a = plain-at s v vs i h a
-
-    go : (t : Bool) → At bits p (cond t (plainOut (unbroken s) v vs) (cond (runDue s) (behind (runField n) (out n)) (plainOut s v vs)) .bits)
-        → Gives (cond t (plain bits p (unbroken s)) (cond (runDue s) (onField (runLength bits p) read) (plain bits p s))) p v
-        (cond t (plainOut (unbroken s) v vs) (cond (runDue s) (behind (runField n) (out n)) (plainOut s v vs)))
-    go true a = plain-at (unbroken s) v vs (record { owed = i .owed; zeroed = i .zeroed; oned = i .oned; small-left = i .small-left; small-right = i .small-right }) h a
-    go false a = due? (runDue s) a
+    here? false t a =
+        let g = unbroken-at s v vs i h a in
+        record { report = g .report; reads = fresh-word bits p s t ∙ g .reads }
 
 -- ---- one word
 

@@ -8,7 +8,8 @@ ghost use Rattle.answers.specs.Limits.{maxPayloadBytes};
 ghost use Rattle.bits.specs.Bits.{bitsOf, val, bitOf};
 ghost use Rattle.entropy.specs.Medians.{mediansOf};
 ghost use Rattle.samples.specs.Word.{signed};
-ghost use Rattle.samples.specs.Parts.{ValueIs, notCounted, CountIs, notCoded, PlainIs, ZeroRunIs, CodedIs};
+ghost use Rattle.samples.specs.Parts.{notCounted, notCoded};
+ghost use Rattle.samples.specs.Parts.{ValueIs, CountIs, PlainIs, ZeroRunIs, CodedIs};
 use bits::Field;
 use bits::read::get_bit;
 use entropy::AdaptiveMedians;
@@ -66,7 +67,8 @@ fn decode_signed_value(
     ones_count: u32,
 ) -> SignedValue
     requires { ⌜ length (now payload) ≤ maxPayloadBytes ⌝ }
-    ensures { λ r. ⌜ ValueIs (bitsOf (now (payload .entry))) place (mediansOf medians) «ones_count» r ⌝ }
+    ensures { λ r.
+        ⌜ ValueIs (bitsOf (now (payload .entry))) place (mediansOf medians) «ones_count» r ⌝ }
 {
     let interval = sample_interval(medians, ones_count);
     let low = interval.low;
@@ -162,7 +164,9 @@ fn read_coded(
     last_one: bool,
 ) -> Coded
     requires { ⌜ length (now payload) ≤ maxPayloadBytes ⌝ }
-    ensures { λ r. ⌜ PlainIs (bitsOf (now (payload .entry))) place (mediansOf medians) «last_zero» «last_one» r ⌝ }
+    ensures { λ r.
+        ⌜ PlainIs (bitsOf (now (payload .entry))) place
+        (mediansOf medians) «last_zero» «last_one» r ⌝ }
 {
     let count = read_folded_ones_count(payload, place, last_zero, last_one);
     let OnesCount::Count(ones_count, behind, zero_after, one_after) = count else {
@@ -189,7 +193,9 @@ pub(crate) fn read_word(
     last_one: bool,
 ) -> Coded
     requires { ⌜ length (now payload) ≤ maxPayloadBytes ⌝ }
-    ensures { λ r. ⌜ CodedIs (bitsOf (now (payload .entry))) place eligible (mediansOf medians) «last_zero» «last_one» r ⌝ }
+    ensures { λ r.
+        ⌜ CodedIs (bitsOf (now (payload .entry))) place eligible
+        (mediansOf medians) «last_zero» «last_one» r ⌝ }
 {
     let run = try_zero_run_path_stereo(payload, place, eligible);
     match run {

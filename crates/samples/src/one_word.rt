@@ -39,7 +39,8 @@ fn refused(refusal: Refusal, place: usize, state: StereoDecodeState) -> WordAnsw
 
 // A zero out of a run, which reports no zone.
 fn zero(place: usize, state: StereoDecodeState) -> WordAnswer
-    ensures { λ r. ⌜ viewWord r ≡ tellWord place (stateOf state) (given (pos 0) place (stateOf state) none) ⌝ }
+    ensures { λ r.
+        ⌜ viewWord r ≡ tellWord place (stateOf state) (given (pos 0) place (stateOf state) none) ⌝ }
 {
     WordAnswer {
         outcome: Outcome::Accepted,
@@ -54,7 +55,10 @@ fn zero(place: usize, state: StereoDecodeState) -> WordAnswer
 
 // A sample outside a run.
 fn given(sample: i32, place: usize, state: StereoDecodeState, ones_count: u32) -> WordAnswer
-    ensures { λ r. ⌜ viewWord r ≡ tellWord place (stateOf state) (given sample place (stateOf state) (zoneOf «ones_count»)) ⌝ }
+    ensures { λ r.
+        ⌜ viewWord r
+        ≡ tellWord place (stateOf state)
+        (given sample place (stateOf state) (zoneOf «ones_count»)) ⌝ }
 {
     WordAnswer {
         outcome: Outcome::Accepted,
@@ -102,7 +106,9 @@ fn adapted(
     last_one: bool,
 ) -> StereoDecodeState
     requires { ⌜ state .«next_channel» < 2 ⌝ }
-    ensures { λ r. ⌜ stateOf r ≡ after «ones_count» (withFlags «last_zero» «last_one» (unbroken (stateOf state))) ⌝ }
+    ensures { λ r.
+        ⌜ stateOf r
+        ≡ after «ones_count» (withFlags «last_zero» «last_one» (unbroken (stateOf state))) ⌝ }
 {
     let channel = state.next_channel as usize;
     let mut medians = state.medians;

@@ -30,7 +30,8 @@ use word_state::zero_run_eligible;
 
 // The answer of a reading that accepted every word.
 fn accepted(bits: usize, medians: [AdaptiveMedians; 2], written: usize) -> ReadAnswer
-    ensures { λ r. ⌜ r ≡ record { outcome = Outcome.Accepted; bits = bits; medians = medians; written = written } ⌝ }
+    ensures { λ r.
+        ⌜ r ≡ record { outcome = Outcome.Accepted; bits = bits; medians = medians; written = written } ⌝ }
 {
     ReadAnswer {
         outcome: Outcome::Accepted,
@@ -47,7 +48,13 @@ fn stopped(
     medians: [AdaptiveMedians; 2],
     written: usize,
 ) -> ReadAnswer
-    ensures { λ r. ⌜ r ≡ record { outcome = Outcome.Refused refusal; bits = bits; medians = medians; written = written } ⌝ }
+    ensures { λ r.
+        ⌜ r ≡ record {
+          outcome = Outcome.Refused refusal;
+          bits = bits;
+          medians = medians;
+          written = written;
+        } ⌝ }
 {
     ReadAnswer {
         outcome: Outcome::Refused(refusal),
@@ -84,7 +91,11 @@ fn decode_packed_samples_stereo(
     out: &mut [i32],
 ) -> ReadAnswer
     requires { ⌜ length (now payload) ≤ maxPayloadBytes ⌝ }
-    ensures { λ r. ⌜ viewReading r (now (out .exit)) ≡ tellReading (now (out .entry)) (reading (bitsOf (now (payload .entry))) (length (now (out .entry))) 0 (start (pairOf seeds .left) (pairOf seeds .right))) ⌝ }
+    ensures { λ r.
+        ⌜ viewReading r (now (out .exit))
+        ≡ tellReading (now (out .entry))
+        (reading (bitsOf (now (payload .entry))) (length (now (out .entry))) 0
+        (start (pairOf seeds .left) (pairOf seeds .right))) ⌝ }
 {
     let none = AdaptiveMedians { values: [0, 0, 0] };
     let mut medians = seeds;
@@ -121,7 +132,8 @@ fn decode_packed_samples_stereo(
 
 // The answer of a reading that ended before any word.
 fn not_read(outcome: Outcome) -> ReadAnswer
-    ensures { λ r. ⌜ ((list : List ℤ) → viewReading r list ≡ notRead list (outcomeNumber outcome)) ⌝ }
+    ensures { λ r.
+        ⌜ ((list : List ℤ) → viewReading r list ≡ notRead list (outcomeNumber outcome)) ⌝ }
 {
     let none = AdaptiveMedians { values: [0, 0, 0] };
     ReadAnswer {
@@ -142,7 +154,9 @@ pub fn decode_packed_samples_stereo_from_entropy(
     frames: usize,
     out: &mut [i32],
 ) -> ReadAnswer
-    ensures { λ r. ⌜ viewReading r (now (out .exit)) ≡ readEntry (now (entropy .entry)) (now (payload .entry)) frames (now (out .entry)) ⌝ }
+    ensures { λ r.
+        ⌜ viewReading r (now (out .exit))
+        ≡ readEntry (now (entropy .entry)) (now (payload .entry)) frames (now (out .entry)) ⌝ }
 {
     if frames > MAX_FRAMES {
         return not_read(Outcome::Refused(Refusal::TooLarge));

@@ -27,7 +27,9 @@ pub fn zero_run_eligible(
     last_zero: bool,
     last_one: bool,
 ) -> bool
-    ensures { λ r. ⌜ r ≡ (not «run_break» && runDue (mediansOf «one_set») (mediansOf «other_set») «last_zero» «last_one») ⌝ }
+    ensures { λ r.
+        ⌜ r ≡ (not «run_break»
+        && runDue (mediansOf «one_set») (mediansOf «other_set») «last_zero» «last_one») ⌝ }
 {
     let one = one_set.values;
     let other = other_set.values;

@@ -8,38 +8,32 @@ use borrow.Author.Needs.{needs}
 use Rattle.entropy.proofs.any_negative.Statement.{statement}
 use Rattle.entropy.proofs.any_negative.Tie as tie
 
-array-copy-out-if1 : tie.Need-array-copy-out-if1
-array-copy-out-if1 c = search needs
-
 returns : tie.Need-returns
 unfolding anyNegative
 returns c = rw (negative-by (getD (c .before .before .args .t1) 0 (pos 0)) (search needs) (c .if1 .taken))
 
-array-copy-out-if2 : tie.Need-array-copy-out-if2
-array-copy-out-if2 c = search needs
-
 returns-2 : tie.Need-returns-2
 unfolding anyNegative
 returns-2 c =
-    let set = c .before .before .before .before .args .t1 in
+    let start : tie.Start = search needs in
+    let set = start .args .t1 in
     rw (negative-by (getD set 0 (pos 0)) (search needs) (c .before .before .if1 .left), negative-by (getD set 1 (pos 0)) (search needs) (c .if2 .taken))
-
-array-copy-out-result : tie.Need-array-copy-out-result
-array-copy-out-result c = search needs
 
 returns-3 : tie.Need-returns-3
 unfolding anyNegative
 returns-3 c =
-    let set = c .before .before .before .before .before .args .t1 in
-    rw (negative-by (getD set 0 (pos 0)) (search needs) (c .before .before .before .if1 .left), negative-by (getD set 1 (pos 0)) (search needs) (c .before .if2 .left), negative-bits (getD set 2 (pos 0)) (search needs))
+    let start : tie.Start = search needs in
+    let else1 : tie.Else1 = search needs in
+    let set = start .args .t1 in
+    rw (negative-by (getD set 0 (pos 0)) (search needs) (else1 .if1 .left), negative-by (getD set 1 (pos 0)) (search needs) (c .before .if2 .left), negative-bits (getD set 2 (pos 0)) (search needs))
 
 pub any-negative-spec : {M : Type 1} → statement M
 any-negative-spec =
     tie.close
     (tie.spec
-    array-copy-out-if1
+    (λ c. search needs)
     returns
-    array-copy-out-if2
+    (λ c. search needs)
     returns-2
-    array-copy-out-result
+    (λ c. search needs)
     returns-3)

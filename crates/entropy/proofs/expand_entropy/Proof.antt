@@ -5,44 +5,32 @@ use borrow.Author.Needs.{needs}
 use Rattle.entropy.proofs.expand_entropy.Statement.{statement}
 use Rattle.entropy.proofs.expand_entropy.Tie as tie
 
-read-median-set-requires : tie.Need-read-median-set-requires
-read-median-set-requires c κs = search needs
-
 returns : tie.Need-returns
-returns c = mono-answer (c .before .before .before .args .payload .now) (c .read-median-set .result) (c .before .if1 .taken) (c .read-median-set .ensures)
-
-read-median-set-requires-2 : tie.Need-read-median-set-requires-2
-read-median-set-requires-2 c κs = search needs
-
-sub-read-median-set : tie.Need-sub-read-median-set
-sub-read-median-set c = search needs
-
-part-read-median-set-start : tie.Need-part-read-median-set-start
-part-read-median-set-start c = search needs
-
-part-read-median-set-end : tie.Need-part-read-median-set-end
-part-read-median-set-end c = search needs
-
-read-median-set-requires-3 : tie.Need-read-median-set-requires-3
-read-median-set-requires-3 c κs = search needs
+returns c =
+    let start : tie.Start = search needs in
+    mono-answer (start .args .payload .now) (c .read-median-set .result) (c .before .if1 .taken) (c .read-median-set .ensures)
 
 returns-2 : tie.Need-returns-2
 returns-2 c =
-    stereo-answer (c .before .before .before .before .before .before .args .payload .now) (c .before .before .read-median-set2 .result) (c .read-median-set3 .result) (c .before .before .before .if2 .taken) (c .before .before .read-median-set2 .ensures) (c .read-median-set3 .ensures)
+    let start : tie.Start = search needs in
+    let then2 : tie.Then2 = search needs in
+    stereo-answer (start .args .payload .now) (c .before .before .read-median-set2 .result) (c .read-median-set3 .result) (then2 .if2 .taken) (c .before .before .read-median-set2 .ensures) (c .read-median-set3 .ensures)
 
 returns-3 : tie.Need-returns-3
-returns-3 c = no-answer (c .before .before .before .args .payload .now) (c .before .if1 .left) (c .if2 .left)
+returns-3 c =
+    let start : tie.Start = search needs in
+    no-answer (start .args .payload .now) (c .before .if1 .left) (c .if2 .left)
 
 pub expand-entropy-spec : {M : Type 1} → statement M
 expand-entropy-spec =
     tie.close
     (tie.spec
-    read-median-set-requires
+    (λ c κs. search needs)
     returns
-    read-median-set-requires-2
-    sub-read-median-set
-    part-read-median-set-start
-    part-read-median-set-end
-    read-median-set-requires-3
+    (λ c κs. search needs)
+    (λ c. search needs)
+    (λ c. search needs)
+    (λ c. search needs)
+    (λ c κs. search needs)
     returns-2
     returns-3)

@@ -6,36 +6,30 @@ use borrow.Author.Needs.{needs}
 use Rattle.entropy.proofs.is_not_stereo.Statement.{statement}
 use Rattle.entropy.proofs.is_not_stereo.Tie as tie
 
-is-mono-requires : tie.Need-is-mono-requires
-is-mono-requires c κs = search needs
-
 returns : tie.Need-returns
 unfolding notStereo
 returns c = rw (sym (c .before .is-mono .ensures) ∙ c .if1 .taken)
 
-any-negative-requires : tie.Need-any-negative-requires
-any-negative-requires c κs = search needs
-
 returns-2 : tie.Need-returns-2
 unfolding notStereo
 returns-2 c =
-    rw (sym (c .before .before .before .is-mono .ensures) ∙ c .before .before .if1 .left, sym (c .before .any-negative .ensures) ∙ c .if2 .taken)
-
-any-negative-requires-2 : tie.Need-any-negative-requires-2
-any-negative-requires-2 c κs = search needs
+    let after-is-mono : tie.After-is-mono = search needs in
+    rw (sym (after-is-mono .is-mono .ensures) ∙ c .before .before .if1 .left, sym (c .before .any-negative .ensures) ∙ c .if2 .taken)
 
 returns-3 : tie.Need-returns-3
 unfolding notStereo
 returns-3 c =
-    rw (sym (c .before .before .before .before .is-mono .ensures) ∙ c .before .before .before .if1 .left, sym (c .before .before .any-negative .ensures) ∙ c .before .if2 .left, c .any-negative2 .ensures)
+    let after-is-mono : tie.After-is-mono = search needs in
+    let else1 : tie.Else1 = search needs in
+    rw (sym (after-is-mono .is-mono .ensures) ∙ else1 .if1 .left, sym (c .before .before .any-negative .ensures) ∙ c .before .if2 .left, c .any-negative2 .ensures)
 
 pub is-not-stereo-spec : {M : Type 1} → statement M
 is-not-stereo-spec =
     tie.close
     (tie.spec
-    is-mono-requires
+    (λ c κs. search needs)
     returns
-    any-negative-requires
+    (λ c κs. search needs)
     returns-2
-    any-negative-requires-2
+    (λ c κs. search needs)
     returns-3)

@@ -7,35 +7,25 @@ use borrow.Author.Needs.{needs}
 use Rattle.entropy.proofs.seed_set.Statement.{statement}
 use Rattle.entropy.proofs.seed_set.Tie as tie
 
-array-copy-out-t5 : tie.Need-array-copy-out-t5
-array-copy-out-t5 c = search needs
-
 cast-t6 : tie.Need-cast-t6
 cast-t6 c = natural (getD (c .before .args .t1) 0 (pos 0)) (search needs) (none-negative (c .before .args .t1) (c .before .pre) .n0)
-
-array-copy-out-t9 : tie.Need-array-copy-out-t9
-array-copy-out-t9 c = search needs
 
 cast-t10 : tie.Need-cast-t10
 cast-t10 c = natural (getD (c .before .before .args .t1) 1 (pos 0)) (search needs) (none-negative (c .before .before .args .t1) (c .before .before .pre) .n1)
 
-array-copy-out-t13 : tie.Need-array-copy-out-t13
-array-copy-out-t13 c = search needs
-
 cast-t14 : tie.Need-cast-t14
-cast-t14 c = natural (getD (c .before .before .before .args .t1) 2 (pos 0)) (search needs) (none-negative (c .before .before .before .args .t1) (c .before .before .before .pre) .n2)
-
-returns : tie.Need-returns
-returns c = search needs
+cast-t14 c =
+    let start : tie.Start = search needs in
+    natural (getD (start .args .t1) 2 (pos 0)) (search needs) (none-negative (start .args .t1) (start .pre) .n2)
 
 pub seed-set-spec : {M : Type 1} → statement M
 seed-set-spec =
     tie.close
     (tie.spec
-    array-copy-out-t5
+    (λ c. search needs)
     cast-t6
-    array-copy-out-t9
+    (λ c. search needs)
     cast-t10
-    array-copy-out-t13
+    (λ c. search needs)
     cast-t14
-    returns)
+    (λ c. search needs))

@@ -6,47 +6,41 @@ use borrow.Author.Needs.{needs}
 use Rattle.entropy.proofs.stereo_pair_from_entropy.Statement.{statement}
 use Rattle.entropy.proofs.stereo_pair_from_entropy.Tie as tie
 
-expand-entropy-requires : tie.Need-expand-entropy-requires
-expand-entropy-requires c κs = search needs
-
-enum-told : tie.Need-enum-told
-enum-told c = search needs
-
-enum-told-2 : tie.Need-enum-told-2
-enum-told-2 c = search needs
-
-no-seed-requires : tie.Need-no-seed-requires
-no-seed-requires c κs = search needs
-
 returns : tie.Need-returns
 returns c =
-    let x = c .before .before .before .before .expand-entropy in
+    let after-expand-entropy : tie.After-expand-entropy = search needs in
+    let x = after-expand-entropy .expand-entropy in
     length-refused-raw _ _ _ _ _ (c .no-seed .ensures .0) (c .before .enum-told2 .given .1) (x .ensures .0) (c .no-seed .ensures .1)
-
-is-not-stereo-requires : tie.Need-is-not-stereo-requires
-is-not-stereo-requires c κs = search needs
-
-no-seed-requires-2 : tie.Need-no-seed-requires-2
-no-seed-requires-2 c κs = search needs
 
 returns-2 : tie.Need-returns-2
 returns-2 c =
-    let x = c .before .before .before .before .before .before .expand-entropy in
-    not-stereo-raw _ _ _ _ _ (c .no-seed2 .ensures .0) (c .before .before .before .enum-told .given .1) (x .ensures .0) (x .ensures .1)
+    let after-expand-entropy : tie.After-expand-entropy = search needs in
+    let after-enum-told : tie.After-enum-told = search needs in
+    let x = after-expand-entropy .expand-entropy in
+    not-stereo-raw _ _ _ _ _ (c .no-seed2 .ensures .0) (after-enum-told .enum-told .given .1) (x .ensures .0) (x .ensures .1)
     (sym (c .before .before .is-not-stereo .ensures) ∙ c .before .if1 .taken)
     (c .no-seed2 .ensures .1)
 
 seed-set-requires : tie.Need-seed-set-requires
-seed-set-requires c κs = stereo _ (sym (c .before .before .before .is-not-stereo .ensures) ∙ c .before .before .if1 .left) .left
+seed-set-requires c κs =
+    let after-is-not-stereo : tie.After-is-not-stereo = search needs in
+    stereo _ (sym (after-is-not-stereo .is-not-stereo .ensures) ∙ c .before .before .if1 .left) .left
 
 seed-set-requires-2 : tie.Need-seed-set-requires-2
-seed-set-requires-2 c κs = stereo _ (sym (c .before .before .before .before .is-not-stereo .ensures) ∙ c .before .before .before .if1 .left) .right
+seed-set-requires-2 c κs =
+    let after-is-not-stereo : tie.After-is-not-stereo = search needs in
+    let else1 : tie.Else1 = search needs in
+    stereo _ (sym (after-is-not-stereo .is-not-stereo .ensures) ∙ else1 .if1 .left) .right
 
 returns-3 : tie.Need-returns-3
 returns-3 c =
-    let x = c .before .before .before .before .before .before .before .before .before .expand-entropy in
-    accepted-raw _ _ _ _ _ (c .before .before .before .before .before .before .enum-told .given .1) (x .ensures .0) (x .ensures .1)
-    (sym (c .before .before .before .before .before .is-not-stereo .ensures) ∙ c .before .before .before .before .if1 .left)
+    let after-expand-entropy : tie.After-expand-entropy = search needs in
+    let after-enum-told : tie.After-enum-told = search needs in
+    let after-is-not-stereo : tie.After-is-not-stereo = search needs in
+    let else1 : tie.Else1 = search needs in
+    let x = after-expand-entropy .expand-entropy in
+    accepted-raw _ _ _ _ _ (after-enum-told .enum-told .given .1) (x .ensures .0) (x .ensures .1)
+    (sym (after-is-not-stereo .is-not-stereo .ensures) ∙ else1 .if1 .left)
     (c .before .seed-set .ensures)
     (c .seed-set2 .ensures)
 
@@ -54,13 +48,13 @@ pub stereo-pair-from-entropy-spec : {M : Type 1} → statement M
 stereo-pair-from-entropy-spec =
     tie.close
     (tie.spec
-    expand-entropy-requires
-    enum-told
-    enum-told-2
-    no-seed-requires
+    (λ c κs. search needs)
+    (λ c. search needs)
+    (λ c. search needs)
+    (λ c κs. search needs)
     returns
-    is-not-stereo-requires
-    no-seed-requires-2
+    (λ c κs. search needs)
+    (λ c κs. search needs)
     returns-2
     seed-set-requires
     seed-set-requires-2

@@ -21,28 +21,15 @@ abbrev μ-loop : tie.MeasureT-loop
 loop-holds : tie.Need-loop-holds Inv-loop μ-loop
 loop-holds c = copied-start _ _
 
-mul-to : tie.Need-mul-to Inv-loop μ-loop
-mul-to c = omega arith
-
-shared-slice-copy-out-to : tie.Need-shared-slice-copy-out-to Inv-loop μ-loop
-shared-slice-copy-out-to c = omega arith
-
-mul-t8 : tie.Need-mul-t8 Inv-loop μ-loop
-mul-t8 c = omega arith
-
 slice-set-from-to : tie.Need-slice-set-from-to Inv-loop μ-loop
-slice-set-from-to c = omega (arith, c .before .before .loop .inv, c .before .before .before .pre)
-
-add-i : tie.Need-add-i Inv-loop μ-loop
-add-i c = omega arith
-
-loop-less : tie.Need-loop-less Inv-loop μ-loop
-loop-less c = omega arith
+slice-set-from-to c =
+    let start : tie.Start Inv-loop μ-loop = search needs in
+    omega (arith, c .before .before .loop .inv, start .pre)
 
 loop-again : tie.Need-loop-again Inv-loop μ-loop
 loop-again c =
+    let x : tie.Start Inv-loop μ-loop = search needs in
     let l = c .before .before .loop in
-    let x = c .before .before .before in
     let f : SFits w32 (getD (x .args .from .now) (l .i) (pos 0)) = search needs in
     rw (toZ-ofZ f) (copied-step _ _ _ (l .i) (omega arith) (x .pre) f (l .inv))
 
@@ -59,12 +46,12 @@ copy-spec =
     Inv-loop
     μ-loop
     loop-holds
-    mul-to
-    shared-slice-copy-out-to
-    mul-t8
+    (λ c. omega arith)
+    (λ c. omega arith)
+    (λ c. omega arith)
     slice-set-from-to
-    add-i
-    loop-less
+    (λ c. omega arith)
+    (λ c. omega arith)
     loop-again
     same-length
     returns)

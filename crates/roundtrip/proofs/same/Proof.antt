@@ -24,33 +24,17 @@ abbrev μ-loop : tie.MeasureT-loop
 loop-holds : tie.Need-loop-holds Inv-loop μ-loop
 loop-holds c = (omega arith, refl)
 
-mul-if1 : tie.Need-mul-if1 Inv-loop μ-loop
-mul-if1 c = omega arith
-
-shared-slice-copy-out-if1 : tie.Need-shared-slice-copy-out-if1 Inv-loop μ-loop
-shared-slice-copy-out-if1 c = omega arith
-
-mul-if1-2 : tie.Need-mul-if1-2 Inv-loop μ-loop
-mul-if1-2 c = omega arith
-
-shared-slice-copy-out-if1-2 : tie.Need-shared-slice-copy-out-if1-2 Inv-loop μ-loop
-shared-slice-copy-out-if1-2 c = omega arith
-
 returns : tie.Need-returns Inv-loop μ-loop
 returns c =
-    let i = c .before .before .before .before .loop .i in
+    let at-loop : tie.At-loop Inv-loop μ-loop = search needs in
+    let i = at-loop .loop .i in
     record { told = λ e. absurd (c .if1 .taken (ap (λ (l : List ℤ). ofZ w32 (getD l i (pos 0))) e)); true-is = λ e. clash e refl }
-
-add-i : tie.Need-add-i Inv-loop μ-loop
-add-i c = omega arith
-
-loop-less : tie.Need-loop-less Inv-loop μ-loop
-loop-less c = omega arith
 
 loop-again : tie.Need-loop-again Inv-loop μ-loop
 loop-again c =
-    let l = c .before .before .before .before .loop in
-    let x = c .before .before .before .before .before in
+    let x : tie.Start Inv-loop μ-loop = search needs in
+    let at-loop : tie.At-loop Inv-loop μ-loop = search needs in
+    let l = at-loop .loop in
     let f : SFits w32 (getD (x .args .a .now) (l .i) (pos 0)) = search needs in
     let g : SFits w32 (getD (x .args .b .now) (l .i) (pos 0)) = search needs in
     (omega arith, same-step _ _ (l .i) (omega arith) (x .pre) (l .inv .1) (sym (toZ-ofZ f) ∙ ap (toZ w32) (c .if1 .left) ∙ toZ-ofZ g))
@@ -67,12 +51,12 @@ same-spec =
     Inv-loop
     μ-loop
     loop-holds
-    mul-if1
-    shared-slice-copy-out-if1
-    mul-if1-2
-    shared-slice-copy-out-if1-2
+    (λ c. omega arith)
+    (λ c. omega arith)
+    (λ c. omega arith)
+    (λ c. omega arith)
     returns
-    add-i
-    loop-less
+    (λ c. omega arith)
+    (λ c. omega arith)
     loop-again
     returns-2)

@@ -8,38 +8,34 @@ use borrow.Author.Needs.{needs}
 use Rattle.entropy.proofs.EntropyInfo.is_mono.Statement.{statement}
 use Rattle.entropy.proofs.EntropyInfo.is_mono.Tie as tie
 
-array-copy-out-if1 : tie.Need-array-copy-out-if1
-array-copy-out-if1 c = search needs
-
 returns : tie.Need-returns
 unfolding isMono
-returns c = let right = c .before .before .before .args .self .«medians_right» in rw (not-zero (getD right 0 (pos 0)) (search needs) (c .if1 .taken))
-
-array-copy-out-if2 : tie.Need-array-copy-out-if2
-array-copy-out-if2 c = search needs
+returns c =
+    let start : tie.Start = search needs in
+    let right = start .args .self .«medians_right» in rw (not-zero (getD right 0 (pos 0)) (search needs) (c .if1 .taken))
 
 returns-2 : tie.Need-returns-2
 unfolding isMono
 returns-2 c =
-    let right = c .before .before .before .before .before .args .self .«medians_right» in
+    let start : tie.Start = search needs in
+    let right = start .args .self .«medians_right» in
     rw (is-zero (getD right 0 (pos 0)) (search needs) (c .before .before .if1 .left), not-zero (getD right 1 (pos 0)) (search needs) (c .if2 .taken))
-
-array-copy-out-result : tie.Need-array-copy-out-result
-array-copy-out-result c = search needs
 
 returns-3 : tie.Need-returns-3
 unfolding isMono
 returns-3 c =
-    let right = c .before .before .before .before .before .before .args .self .«medians_right» in
-    rw (is-zero (getD right 0 (pos 0)) (search needs) (c .before .before .before .if1 .left), is-zero (getD right 1 (pos 0)) (search needs) (c .before .if2 .left), zero-bits (getD right 2 (pos 0)) (search needs))
+    let start : tie.Start = search needs in
+    let else1 : tie.Else1 = search needs in
+    let right = start .args .self .«medians_right» in
+    rw (is-zero (getD right 0 (pos 0)) (search needs) (else1 .if1 .left), is-zero (getD right 1 (pos 0)) (search needs) (c .before .if2 .left), zero-bits (getD right 2 (pos 0)) (search needs))
 
 pub is-mono-spec : {M : Type 1} → statement M
 is-mono-spec =
     tie.close
     (tie.spec
-    array-copy-out-if1
+    (λ c. search needs)
     returns
-    array-copy-out-if2
+    (λ c. search needs)
     returns-2
-    array-copy-out-result
+    (λ c. search needs)
     returns-3)

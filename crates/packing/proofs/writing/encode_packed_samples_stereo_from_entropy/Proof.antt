@@ -10,29 +10,15 @@ use lib.ListN.{length}
 use Rattle.entropy.proofs.SeedBounds.{seeds-small}
 use Rattle.answers.specs.Numbers.{outcomeNumber}
 use Rattle.entropy.specs.Medians.{MedianPair, Small}
-use Rattle.packing.specs.Packing.{spanned}
+use Rattle.word_bits.specs.Residuals.{spanned}
 use Rattle.packing.proofs.RefusalLaws.{Ready, ready}
 use Rattle.packing.proofs.EntryLaws.{refuses-before, refuses-span, accepts}
-use Rattle.packing.proofs.writing.encode_packed_samples_stereo_from_entropy.Statement.{
-  statement,
-}
+use Rattle.packing.proofs.writing.encode_packed_samples_stereo_from_entropy.Statement.{statement}
 use Rattle.packing.proofs.writing.encode_packed_samples_stereo_from_entropy.Tie as tie
-
-refusal-before-span-requires : tie.Need-refusal-before-span-requires
-refusal-before-span-requires c κs = search needs
-
-enum-told : tie.Need-enum-told
-enum-told c = search needs
-
-enum-told-2 : tie.Need-enum-told-2
-enum-told-2 c = search needs
-
-refused-requires : tie.Need-refused-requires
-refused-requires c κs = search needs
 
 returns : tie.Need-returns
 returns c =
-    let tested = c .before .before .before in
+    let tested : tie.After-refusal-before-span = search needs in
     refuses-before _ _ _ _ (c .refused .result) _ _ (c .before .enum-told2 .given .1) (tested .refusal-before-span .ensures) (c .refused .ensures)
 
 abbrev start : tie.After-enum-told → tie.Start
@@ -45,9 +31,6 @@ ready-at t = ready _ _ _ _ (sym (t .before .before .refusal-before-span .ensures
 in-span-requires : tie.Need-in-span-requires
 in-span-requires c κs = let r = ready-at c in omega arith
 
-refused-requires-2 : tie.Need-refused-requires-2
-refused-requires-2 c κs = search needs
-
 returns-2 : tie.Need-returns-2
 returns-2 c =
     let looked = c .before .before in
@@ -56,9 +39,6 @@ returns-2 c =
 -- all residuals are in the span
 span-at : (c : tie.Else1) → spanned (now (start (c .before .before) .args .residuals)) ≡ true
 span-at c = sym (c .before .in-span .ensures) ∙ not-false _ (c .if1 .left)
-
-stereo-pair-from-entropy-requires : tie.Need-stereo-pair-from-entropy-requires
-stereo-pair-from-entropy-requires c κs = search needs
 
 pack-words-requires : tie.Need-pack-words-requires
 pack-words-requires c κs =
@@ -69,12 +49,9 @@ pack-words-requires c κs =
     let e = seeded .stereo-pair-from-entropy .ensures .1 in
     ((omega arith, omega arith), (span-at (seeded .before), subst (λ (p : MedianPair). Small (p .left)) (sym e) (s .0), subst (λ (p : MedianPair). Small (p .right)) (sym e) (s .1)))
 
-same-length : tie.Need-same-length
-same-length c = search needs
-
 returns-3 : tie.Need-returns-3
 returns-3 c =
-    let p = c .before .before .before in
+    let p : tie.After-pack-words = search needs in
     let seeded = p .before .before .before in
     let t = seeded .before .before .before in
     accepts _ _ _ _ _ _ _ _ (record { before = ready-at t; span = span-at (seeded .before) }) (seeded .stereo-pair-from-entropy .ensures .1) (p .pack-words .ensures) refl refl refl
@@ -83,15 +60,15 @@ pub encode-packed-samples-stereo-from-entropy-spec : {M : Type 1} → statement 
 encode-packed-samples-stereo-from-entropy-spec =
     tie.close
     (tie.spec
-    refusal-before-span-requires
-    enum-told
-    enum-told-2
-    refused-requires
+    (λ c κs. search needs)
+    (λ c. search needs)
+    (λ c. search needs)
+    (λ c κs. search needs)
     returns
     in-span-requires
-    refused-requires-2
+    (λ c κs. search needs)
     returns-2
-    stereo-pair-from-entropy-requires
+    (λ c κs. search needs)
     pack-words-requires
-    same-length
+    (λ c. search needs)
     returns-3)

@@ -1,4 +1,5 @@
--- `packing::writing::pack_words` meets its contract: what is written and what is left, from the state that the locals hold, is the whole.
+-- `packing::writing::pack_words` meets its contract: what is written and what is left, from the
+-- state that the locals hold, is the whole.
 -- Assumes nothing.
 use mathlib.Core.Path.{_≡_, refl}
 use Prim.Native.Nat.{ℕ, suc, _+_, _-_, _*_, _/_, _%_, _≤_, _<_}
@@ -17,9 +18,9 @@ use Rattle.bits.specs.Laid.{put}
 use Rattle.bits.proofs.WriteLaws.{put-lent}
 use Rattle.packing.specs.Packing.{wordOut}
 use Rattle.packing.specs.View.{Turned}
-use Rattle.packing.specs.declared.word.Turn.{Turn}
+use Rattle.packing.specs.declared.turn.Turn.{Turn}
 use Rattle.packing.proofs.LoopLaws.{Loop, loop-start, loop-due-small, loop-other-small, loop-seen, word-room, run-room, loop-word, loop-run, loop-end}
-use Rattle.packing.proofs.SpanLaws.{spanned-at}
+use Rattle.word_bits.proofs.SpanLaws.{spanned-at}
 use Rattle.packing.proofs.writing.pack_words.Statement.{statement}
 use Rattle.packing.proofs.writing.pack_words.Tie as tie
 
@@ -39,8 +40,9 @@ record Facts (len size place i : ℕ) : Type 0 where
 
 facts : (c : tie.In-loop Inv-loop μ-loop) → let l = c .before .loop in Facts (length (c .before .before .before .args .residuals .now)) (length (l .out)) (l .bits) (l .i)
 facts c =
+    let start : tie.Start Inv-loop μ-loop = search needs in
     let l = c .before .loop .inv in
-    let p = c .before .before .before .pre .0 in
+    let p = start .pre .0 in
     record { room = omega (arith, l .room, l .here, l .same); here = omega arith; most = omega arith }
 
 loop-holds : tie.Need-loop-holds Inv-loop μ-loop
@@ -57,26 +59,13 @@ part-put-turn-start c = let f = facts c in omega arith
 part-put-turn-end : tie.Need-part-put-turn-end Inv-loop μ-loop
 part-put-turn-end c = let f = facts c in omega arith
 
-mul-put-turn : tie.Need-mul-put-turn Inv-loop μ-loop
-mul-put-turn c = omega arith
-
-array-copy-out-put-turn : tie.Need-array-copy-out-put-turn Inv-loop μ-loop
-array-copy-out-put-turn c = omega arith
-
-sub-put-turn-2 : tie.Need-sub-put-turn-2 Inv-loop μ-loop
-sub-put-turn-2 c = omega arith
-
-mul-put-turn-2 : tie.Need-mul-put-turn-2 Inv-loop μ-loop
-mul-put-turn-2 c = omega arith
-
-array-copy-out-put-turn-2 : tie.Need-array-copy-out-put-turn-2 Inv-loop μ-loop
-array-copy-out-put-turn-2 c = omega arith
-
 put-turn-requires : tie.Need-put-turn-requires Inv-loop μ-loop
 put-turn-requires c κs =
-    let f = facts (c .before .before .before) in
-    let l = c .before .before .before .before .loop in
-    let x = c .before .before .before .before .before .before in (
+    let x : tie.Start Inv-loop μ-loop = search needs in
+    let at-loop : tie.At-loop Inv-loop μ-loop = search needs in
+    let in-loop : tie.In-loop Inv-loop μ-loop = search needs in
+    let f = facts in-loop in
+    let l = at-loop .loop in (
       (omega arith, omega (arith, length-drop (l .bits / 8) (l .out), length-take (length (l .out) - l .bits / 8) (drop (l .bits / 8) (l .out))), f .here, f .most),
       (loop-due-small _ _ _ _ _ _ _ _ _ _ (l .inv), loop-other-small _ _ _ _ _ _ _ _ _ _ (l .inv), spanned-at _ (l .i) (x .pre .1 .0) (f .here)),
     )
@@ -93,9 +82,11 @@ record Lent (vs : List ℤ) (s : State) (out last : List ℕ) (place i : ℕ) (r
 lent : (c : tie.After-put-turn Inv-loop μ-loop) → let l = c .before .before .before .before .before .loop in
     Lent (c .before .before .before .before .before .before .before .args .residuals .now) (l .inv .state) (l .out) (c .put-turn .last .0) (l .bits) (l .i) (c .put-turn .result)
 lent c =
-    let l = c .before .before .before .before .before .loop in
-    let x = c .before .before .before .before .before .before .before in
-    let f = facts (c .before .before .before .before) in
+    let x : tie.Start Inv-loop μ-loop = search needs in
+    let at-loop : tie.At-loop Inv-loop μ-loop = search needs in
+    let in-loop : tie.In-loop Inv-loop μ-loop = search needs in
+    let l = at-loop .loop in
+    let f = facts in-loop in
     let t = c .put-turn .ensures .turned (l .inv .state) (loop-seen _ _ _ _ _ _ _ _ _ (l .i) (l .inv)) in
     record {
       turned = t;
@@ -108,29 +99,34 @@ lent c =
     }
 
 mul-bits : tie.Need-mul-bits Inv-loop μ-loop
-mul-bits c = let f = facts (c .before .before .before .before .before .before) in omega arith
+mul-bits c =
+    let in-loop : tie.In-loop Inv-loop μ-loop = search needs in
+    let f = facts in-loop in omega arith
 
 add-bits : tie.Need-add-bits Inv-loop μ-loop
 add-bits c =
-    let t = lent (c .before .before .before) in
-    let f = facts (c .before .before .before .before .before .before .before) in
+    let in-loop : tie.In-loop Inv-loop μ-loop = search needs in
+    let after-put-turn : tie.After-put-turn Inv-loop μ-loop = search needs in
+    let t = lent after-put-turn in
+    let f = facts in-loop in
     omega (arith, t .place-is, t .few)
 
 add-i : tie.Need-add-i Inv-loop μ-loop
 add-i c =
-    let p = c .before .before .before .before .before .before in
+    let p : tie.After-put-turn Inv-loop μ-loop = search needs in
     let some = ltb-true 0 (p .put-turn .result .run) (c .before .if1 .taken) in
     omega (arith, some, lent p .most some, facts (p .before .before .before .before))
 
 loop-less : tie.Need-loop-less Inv-loop μ-loop
 loop-less c =
-    let p = c .before .before .before .before .before .before in
+    let p : tie.After-put-turn Inv-loop μ-loop = search needs in
     let some = ltb-true 0 (p .put-turn .result .run) (c .before .if1 .taken) in
     omega (arith, some, lent p .most some, facts (p .before .before .before .before))
 
 loop-again : tie.Need-loop-again Inv-loop μ-loop
 loop-again c =
-    let p = c .before .before .before .before .before .before in
+    let p : tie.After-put-turn Inv-loop μ-loop = search needs in
+    let after-slice-known2 : tie.After-slice-known2 Inv-loop μ-loop = search needs in
     let t = lent p in
     let l = p .before .before .before .before .before .loop in
     let x = p .before .before .before .before .before .before .before in
@@ -138,23 +134,22 @@ loop-again c =
     let some = ltb-true 0 (p .put-turn .result .run) (c .before .if1 .taken) in
     rw (c .before .if1 .taken)
     (loop-run _ _ _ _ _ _ _ _ _ (l .i) (l .inv) _ _ _ _ _ (x .pre .1 .0) (f .most) (f .here) some (t .turned .run some) (t .bytes) (t .place-is) (t .size)
-    (λ i. omega (arith, c .before .before .before .before .slice-known2 .given i)))
-
-mul-medians : tie.Need-mul-medians Inv-loop μ-loop
-mul-medians c = omega arith
-
-array-set-from-medians : tie.Need-array-set-from-medians Inv-loop μ-loop
-array-set-from-medians c = omega arith
+    (λ i. omega (arith, after-slice-known2 .slice-known2 .given i)))
 
 add-i-2 : tie.Need-add-i-2 Inv-loop μ-loop
-add-i-2 c = omega (arith, facts (c .before .before .before .before .before .before .before .before .before))
+add-i-2 c =
+    let in-loop : tie.In-loop Inv-loop μ-loop = search needs in
+    omega (arith, facts in-loop)
 
 loop-less-2 : tie.Need-loop-less-2 Inv-loop μ-loop
-loop-less-2 c = omega (arith, facts (c .before .before .before .before .before .before .before .before .before))
+loop-less-2 c =
+    let in-loop : tie.In-loop Inv-loop μ-loop = search needs in
+    omega (arith, facts in-loop)
 
 loop-again-2 : tie.Need-loop-again-2 Inv-loop μ-loop
 loop-again-2 c =
-    let p = c .before .before .before .before .before in
+    let p : tie.After-put-turn Inv-loop μ-loop = search needs in
+    let after-slice-known2 : tie.After-slice-known2 Inv-loop μ-loop = search needs in
     let t = lent p in
     let l = p .before .before .before .before .before .loop in
     let x = p .before .before .before .before .before .before .before in
@@ -162,7 +157,7 @@ loop-again-2 c =
     let none = ltb-false 0 (p .put-turn .result .run) (c .if1 .left) in
     rw (c .if1 .left)
     (loop-word _ _ _ _ _ _ _ _ _ (l .i) (l .inv) _ _ _ _ _ (x .pre .1 .0) (f .most) (f .here) (t .turned .word (omega arith)) (t .bytes) (t .place-is) (t .size)
-    (λ i. omega (arith, c .before .before .before .slice-known2 .given i)))
+    (λ i. omega (arith, after-slice-known2 .slice-known2 .given i)))
 
 same-length : tie.Need-same-length Inv-loop μ-loop
 same-length c = c .before .loop .inv .same
@@ -182,19 +177,19 @@ pack-words-spec =
     sub-put-turn
     part-put-turn-start
     part-put-turn-end
-    mul-put-turn
-    array-copy-out-put-turn
-    sub-put-turn-2
-    mul-put-turn-2
-    array-copy-out-put-turn-2
+    (λ c. omega arith)
+    (λ c. omega arith)
+    (λ c. omega arith)
+    (λ c. omega arith)
+    (λ c. omega arith)
     put-turn-requires
     mul-bits
     add-bits
     add-i
     loop-less
     loop-again
-    mul-medians
-    array-set-from-medians
+    (λ c. omega arith)
+    (λ c. omega arith)
     add-i-2
     loop-less-2
     loop-again-2

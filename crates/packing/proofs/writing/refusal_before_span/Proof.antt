@@ -12,20 +12,8 @@ use Rattle.packing.proofs.writing.refusal_before_span.Tie as tie
 returns : tie.Need-returns
 returns c = before-frames _ _ _ _ (c .if1 .taken)
 
-mul-if2 : tie.Need-mul-if2
-mul-if2 c = search needs
-
 returns-2 : tie.Need-returns-2
 returns-2 c = before-list _ _ _ _ (c .before .if1 .left) (c .if2 .taken)
-
-stereo-pair-from-entropy-requires : tie.Need-stereo-pair-from-entropy-requires
-stereo-pair-from-entropy-requires c κs = search needs
-
-enum-told : tie.Need-enum-told
-enum-told c = search needs
-
-enum-told-2 : tie.Need-enum-told-2
-enum-told-2 c = search needs
 
 returns-3 : tie.Need-returns-3
 returns-3 c =
@@ -36,17 +24,14 @@ returns-3 c =
 seeded : (t : tie.After-enum-told) → 0 ≡ seedRefusal (now (t .before .before .before .before .before .before .args .entropy))
 seeded t = sym (ap outcomeNumber (t .enum-told .given .1)) ∙ t .before .before .stereo-pair-from-entropy .ensures .0
 
-mul-if3 : tie.Need-mul-if3
-mul-if3 c = search needs
-
 returns-4 : tie.Need-returns-4
 returns-4 c =
-    let x = c .before .before .before in
+    let x : tie.After-stereo-pair-from-entropy = search needs in
     before-room _ _ _ _ (x .before .before .if1 .left) (x .before .if2 .left) (seeded (c .before)) (c .if3 .taken)
 
 returns-5 : tie.Need-returns-5
 returns-5 c =
-    let x = c .before .before .before in
+    let x : tie.After-stereo-pair-from-entropy = search needs in
     before-none _ _ _ _
     (record { frames-few = x .before .before .if1 .left; list-is = x .before .if2 .left; seeded = seeded (c .before); enough = c .if3 .left })
 
@@ -55,12 +40,12 @@ refusal-before-span-spec =
     tie.close
     (tie.spec
     returns
-    mul-if2
+    (λ c. search needs)
     returns-2
-    stereo-pair-from-entropy-requires
-    enum-told
-    enum-told-2
+    (λ c κs. search needs)
+    (λ c. search needs)
+    (λ c. search needs)
     returns-3
-    mul-if3
+    (λ c. search needs)
     returns-4
     returns-5)

@@ -9,9 +9,6 @@ use Rattle.samples.proofs.SignLaws.{minus-one, signed-one}
 use Rattle.samples.proofs.coded.apply_sign.Statement.{statement}
 use Rattle.samples.proofs.coded.apply_sign.Tie as tie
 
-cast-x : tie.Need-cast-x
-cast-x c = search needs
-
 returns : tie.Need-returns
 returns c =
     let e : c .before .args .sign ≡ 0 = omega arith in
@@ -26,4 +23,4 @@ returns-2 c =
     ∙ rw (toZ-pos w32 {n = c .before .args .magnitude} (omega arith), minus-one) (signed-one (c .before .args .sign) (c .before .args .magnitude) (λ e. omega arith))
 
 pub apply-sign-spec : {M : Type 1} → statement M
-apply-sign-spec = tie.close (tie.spec cast-x returns sub-result returns-2)
+apply-sign-spec = tie.close (tie.spec (λ c. search needs) returns sub-result returns-2)

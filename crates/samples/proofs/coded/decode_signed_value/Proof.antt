@@ -20,14 +20,12 @@ use Rattle.samples.proofs.PartLaws.{value-no-code, value-no-sign, value
 use Rattle.samples.proofs.coded.decode_signed_value.Statement.{statement}
 use Rattle.samples.proofs.coded.decode_signed_value.Tie as tie
 
-sample-interval-requires : tie.Need-sample-interval-requires
-sample-interval-requires c κs = search needs
-
 -- low and high are in order and have 31 bits
 ordered : (c : tie.After-struct-known) →
     (c .before .sample-interval .result .low ≤ c .before .sample-interval .result .high) × (c .before .sample-interval .result .high < 2147483648)
 ordered c =
-    let a = c .before .before .before .args in
+    let start : tie.Start = search needs in
+    let a = start .args in
     let e = c .before .sample-interval .ensures in
     rw (e .low-is, e .high-is) (ends (mediansOf (a .medians)) (a .ones-count))
 
@@ -44,7 +42,7 @@ sign-is c = sym (c .before .before .get-bit .ensures) ∙ c .sign .given .1
 
 sum-lt : (c : tie.After-code) → c .before .before .before .before .sample-interval .result .low + c .code .given .0 .0 < 2147483648
 sum-lt c =
-    let k = c .before .before .before in
+    let k : tie.After-struct-known = search needs in
     let a = k .before .before .before .args in
     let i = k .before .sample-interval .result in
     let m = code-most (bitsOf (now (a .payload))) (a .place) (i .high - i .low) _ _ (omega (arith, ordered k)) (code-is c) in
@@ -56,32 +54,17 @@ sub-read-truncated-binary c = ordered c .0
 read-truncated-binary-requires : tie.Need-read-truncated-binary-requires
 read-truncated-binary-requires c κs = (omega arith, omega (arith, ordered c))
 
-enum-known-code : tie.Need-enum-known-code
-enum-known-code c = search needs
-
-enum-told : tie.Need-enum-told
-enum-told c = search needs
-
 returns : tie.Need-returns
 returns c =
-    let k = c .before .before .before in
+    let k : tie.After-struct-known = search needs in
     let a = k .before .before .before .args in
     let e = k .before .sample-interval .ensures in
     value-no-code (bitsOf (now (a .payload))) (a .place) (a .ones-count) (mediansOf (a .medians)) _ _ (e .low-is) (e .high-is)
     (sym (c .before .before .read-truncated-binary .ensures) ∙ c .enum-told .given .1)
 
-get-bit-requires : tie.Need-get-bit-requires
-get-bit-requires c κs = search needs
-
-enum-known-sign : tie.Need-enum-known-sign
-enum-known-sign c = search needs
-
-enum-told-2 : tie.Need-enum-told-2
-enum-told-2 c = search needs
-
 returns-2 : tie.Need-returns-2
 returns-2 c =
-    let d = c .before .before .before .before in
+    let d : tie.After-code = search needs in
     let k = d .before .before .before in
     let a = k .before .before .before .args in
     let e = k .before .sample-interval .ensures in
@@ -89,14 +72,18 @@ returns-2 c =
     (sym (c .before .before .get-bit .ensures) ∙ c .enum-told2 .given .1)
 
 add-apply-sign : tie.Need-add-apply-sign
-add-apply-sign c = omega (arith, sum-lt (c .before .before .before .before .before))
+add-apply-sign c =
+    let after-code : tie.After-code = search needs in
+    omega (arith, sum-lt (after-code))
 
 apply-sign-requires : tie.Need-apply-sign-requires
-apply-sign-requires c κs = omega (arith, sum-lt (c .before .before .before .before .before))
+apply-sign-requires c κs =
+    let after-code : tie.After-code = search needs in
+    omega (arith, sum-lt (after-code))
 
 returns-3 : tie.Need-returns-3
 returns-3 c =
-    let d = c .before .before .before .before .before .before in
+    let d : tie.After-code = search needs in
     let k = d .before .before .before in
     let a = k .before .before .before .args in
     let e = k .before .sample-interval .ensures in
@@ -108,15 +95,15 @@ pub decode-signed-value-spec : {M : Type 1} → statement M
 decode-signed-value-spec =
     tie.close
     (tie.spec
-    sample-interval-requires
+    (λ c κs. search needs)
     sub-read-truncated-binary
     read-truncated-binary-requires
-    enum-known-code
-    enum-told
+    (λ c. search needs)
+    (λ c. search needs)
     returns
-    get-bit-requires
-    enum-known-sign
-    enum-told-2
+    (λ c κs. search needs)
+    (λ c. search needs)
+    (λ c. search needs)
     returns-2
     add-apply-sign
     apply-sign-requires

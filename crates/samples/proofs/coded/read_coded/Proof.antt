@@ -11,55 +11,45 @@ use Rattle.samples.proofs.JoinLaws.{plain-none, plain-missing, plain-sa
 use Rattle.samples.proofs.coded.read_coded.Statement.{statement}
 use Rattle.samples.proofs.coded.read_coded.Tie as tie
 
-read-folded-ones-count-requires : tie.Need-read-folded-ones-count-requires
-read-folded-ones-count-requires c κs = search needs
-
-enum-known-count : tie.Need-enum-known-count
-enum-known-count c = search needs
-
-not-coded-requires : tie.Need-not-coded-requires
-not-coded-requires c κs = search needs
-
 returns : tie.Need-returns
 returns c =
-    let a = c .before .before .before .before .args in
+    let start : tie.Start = search needs in
+    let a = start .args in
     rw (c .not-coded .ensures) (plain-none (bitsOf (now (a .payload))) (a .place) (mediansOf (a .medians)) (a .last-zero) (a .last-one) _ (c .before .before .read-folded-ones-count .ensures) (c .before .match .keys2))
-
-decode-signed-value-requires : tie.Need-decode-signed-value-requires
-decode-signed-value-requires c κs = search needs
-
-enum-known-sample : tie.Need-enum-known-sample
-enum-known-sample c = search needs
-
-enum-told : tie.Need-enum-told
-enum-told c = search needs
 
 returns-2 : tie.Need-returns-2
 returns-2 c =
-    let a = c .before .before .before .before .before .before .before .before .args in
+    let start : tie.Start = search needs in
+    let after-read-folded-ones-count : tie.After-read-folded-ones-count = search needs in
+    let after-count : tie.After-count = search needs in
+    let a = start .args in
     plain-missing (bitsOf (now (a .payload))) (a .place) (mediansOf (a .medians)) (a .last-zero) (a .last-one) _ _ _ _
-    (rw (c .before .before .before .before .count .given .1) at (c .before .before .before .before .before .before .read-folded-ones-count .ensures))
+    (rw (after-count .count .given .1) at (after-read-folded-ones-count .read-folded-ones-count .ensures))
     (rw (c .enum-told .given .1) at (c .before .before .decode-signed-value .ensures))
 
 returns-3 : tie.Need-returns-3
 returns-3 c =
-    let a = c .before .before .before .before .before .before .before .before .before .args in
+    let start : tie.Start = search needs in
+    let after-read-folded-ones-count : tie.After-read-folded-ones-count = search needs in
+    let after-count : tie.After-count = search needs in
+    let after-decode-signed-value : tie.After-decode-signed-value = search needs in
+    let a = start .args in
     let x = c .before .sample .given .0 in
     let f : SFits w32 (x .0) = search needs in
     rw (toZ-ofZ f) (plain-sample (bitsOf (now (a .payload))) (a .place) (mediansOf (a .medians)) (a .last-zero) (a .last-one) _ _ _ _
-    (rw (c .before .before .before .before .before .count .given .1) at (c .before .before .before .before .before .before .before .read-folded-ones-count .ensures)) (x .0) (x .1 .0)
-    (rw (c .before .sample .given .1) at (c .before .before .before .decode-signed-value .ensures)))
+    (rw (after-count .count .given .1) at (after-read-folded-ones-count .read-folded-ones-count .ensures)) (x .0) (x .1 .0)
+    (rw (c .before .sample .given .1) at (after-decode-signed-value .decode-signed-value .ensures)))
 
 pub read-coded-spec : {M : Type 1} → statement M
 read-coded-spec =
     tie.close
     (tie.spec
-    read-folded-ones-count-requires
-    enum-known-count
-    not-coded-requires
+    (λ c κs. search needs)
+    (λ c. search needs)
+    (λ c κs. search needs)
     returns
-    decode-signed-value-requires
-    enum-known-sample
-    enum-told
+    (λ c κs. search needs)
+    (λ c. search needs)
+    (λ c. search needs)
     returns-2
     returns-3)

@@ -13,47 +13,35 @@ returns c =
     let a = c .before .before .args in
     rw (c .if1 .taken) (count-zero (bitsOf (now (a .payload))) (a .place) (a .last-one))
 
-read-raw-prefix-requires : tie.Need-read-raw-prefix-requires
-read-raw-prefix-requires c κs = search needs
-
-enum-known-prefix : tie.Need-enum-known-prefix
-enum-known-prefix c = search needs
-
-not-counted-requires : tie.Need-not-counted-requires
-not-counted-requires c κs = search needs
-
 returns-2 : tie.Need-returns-2
 returns-2 c =
-    let a = c .before .before .before .before .before .args in
-    rw (c .not-counted .ensures, c .before .before .before .if1 .left)
+    let start : tie.Start = search needs in
+    let else1 : tie.Else1 = search needs in
+    let a = start .args in
+    rw (c .not-counted .ensures, else1 .if1 .left)
     (count-none (bitsOf (now (a .payload))) (a .place) (a .last-one) _ (sym (c .before .before .read-raw-prefix .ensures)) (c .before .match .keys2))
-
-is-odd-requires : tie.Need-is-odd-requires
-is-odd-requires c κs = search needs
-
-one-if-requires : tie.Need-one-if-requires
-one-if-requires c κs = search needs
-
-add-t12 : tie.Need-add-t12
-add-t12 c = search needs
 
 returns-3 : tie.Need-returns-3
 returns-3 c =
-    let a = c .before .before .before .before .before .before .before .before .args in
-    rw (c .before .before .before .before .before .before .if1 .left, c .one-if .ensures .0, c .before .is-odd .ensures)
+    let start : tie.Start = search needs in
+    let else1 : tie.Else1 = search needs in
+    let after-read-raw-prefix : tie.After-read-raw-prefix = search needs in
+    let after-prefix : tie.After-prefix = search needs in
+    let a = start .args in
+    rw (else1 .if1 .left, c .one-if .ensures .0, c .before .is-odd .ensures)
     (count-read (bitsOf (now (a .payload))) (a .place) (a .last-one) _ _
-    (sym (c .before .before .before .before .before .read-raw-prefix .ensures) ∙ c .before .before .before .prefix .given .1))
+    (sym (after-read-raw-prefix .read-raw-prefix .ensures) ∙ after-prefix .prefix .given .1))
 
 pub read-folded-ones-count-spec : {M : Type 1} → statement M
 read-folded-ones-count-spec =
     tie.close
     (tie.spec
     returns
-    read-raw-prefix-requires
-    enum-known-prefix
-    not-counted-requires
+    (λ c κs. search needs)
+    (λ c. search needs)
+    (λ c κs. search needs)
     returns-2
-    is-odd-requires
-    one-if-requires
-    add-t12
+    (λ c κs. search needs)
+    (λ c κs. search needs)
+    (λ c. search needs)
     returns-3)

@@ -14,44 +14,40 @@ use Rattle.samples.proofs.coded.try_zero_run_path_stereo.Tie as tie
 returns : tie.Need-returns
 returns c = let a = c .before .before .args in rw (not-true (a .eligible) (c .if1 .taken)) (run-skipped (bitsOf (now (a .payload))) (a .place))
 
-read-zero-run-length-requires : tie.Need-read-zero-run-length-requires
-read-zero-run-length-requires c κs = search needs
-
-enum-known-run : tie.Need-enum-known-run
-enum-known-run c = search needs
-
-enum-told : tie.Need-enum-told
-enum-told c = search needs
-
 returns-2 : tie.Need-returns-2
 returns-2 c =
-    let a = c .before .before .before .before .before .args in
-    rw (not-false (a .eligible) (c .before .before .before .if1 .left)) (run-missing (bitsOf (now (a .payload))) (a .place) (sym (c .before .before .read-zero-run-length .ensures) ∙ c .enum-told .given .1))
+    let start : tie.Start = search needs in
+    let else1 : tie.Else1 = search needs in
+    let a = start .args in
+    rw (not-false (a .eligible) (else1 .if1 .left)) (run-missing (bitsOf (now (a .payload))) (a .place) (sym (c .before .before .read-zero-run-length .ensures) ∙ c .enum-told .given .1))
 
 returns-3 : tie.Need-returns-3
 returns-3 c =
-    let a = c .before .before .before .before .before .before .before .args in
-    rw (not-false (a .eligible) (c .before .before .before .before .before .if1 .left))
-    (run-zero (bitsOf (now (a .payload))) (a .place) _ _ (sym (c .before .before .before .before .read-zero-run-length .ensures) ∙ c .before .before .run .given .1) (omega arith))
-
-sub-t8 : tie.Need-sub-t8
-sub-t8 c = search needs
+    let start : tie.Start = search needs in
+    let else1 : tie.Else1 = search needs in
+    let after-read-zero-run-length : tie.After-read-zero-run-length = search needs in
+    let a = start .args in
+    rw (not-false (a .eligible) (else1 .if1 .left))
+    (run-zero (bitsOf (now (a .payload))) (a .place) _ _ (sym (after-read-zero-run-length .read-zero-run-length .ensures) ∙ c .before .before .run .given .1) (omega arith))
 
 returns-4 : tie.Need-returns-4
 returns-4 c =
-    let a = c .before .before .before .before .before .before .before .args in
-    rw (not-false (a .eligible) (c .before .before .before .before .before .if1 .left))
-    (run-some (bitsOf (now (a .payload))) (a .place) _ _ (sym (c .before .before .before .before .read-zero-run-length .ensures) ∙ c .before .before .run .given .1) (omega arith))
+    let start : tie.Start = search needs in
+    let else1 : tie.Else1 = search needs in
+    let after-read-zero-run-length : tie.After-read-zero-run-length = search needs in
+    let a = start .args in
+    rw (not-false (a .eligible) (else1 .if1 .left))
+    (run-some (bitsOf (now (a .payload))) (a .place) _ _ (sym (after-read-zero-run-length .read-zero-run-length .ensures) ∙ c .before .before .run .given .1) (omega arith))
 
 pub try-zero-run-path-stereo-spec : {M : Type 1} → statement M
 try-zero-run-path-stereo-spec =
     tie.close
     (tie.spec
     returns
-    read-zero-run-length-requires
-    enum-known-run
-    enum-told
+    (λ c κs. search needs)
+    (λ c. search needs)
+    (λ c. search needs)
     returns-2
     returns-3
-    sub-t8
+    (λ c. search needs)
     returns-4)

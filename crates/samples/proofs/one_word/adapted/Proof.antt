@@ -10,31 +10,11 @@ use Rattle.samples.proofs.HeldLaws.{replaced}
 use Rattle.samples.proofs.one_word.adapted.Statement.{statement}
 use Rattle.samples.proofs.one_word.adapted.Tie as tie
 
-cast-channel : tie.Need-cast-channel
-cast-channel c = search needs
-
-mul-adapt : tie.Need-mul-adapt
-mul-adapt c = search needs
-
-array-copy-out-adapt : tie.Need-array-copy-out-adapt
-array-copy-out-adapt c = search needs
-
-adapt-requires : tie.Need-adapt-requires
-adapt-requires c κs = search needs
-
-mul-medians : tie.Need-mul-medians
-mul-medians c = search needs
-
-array-set-from-medians : tie.Need-array-set-from-medians
-array-set-from-medians c = search needs
-
-sub-next : tie.Need-sub-next
-sub-next c = search needs
-
 returns : tie.Need-returns
 unfolding after unbroken
 returns c =
-    let a = c .before .before .before .before .before .args in
+    let start : tie.Start = search needs in
+    let a = start .args in
     let ms = a .state .medians in
     let n = a .state .«next_channel» in
     let l : length ms ≡ 2 = search (needs, length-mapped) in
@@ -46,11 +26,11 @@ pub adapted-spec : {M : Type 1} → statement M
 adapted-spec =
     tie.close
     (tie.spec
-    cast-channel
-    mul-adapt
-    array-copy-out-adapt
-    adapt-requires
-    mul-medians
-    array-set-from-medians
-    sub-next
+    (λ c. search needs)
+    (λ c. search needs)
+    (λ c. search needs)
+    (λ c κs. search needs)
+    (λ c. search needs)
+    (λ c. search needs)
+    (λ c. search needs)
     returns)

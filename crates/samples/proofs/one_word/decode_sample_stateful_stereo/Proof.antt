@@ -22,30 +22,15 @@ use Rattle.samples.proofs.WordLaws.{one-large, one-channel, one-word, w
 use Rattle.samples.proofs.one_word.decode_sample_stateful_stereo.Statement.{statement}
 use Rattle.samples.proofs.one_word.decode_sample_stateful_stereo.Tie as tie
 
-refused-requires : tie.Need-refused-requires
-refused-requires c κs = search needs
-
 returns : tie.Need-returns
 returns c =
     let a = c .before .before .before .args in
     c .refused .ensures ∙ one-large (now (a .payload)) (a .place) (stateOf (a .state)) (omega arith)
 
-refused-requires-2 : tie.Need-refused-requires-2
-refused-requires-2 c κs = search needs
-
 returns-2 : tie.Need-returns-2
 returns-2 c =
     let a = c .before .before .before .before .before .args in
     c .refused2 .ensures ∙ one-channel (now (a .payload)) (a .place) (stateOf (a .state)) (omega arith) (omega arith)
-
-sub-paid : tie.Need-sub-paid
-sub-paid c = search needs
-
-paid-requires : tie.Need-paid-requires
-paid-requires c κs = search needs
-
-zero-requires : tie.Need-zero-requires
-zero-requires c κs = search needs
 
 returns-3 : tie.Need-returns-3
 returns-3 c =
@@ -54,71 +39,24 @@ returns-3 c =
     c .zero .ensures ∙ ap (λ (t : State). tellWord (a .place) s (given (pos 0) (a .place) t none)) (c .before .paid .ensures)
     ∙ one-word (now (a .payload)) (a .place) s _ (omega arith) (omega arith) (sym (word-paid (bitsOf (now (a .payload))) (a .place) s (omega arith)))
 
-cast-channel : tie.Need-cast-channel
-cast-channel c = search needs
-
-array-copy-out-zero-run-eligible : tie.Need-array-copy-out-zero-run-eligible
-array-copy-out-zero-run-eligible c = search needs
-
-array-copy-out-zero-run-eligible-2 : tie.Need-array-copy-out-zero-run-eligible-2
-array-copy-out-zero-run-eligible-2 c = search needs
-
-zero-run-eligible-requires : tie.Need-zero-run-eligible-requires
-zero-run-eligible-requires c κs = search needs
-
-mul-read-word : tie.Need-mul-read-word
-mul-read-word c = search needs
-
-array-copy-out-read-word : tie.Need-array-copy-out-read-word
-array-copy-out-read-word c = search needs
-
-read-word-requires : tie.Need-read-word-requires
-read-word-requires c κs = search needs
+-- the entry, from where the word was read
+abbrev entry : tie.After-read-word → tie.Start
+entry c = c .before .before .before .before .before .before .before .before .before .before .before .before
 
 -- the word that was read is the entry's word
 read : (c : tie.After-read-word) →
-    let a = c .before .before .before .before .before .before .before .before .before .before .before .before .args in
+    let a = entry c .args in
     let s = stateOf (a .state) in
     tellWord (a .place) s (codedWord s (c .read-word .result)) ≡ oneWord (now (a .payload)) (a .place) s
 read c =
-    let a = c .before .before .before .before .before .before .before .before .before .before .before .before .args in
+    let a = entry c .args in
     let l : length (a .state .medians) ≡ 2 = search (needs, length-mapped) in
     one-coded (now (a .payload)) (a .place) (a .state) _ _ (omega arith) (omega arith) (omega arith) l (c .before .before .zero-run-eligible .ensures) (c .read-word .ensures)
-
-enum-known-word : tie.Need-enum-known-word
-enum-known-word c = search needs
-
-in-run-requires : tie.Need-in-run-requires
-in-run-requires c κs = search needs
-
-zero-requires-2 : tie.Need-zero-requires-2
-zero-requires-2 c κs = search needs
-
-enum-known-word-2 : tie.Need-enum-known-word-2
-enum-known-word-2 c = search needs
-
-adapted-requires : tie.Need-adapted-requires
-adapted-requires c κs = search needs
-
-given-requires : tie.Need-given-requires
-given-requires c κs = search needs
-
-enum-told : tie.Need-enum-told
-enum-told c = search needs
-
-refused-requires-3 : tie.Need-refused-requires-3
-refused-requires-3 c κs = search needs
-
-enum-told-2 : tie.Need-enum-told-2
-enum-told-2 c = search needs
-
-refused-requires-4 : tie.Need-refused-requires-4
-refused-requires-4 c κs = search needs
 
 returns-4 : tie.Need-returns-4
 returns-4 c =
     let k = c .before .before .before .before .before in
-    let a = c .before .before .before .before .before .before .before .before .before .before .before .before .before .before .before .before .before .args in
+    let a = entry k .args in
     let s = stateOf (a .state) in
     let w = c .before .before .before .word .given in
     c .zero2 .ensures ∙ ap (λ (t : State). tellWord (a .place) s (given (pos 0) (w .0 .1 .0) t none)) (c .before .in-run .ensures)
@@ -127,7 +65,7 @@ returns-4 c =
 returns-5 : tie.Need-returns-5
 returns-5 c =
     let k = c .before .before .before .before .before in
-    let a = c .before .before .before .before .before .before .before .before .before .before .before .before .before .before .before .before .before .args in
+    let a = entry k .args in
     let s = stateOf (a .state) in
     let w = c .before .before .before .word2 .given in
     let f : SFits w32 (w .0 .0) = search needs in
@@ -138,14 +76,14 @@ returns-5 c =
 returns-6 : tie.Need-returns-6
 returns-6 c =
     let k = c .before .before .before in
-    let a = c .before .before .before .before .before .before .before .before .before .before .before .before .before .before .before .args in
+    let a = entry k .args in
     let s = stateOf (a .state) in
     c .refused3 .ensures ∙ ap (λ (x : Coded). tellWord (a .place) s (codedWord s x)) (sym (c .before .enum-told .given .1)) ∙ read k
 
 returns-7 : tie.Need-returns-7
 returns-7 c =
     let k = c .before .before .before in
-    let a = c .before .before .before .before .before .before .before .before .before .before .before .before .before .before .before .args in
+    let a = entry k .args in
     let s = stateOf (a .state) in
     c .refused4 .ensures ∙ ap (λ (x : Coded). tellWord (a .place) s (codedWord s x)) (sym (c .before .enum-told2 .given .1)) ∙ read k
 
@@ -153,31 +91,31 @@ pub decode-sample-stateful-stereo-spec : {M : Type 1} → statement M
 decode-sample-stateful-stereo-spec =
     tie.close
     (tie.spec
-    refused-requires
+    (λ c κs. search needs)
     returns
-    refused-requires-2
+    (λ c κs. search needs)
     returns-2
-    sub-paid
-    paid-requires
-    zero-requires
+    (λ c. search needs)
+    (λ c κs. search needs)
+    (λ c κs. search needs)
     returns-3
-    cast-channel
-    array-copy-out-zero-run-eligible
-    array-copy-out-zero-run-eligible-2
-    zero-run-eligible-requires
-    mul-read-word
-    array-copy-out-read-word
-    read-word-requires
-    enum-known-word
-    in-run-requires
-    zero-requires-2
-    enum-known-word-2
-    adapted-requires
-    given-requires
-    enum-told
-    refused-requires-3
-    enum-told-2
-    refused-requires-4
+    (λ c. search needs)
+    (λ c. search needs)
+    (λ c. search needs)
+    (λ c κs. search needs)
+    (λ c. search needs)
+    (λ c. search needs)
+    (λ c κs. search needs)
+    (λ c. search needs)
+    (λ c κs. search needs)
+    (λ c κs. search needs)
+    (λ c. search needs)
+    (λ c κs. search needs)
+    (λ c κs. search needs)
+    (λ c. search needs)
+    (λ c κs. search needs)
+    (λ c. search needs)
+    (λ c κs. search needs)
     returns-4
     returns-5
     returns-6

@@ -7,13 +7,10 @@ use mir.Val.{SFits}
 use Rattle.samples.proofs.one_word.given.Statement.{statement}
 use Rattle.samples.proofs.one_word.given.Tie as tie
 
-from-ones-count-requires : tie.Need-from-ones-count-requires
-from-ones-count-requires c κs = search needs
-
 returns : tie.Need-returns
 returns c =
     let f : SFits w32 (c .before .args .sample) = search needs in
     rw (toZ-ofZ f, c .from-ones-count .ensures)
 
 pub given-spec : {M : Type 1} → statement M
-given-spec = tie.close (tie.spec from-ones-count-requires returns)
+given-spec = tie.close (tie.spec (λ c κs. search needs) returns)

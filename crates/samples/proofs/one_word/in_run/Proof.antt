@@ -7,12 +7,9 @@ use Rattle.word_state.proofs.StateLaws.{flip-is}
 use Rattle.samples.proofs.one_word.in_run.Statement.{statement}
 use Rattle.samples.proofs.one_word.in_run.Tie as tie
 
-sub-next : tie.Need-sub-next
-sub-next c = search needs
-
 returns : tie.Need-returns
 unfolding inRun
 returns c = rw (flip-is (c .before .args .state .«next_channel») (omega arith))
 
 pub in-run-spec : {M : Type 1} → statement M
-in-run-spec = tie.close (tie.spec sub-next returns)
+in-run-spec = tie.close (tie.spec (λ c. search needs) returns)

@@ -7,12 +7,9 @@ use Rattle.word_state.proofs.StateLaws.{flip-is}
 use Rattle.samples.proofs.one_word.paid.Statement.{statement}
 use Rattle.samples.proofs.one_word.paid.Tie as tie
 
-sub-next : tie.Need-sub-next
-sub-next c = search needs
-
 returns : tie.Need-returns
 unfolding paid
 returns c = rw (flip-is (c .before .args .state .«next_channel») (omega arith))
 
 pub paid-spec : {M : Type 1} → statement M
-paid-spec = tie.close (tie.spec sub-next returns)
+paid-spec = tie.close (tie.spec (λ c. search needs) returns)

@@ -31,114 +31,47 @@ loop-holds c =
     let l : length (a .seeds) ≡ 2 = search (needs, length-mapped) in
     loop-start (now (a .payload)) (now (a .out)) (a .seeds) l
 
-mul-due : tie.Need-mul-due Inv-loop μ-loop
-mul-due c = search needs
-
-array-copy-out-due : tie.Need-array-copy-out-due Inv-loop μ-loop
-array-copy-out-due c = search needs
-
-array-copy-out-zero-run-eligible : tie.Need-array-copy-out-zero-run-eligible Inv-loop μ-loop
-array-copy-out-zero-run-eligible c = search needs
-
-array-copy-out-zero-run-eligible-2 : tie.Need-array-copy-out-zero-run-eligible-2 Inv-loop μ-loop
-array-copy-out-zero-run-eligible-2 c = search needs
-
-zero-run-eligible-requires : tie.Need-zero-run-eligible-requires Inv-loop μ-loop
-zero-run-eligible-requires c κs = search needs
-
-read-word-requires : tie.Need-read-word-requires Inv-loop μ-loop
-read-word-requires c κs = search needs
-
-enum-known-behind : tie.Need-enum-known-behind Inv-loop μ-loop
-enum-known-behind c = search needs
-
-put-zeros-requires : tie.Need-put-zeros-requires Inv-loop μ-loop
-put-zeros-requires c κs = search needs
+-- the loop's head, from where a word was read
+abbrev at-loop : tie.After-read-word Inv-loop μ-loop → tie.At-loop Inv-loop μ-loop
+at-loop c = c .before .before .before .before .before .before
 
 loop-less : tie.Need-loop-less Inv-loop μ-loop
 loop-less c =
-    let l = c .before .before .before .before .before .before .before .before .before .before .before .before .loop .inv in
+    let at-loop : tie.At-loop Inv-loop μ-loop = search needs in
+    let l = at-loop .loop .inv in
     let z = c .before .put-zeros .ensures in
     omega (arith, z .some, z .within, l .words .same)
 
 loop-again : tie.Need-loop-again Inv-loop μ-loop
 loop-again c =
-    let y = c .before .before .before .before in
+    let y : tie.After-behind Inv-loop μ-loop = search needs in
     let w = y .before .before in
-    let l = w .before .before .before .before .before .before .loop .inv in
+    let l = at-loop w .loop .inv in
     loop-run _ _ _ _ _ _ _ _ _ _ l _ _ (omega arith) (w .before .zero-run-eligible .ensures) (w .read-word .ensures) _ _ _ _ (y .behind .given .1) (c .before .put-zeros .ensures)
-
-enum-known-value : tie.Need-enum-known-value Inv-loop μ-loop
-enum-known-value c = search needs
-
-adapt-requires : tie.Need-adapt-requires Inv-loop μ-loop
-adapt-requires c κs = search needs
-
-mul-medians : tie.Need-mul-medians Inv-loop μ-loop
-mul-medians c = search needs
-
-array-set-from-medians : tie.Need-array-set-from-medians Inv-loop μ-loop
-array-set-from-medians c = search needs
-
-mul-value : tie.Need-mul-value Inv-loop μ-loop
-mul-value c = search needs
-
-slice-set-from-value : tie.Need-slice-set-from-value Inv-loop μ-loop
-slice-set-from-value c = search needs
-
-add-written : tie.Need-add-written Inv-loop μ-loop
-add-written c = search needs
-
-loop-less-2 : tie.Need-loop-less-2 Inv-loop μ-loop
-loop-less-2 c = search needs
 
 loop-again-2 : tie.Need-loop-again-2 Inv-loop μ-loop
 loop-again-2 c =
     let y = c .before .before in
     let w = y .before .before in
-    let l = w .before .before .before .before .before .before .loop .inv in
+    let l = at-loop w .loop .inv in
     let v = y .value .given .0 .0 in
     let f : SFits w32 v = search needs in
     rw (toZ-ofZ f)
     (loop-sample _ _ _ _ _ _ _ _ _ _ l _ _ (omega arith) (w .before .zero-run-eligible .ensures) (w .read-word .ensures) v _ _ _ _ _ (y .value .given .1) (c .adapt .ensures))
 
-enum-told : tie.Need-enum-told Inv-loop μ-loop
-enum-told c = search needs
-
-stopped-requires : tie.Need-stopped-requires Inv-loop μ-loop
-stopped-requires c κs = search needs
-
-same-length : tie.Need-same-length Inv-loop μ-loop
-same-length c = search needs
-
 returns : tie.Need-returns Inv-loop μ-loop
 returns c =
-    let w = c .before .before .before in
-    let l = w .before .before .before .before .before .before .loop .inv in
+    let w : tie.After-read-word Inv-loop μ-loop = search needs in
+    let l = at-loop w .loop .inv in
     let e = loop-stop _ _ _ _ _ _ _ _ _ _ l _ _ (omega arith) (w .before .zero-run-eligible .ensures) (w .read-word .ensures) 4 (λ s. ap (codedWord s) (c .before .enum-told .given .1)) in
     rw (c .stopped .ensures) e
 
-enum-told-2 : tie.Need-enum-told-2 Inv-loop μ-loop
-enum-told-2 c = search needs
-
-stopped-requires-2 : tie.Need-stopped-requires-2 Inv-loop μ-loop
-stopped-requires-2 c κs = search needs
-
-same-length-2 : tie.Need-same-length-2 Inv-loop μ-loop
-same-length-2 c = search needs
-
 returns-2 : tie.Need-returns-2 Inv-loop μ-loop
 returns-2 c =
-    let w = c .before .before .before in
-    let l = w .before .before .before .before .before .before .loop .inv in
+    let w : tie.After-read-word Inv-loop μ-loop = search needs in
+    let l = at-loop w .loop .inv in
     let e = loop-stop _ _ _ _ _ _ _ _ _ _ l _ _ (omega arith) (w .before .zero-run-eligible .ensures) (w .read-word .ensures) 3 (λ s. ap (codedWord s) (c .before .enum-told2 .given .1)) in
     rw (c .stopped2 .ensures) e
-
-accepted-requires : tie.Need-accepted-requires Inv-loop μ-loop
-accepted-requires c κs = search needs
-
-same-length-3 : tie.Need-same-length-3 Inv-loop μ-loop
-same-length-3 c = search needs
 
 returns-3 : tie.Need-returns-3 Inv-loop μ-loop
 returns-3 c =
@@ -152,33 +85,33 @@ decode-packed-samples-stereo-spec =
     Inv-loop
     μ-loop
     loop-holds
-    mul-due
-    array-copy-out-due
-    array-copy-out-zero-run-eligible
-    array-copy-out-zero-run-eligible-2
-    zero-run-eligible-requires
-    read-word-requires
-    enum-known-behind
-    put-zeros-requires
+    (λ c. search needs)
+    (λ c. search needs)
+    (λ c. search needs)
+    (λ c. search needs)
+    (λ c κs. search needs)
+    (λ c κs. search needs)
+    (λ c. search needs)
+    (λ c κs. search needs)
     loop-less
     loop-again
-    enum-known-value
-    adapt-requires
-    mul-medians
-    array-set-from-medians
-    mul-value
-    slice-set-from-value
-    add-written
-    loop-less-2
+    (λ c. search needs)
+    (λ c κs. search needs)
+    (λ c. search needs)
+    (λ c. search needs)
+    (λ c. search needs)
+    (λ c. search needs)
+    (λ c. search needs)
+    (λ c. search needs)
     loop-again-2
-    enum-told
-    stopped-requires
-    same-length
+    (λ c. search needs)
+    (λ c κs. search needs)
+    (λ c. search needs)
     returns
-    enum-told-2
-    stopped-requires-2
-    same-length-2
+    (λ c. search needs)
+    (λ c κs. search needs)
+    (λ c. search needs)
     returns-2
-    accepted-requires
-    same-length-3
+    (λ c κs. search needs)
+    (λ c. search needs)
     returns-3)

@@ -13,80 +13,58 @@ use Rattle.samples.proofs.reading.decode_packed_samples_stereo_from_ent
 }
 use Rattle.samples.proofs.reading.decode_packed_samples_stereo_from_entropy.Tie as tie
 
-not-read-requires : tie.Need-not-read-requires
-not-read-requires c κs = search needs
-
 returns : tie.Need-returns
 returns c =
-    let a = c .before .before .before .before .args in
+    let start : tie.Start = search needs in
+    let a = start .args in
     not-read (now (a .entropy)) (now (a .payload)) (a .frames) (now (a .out)) _ _ Refusal.TooLarge refl (refused-frames (now (a .entropy)) (now (a .payload)) (a .frames) (now (a .out)) (omega arith)) (c .not-read .ensures (now (a .out)))
-
-not-read-requires-2 : tie.Need-not-read-requires-2
-not-read-requires-2 c κs = search needs
 
 returns-2 : tie.Need-returns-2
 returns-2 c =
-    let a = c .before .before .before .before .before .args in
+    let start : tie.Start = search needs in
+    let a = start .args in
     not-read (now (a .entropy)) (now (a .payload)) (a .frames) (now (a .out)) _ _ Refusal.TooLarge refl (refused-payload (now (a .entropy)) (now (a .payload)) (a .frames) (now (a .out)) (omega arith)) (c .not-read2 .ensures (now (a .out)))
-
-mul-if3 : tie.Need-mul-if3
-mul-if3 c = search needs
-
-not-read-requires-3 : tie.Need-not-read-requires-3
-not-read-requires-3 c κs = search needs
 
 returns-3 : tie.Need-returns-3
 returns-3 c =
-    let a = c .before .before .before .before .before .before .args in
+    let start : tie.Start = search needs in
+    let a = start .args in
     not-read (now (a .entropy)) (now (a .payload)) (a .frames) (now (a .out)) _ _ Refusal.ListLength refl (refused-list (now (a .entropy)) (now (a .payload)) (a .frames) (now (a .out)) (omega arith) (omega arith) (λ e. omega arith)) (c .not-read3 .ensures (now (a .out)))
-
-stereo-pair-from-entropy-requires : tie.Need-stereo-pair-from-entropy-requires
-stereo-pair-from-entropy-requires c κs = search needs
-
-enum-told : tie.Need-enum-told
-enum-told c = search needs
-
-enum-told-2 : tie.Need-enum-told-2
-enum-told-2 c = search needs
-
-not-read-requires-4 : tie.Need-not-read-requires-4
-not-read-requires-4 c κs = search needs
 
 returns-4 : tie.Need-returns-4
 returns-4 c =
-    let a = c .before .before .before .before .before .before .before .before .before .args in
+    let start : tie.Start = search needs in
+    let after-stereo-pair-from-entropy : tie.After-stereo-pair-from-entropy = search needs in
+    let a = start .args in
     not-read (now (a .entropy)) (now (a .payload)) (a .frames) (now (a .out)) _ _ _ (c .before .enum-told2 .given .1)
-    (c .before .before .before .stereo-pair-from-entropy .ensures .0 ∙ refused-seed (now (a .entropy)) (now (a .payload)) (a .frames) (now (a .out)) (omega arith) (omega arith) (omega arith)) (c .not-read4 .ensures (now (a .out)))
-
-decode-packed-samples-stereo-requires : tie.Need-decode-packed-samples-stereo-requires
-decode-packed-samples-stereo-requires c κs = search needs
-
-same-length : tie.Need-same-length
-same-length c = search needs
+    (after-stereo-pair-from-entropy .stereo-pair-from-entropy .ensures .0 ∙ refused-seed (now (a .entropy)) (now (a .payload)) (a .frames) (now (a .out)) (omega arith) (omega arith) (omega arith)) (c .not-read4 .ensures (now (a .out)))
 
 returns-5 : tie.Need-returns-5
 returns-5 c =
-    let a = c .before .before .before .before .before .before .before .before .before .before .before .before .args in
-    let x = c .before .before .before .before .before .before .stereo-pair-from-entropy in
-    let n = ap outcomeNumber (sym (c .before .before .before .before .enum-told .given .1)) ∙ x .ensures .0 ∙ refused-seed (now (a .entropy)) (now (a .payload)) (a .frames) (now (a .out)) (omega arith) (omega arith) (omega arith) in
+    let start : tie.Start = search needs in
+    let after-stereo-pair-from-entropy : tie.After-stereo-pair-from-entropy = search needs in
+    let after-enum-told : tie.After-enum-told = search needs in
+    let a = start .args in
+    let x = after-stereo-pair-from-entropy .stereo-pair-from-entropy in
+    let n = ap outcomeNumber (sym (after-enum-told .enum-told .given .1)) ∙ x .ensures .0 ∙ refused-seed (now (a .entropy)) (now (a .payload)) (a .frames) (now (a .out)) (omega arith) (omega arith) (omega arith) in
     all-read (now (a .entropy)) (now (a .payload)) (a .frames) (now (a .out)) _ _ n (x .ensures .1) (omega arith) (c .before .decode-packed-samples-stereo .ensures)
 
 pub decode-packed-samples-stereo-from-entropy-spec : {M : Type 1} → statement M
 decode-packed-samples-stereo-from-entropy-spec =
     tie.close
     (tie.spec
-    not-read-requires
+    (λ c κs. search needs)
     returns
-    not-read-requires-2
+    (λ c κs. search needs)
     returns-2
-    mul-if3
-    not-read-requires-3
+    (λ c. search needs)
+    (λ c κs. search needs)
     returns-3
-    stereo-pair-from-entropy-requires
-    enum-told
-    enum-told-2
-    not-read-requires-4
+    (λ c κs. search needs)
+    (λ c. search needs)
+    (λ c. search needs)
+    (λ c κs. search needs)
     returns-4
-    decode-packed-samples-stereo-requires
-    same-length
+    (λ c κs. search needs)
+    (λ c. search needs)
     returns-5)

@@ -38,15 +38,6 @@ Inv-loop out₀ first behind run end i₀ out i = Zeroing out₀ first behind en
 abbrev μ-loop : tie.MeasureT-loop
 μ-loop out₀ first behind run end i₀ out i = end - i
 
-add-run : tie.Need-add-run Inv-loop μ-loop
-add-run c = search needs
-
-sub-if1 : tie.Need-sub-if1 Inv-loop μ-loop
-sub-if1 c = search needs
-
-add-end : tie.Need-add-end Inv-loop μ-loop
-add-end c = search needs
-
 ends-are : (c : tie.Joined1 Inv-loop μ-loop) → let a = c .before .args in Ends (length (now (a .out))) (a .first) (a .behind) (c .if1 .end)
 ends-are c =
     let s = c .before .pre in
@@ -61,17 +52,8 @@ loop-holds c =
     let e = ends-are c in
     record { list-is = zeroed-none (now (a .out)) (a .first); from = omega arith; here = omega (arith, e .some); ends = e }
 
-mul-out : tie.Need-mul-out Inv-loop μ-loop
-mul-out c = search needs
-
 slice-set-of-out : tie.Need-slice-set-of-out Inv-loop μ-loop
 slice-set-of-out c = let l = c .before .loop in omega (arith, l .inv .ends .within, same _ _ _ _ _ _ (l .inv))
-
-add-i : tie.Need-add-i Inv-loop μ-loop
-add-i c = search needs
-
-loop-less : tie.Need-loop-less Inv-loop μ-loop
-loop-less c = omega arith
 
 loop-again : tie.Need-loop-again Inv-loop μ-loop
 loop-again c =
@@ -99,14 +81,14 @@ put-zeros-spec =
     (tie.spec
     Inv-loop
     μ-loop
-    add-run
-    sub-if1
-    add-end
+    (λ c. search needs)
+    (λ c. search needs)
+    (λ c. search needs)
     loop-holds
-    mul-out
+    (λ c. search needs)
     slice-set-of-out
-    add-i
-    loop-less
+    (λ c. search needs)
+    (λ c. omega arith)
     loop-again
     same-length
     returns)

@@ -1,0 +1,12 @@
+-- What the crates above cite.
+pub mod CountLaws
+pub mod LongLaws
+pub mod LayLaws
+pub mod WrittenLaws
+pub mod LocateLaws
+pub mod SignLaws
+pub mod ZeroLaws
+pub mod SpanLaws
+pub mod AheadLaws
+pub mod PutLaws
+pub mod WordLaws

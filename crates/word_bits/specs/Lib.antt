@@ -1,0 +1,5 @@
+pub mod Written
+pub mod Counts
+pub mod Residuals
+pub mod Word
+pub mod View
