@@ -3,8 +3,8 @@ ghost use mathlib.Core.Path.{_≡_};
 ghost use Prim.Native.Nat.{_≤_};
 ghost use Rattle.entropy.specs.Medians.{mediansOf};
 ghost use Rattle.medians.specs.Adaptation.{hold, up, down, adapt};
-use crate::wide;
 use entropy::AdaptiveMedians;
+use wrapping::casts::u32_to_u64;
 
 // A number held within 32 bits.
 fn held(x: u64) -> u32
@@ -18,8 +18,8 @@ pub fn inc_median(median: u32, divisor: u32) -> u32
     requires { ⌜ 32 ≤ divisor ⌝ }
     ensures { λ r. ⌜ r ≡ up divisor median ⌝ }
 {
-    let step = held(wide(median) + wide(divisor)) / divisor * 5;
-    held(wide(median) + wide(step))
+    let step = held(u32_to_u64(median) + u32_to_u64(divisor)) / divisor * 5;
+    held(u32_to_u64(median) + u32_to_u64(step))
 }
 
 // A median moved down, `divisor` being its d.
@@ -27,7 +27,7 @@ pub fn dec_median(median: u32, divisor: u32) -> u32
     requires { ⌜ 32 ≤ divisor ⌝ }
     ensures { λ r. ⌜ r ≡ down divisor median ⌝ }
 {
-    let step = held(wide(median) + wide(divisor - 2)) / divisor * 2;
+    let step = held(u32_to_u64(median) + u32_to_u64(divisor - 2)) / divisor * 2;
     if median < step { 0 } else { median - step }
 }
 

@@ -3,8 +3,8 @@ ghost use mathlib.Core.Path.{_≡_};
 ghost use Prim.Native.Nat.{_+_, _-_, _≤_, _<_, max};
 ghost use Rattle.entropy.specs.Medians.{mediansOf};
 ghost use Rattle.medians.specs.Interval.{g, wrapped, IntervalIs};
-use crate::wide;
 use entropy::AdaptiveMedians;
+use wrapping::casts::u32_to_u64;
 
 // The interval of a count: its first and its last number.
 pub struct SampleInterval {
@@ -18,7 +18,7 @@ fn get_med(median: u32) -> u64
     ensures some { λ r. ⌜ 0 < r ⌝ }
     ensures most { λ r. ⌜ r ≤ 268435456 ⌝ }
 {
-    wide(median) / 16 + 1
+    u32_to_u64(median) / 16 + 1
 }
 
 // The interval of `width` numbers from `base` on, cut to 31 bits.
@@ -49,6 +49,6 @@ pub fn sample_interval(medians: AdaptiveMedians, ones_count: u32) -> SampleInter
         return cut(get_med(values[0]), get_med(values[1]));
     }
     let width = get_med(values[2]);
-    let base = get_med(values[0]) + get_med(values[1]) + wide(ones_count - 2) * width;
+    let base = get_med(values[0]) + get_med(values[1]) + u32_to_u64(ones_count - 2) * width;
     cut(base, width)
 }

@@ -12,7 +12,7 @@ use lib.IntN.{ℤ, pos}
 use lib.ListN.{length, take, getD}
 use lib.Signed.{mag}
 use Rattle.answers.specs.Guard.{unlessRefused}
-use Rattle.answers.specs.Limits.{maxFrames, maxPayloadBytes}
+use Rattle.answers.specs.Limits.{maxFrames, maxElements, maxPayloadBytes}
 use Rattle.bits.specs.Bits.{bitsOf}
 use Rattle.bits.proofs.BitLaws.{length-bits}
 use Rattle.entropy.specs.Seed.{seedRefusal, seedMedians}
@@ -29,9 +29,9 @@ use Rattle.samples.proofs.LocalLaws.{reading-inside}
 pub record SmallTold (bytes frames : ℕ) (t : ReadTold) : Type 0 where
   pub refusal : t .refusal ≤ 6
   pub bits : t .bits ≤ 8 * bytes
-  pub bits-small : t .bits ≤ 33554432
+  pub bits-small : t .bits ≤ 8 * maxPayloadBytes
   pub written : t .written ≤ 2 * frames
-  pub written-small : t .written ≤ 262144
+  pub written-small : t .written ≤ maxElements
   pub samples : (i : ℕ) → mag (getD (take (t .written) (t .list)) i (pos 0)) < 2147483648
 
 module _ (entropy payload : List ℕ) (frames : ℕ) (list : List ℤ) where

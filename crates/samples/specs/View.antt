@@ -93,8 +93,8 @@ readRefusal entropy payload frames list =
 abbrev pub notRead : List ℤ → ℕ → ReadTold
 notRead list refusal = record { refusal = refusal; bits = 0; medians = zeroPair; written = 0; list = list }
 
--- document 01, "Reading, from the entry down" (R1 to R6): 2 times frames words from the seed medians
--- on
+-- document 01, "Reading, from the entry down" (R1 to R6): 2 times frames words from the seed
+-- medians on
 unfoldable pub readEntry : List ℕ → List ℕ → ℕ → List ℤ → ReadTold
 readEntry entropy payload frames list =
     unlessRefused (readRefusal entropy payload frames list) (notRead list)

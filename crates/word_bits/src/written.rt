@@ -13,7 +13,7 @@ ghost use Rattle.word_bits.specs.View.{Gathers};
 use bits::write::put_bits;
 use bits::write::put_unary;
 use fields::code::bit_length;
-use medians::wide;
+use wrapping::casts::u32_to_u64;
 
 // Bits as a number, low bit first, and how many they are.
 pub struct Gathered {
@@ -57,7 +57,7 @@ pub fn gather_code(code: u32, last: u32, sign: u32) -> Gathered
     let value = code_value(code, extras, digits);
     let count = code_count(code, extras, digits);
     Gathered {
-        value: wide(value) + (wide(sign) << count),
+        value: u32_to_u64(value) + (u32_to_u64(sign) << count),
         count: count + 1,
     }
 }

@@ -12,7 +12,8 @@ use mir.Val.{toZ, ofZ, SFits}
 use mir.ValLaws.{toZ-pos, toZ-ofZ, ofZ-toZ, toZ-fits}
 use Rattle.wrapping.specs.Wrap.{low32, wrap32}
 
-cond-cases : (c : Bool) (x y : ℤ) (P : ℤ → Type 0) → (T c → P x) → (T (not c) → P y) → P (cond c x y)
+-- a choice, by its test
+pub cond-cases : (c : Bool) (x y : ℤ) (P : ℤ → Type 0) → (T c → P x) → (T (not c) → P y) → P (cond c x y)
 cond-cases true x y P f g = f tt
 cond-cases false x y P f g = g tt
 

@@ -5,6 +5,8 @@ ghost use mathlib.Core.Path.{_≡_};
 ghost use lib.IntN.{ℤ, pos, negℤ, _+ℤ_, _-ℤ_, _*ℤ_};
 ghost use Rattle.wrapping.specs.Wrap.{wrap32, floorDiv};
 
+pub mod casts;
+
 // A 64-bit number kept to 32 bits. The test is one of unsigned numbers; the two complements turn the pattern of a
 // negative number into that number.
 pub fn narrow(x: i64) -> i32

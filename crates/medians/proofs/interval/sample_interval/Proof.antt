@@ -22,13 +22,13 @@ returns-2 c =
     rw e (interval-is (mediansOf (a .medians)) 1 _ _ _ _ (c .before .before .get-med2 .ensures .0) (c .before .get-med3 .ensures .0) (omega arith) (c .cut2 .ensures .0) (c .cut2 .ensures .1))
 
 mul-base : tie.Need-mul-base
-mul-base c = omega (arith, product-small (c .wide .result) (c .before .before .before .get-med4 .result) (omega arith) (omega arith))
+mul-base c = omega (arith, product-small (c .u32-to-u64 .result) (c .before .before .before .get-med4 .result) (omega arith) (omega arith))
 
 add-base-2 : tie.Need-add-base-2
-add-base-2 c = omega (arith, product-small (c .wide .result) (c .before .before .before .get-med4 .result) (omega arith) (omega arith))
+add-base-2 c = omega (arith, product-small (c .u32-to-u64 .result) (c .before .before .before .get-med4 .result) (omega arith) (omega arith))
 
 cut-requires-3 : tie.Need-cut-requires-3
-cut-requires-3 c κs = omega (arith, product-small (c .wide .result) (c .before .before .before .get-med4 .result) (omega arith) (omega arith))
+cut-requires-3 c κs = omega (arith, product-small (c .u32-to-u64 .result) (c .before .before .before .get-med4 .result) (omega arith) (omega arith))
 
 returns-3 : tie.Need-returns-3
 returns-3 c =
@@ -36,7 +36,7 @@ returns-3 c =
     let k = a .ones-count in
     let m = mediansOf (a .medians) in
     let w = c .before .before .before .before .get-med4 .ensures .0 in
-    let b = base-many m k _ _ _ _ (omega arith) (c .before .before .before .get-med5 .ensures .0) (c .before .before .get-med6 .ensures .0) (c .before .wide .ensures) w in
+    let b = base-many m k _ _ _ _ (omega arith) (c .before .before .before .get-med5 .ensures .0) (c .before .before .get-med6 .ensures .0) (c .before .u32-to-u64 .ensures) w in
     interval-is m k _ _ _ _ b (w ∙ sym (width-many m k (omega arith))) (omega arith) (c .cut3 .ensures .0) (c .cut3 .ensures .1)
 
 pub sample-interval-spec : {M : Type 1} → statement M

@@ -41,7 +41,7 @@ code-count-requires : tie.Need-code-count-requires
 code-count-requires c κs = let u = parts (c .before) in omega arith
 
 -- the code's bits are those of the definition
-is-code : (c : tie.After-wide2) → let a = c .before .before .before .before .before .args in let b = c .before .before .before .before .bit-length .result in
+is-code : (c : tie.After-u32-to-u642) → let a = c .before .before .before .before .before .args in let b = c .before .before .before .before .bit-length .result in
     codeBits (b - 1 + 1) (2 * 2 ^ (b - 1) % 2 ^ 32 - a .last - 1) (a .code) ≡ codeField (a .last) (a .code)
 is-code c =
     let start : tie.Start = search needs in
@@ -52,23 +52,23 @@ is-code c =
     let e : b - 1 + 1 ≡ b = omega arith in
     rw (shifted (after-bit-length), e) (sym (u .is))
 
-few : (c : tie.After-wide2) → c .before .before .code-count .result ≤ 28
+few : (c : tie.After-u32-to-u642) → c .before .before .code-count .result ≤ 28
 few c =
     let start : tie.Start = search needs in
     let a = start .args in
     omega (arith, c .before .before .code-count .ensures, ap length (is-code c), code-long (a .last) (a .code) 28 (omega arith) (omega arith))
 
-whole : (c : tie.After-wide2) → let a = c .before .before .before .before .before .args in
-    Joined (codeField (a .last) (a .code)) (low 1 (a .sign)) (c .before .wide .result) (c .before .before .code-count .result) (c .wide2 .result)
+whole : (c : tie.After-u32-to-u642) → let a = c .before .before .before .before .before .args in
+    Joined (codeField (a .last) (a .code)) (low 1 (a .sign)) (c .before .u32-to-u64 .result) (c .before .before .code-count .result) (c .u32-to-u642 .result)
 whole c =
     let start : tie.Start = search needs in
     let after-code-value : tie.After-code-value = search needs in
     let a = start .args in
     let l : a .sign < 2 ^ 1 = omega arith in
-    joined (codeField (a .last) (a .code)) (low 1 (a .sign)) (c .before .wide .result) (c .before .before .code-count .result) (c .wide2 .result)
-    (c .before .wide .ensures ∙ after-code-value .code-value .ensures ∙ ap num (is-code c))
+    joined (codeField (a .last) (a .code)) (low 1 (a .sign)) (c .before .u32-to-u64 .result) (c .before .before .code-count .result) (c .u32-to-u642 .result)
+    (c .before .u32-to-u64 .ensures ∙ after-code-value .code-value .ensures ∙ ap num (is-code c))
     (c .before .before .code-count .ensures ∙ ap length (is-code c))
-    (c .wide2 .ensures ∙ sym (num-low 1 (a .sign) ∙ mod-eq-of-lt l))
+    (c .u32-to-u642 .ensures ∙ sym (num-low 1 (a .sign) ∙ mod-eq-of-lt l))
     (omega (arith, length-low 1 (a .sign), code-long (a .last) (a .code) 28 (omega arith) (omega arith)))
 
 shl-t16 : tie.Need-shl-t16
