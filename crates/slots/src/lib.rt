@@ -17,13 +17,13 @@ pub fn lay(values: &[i32], at: usize, slots: &mut [i32])
 }
 
 // The same, of unsigned numbers.
-pub fn lay_words(values: &[u32], at: usize, slots: &mut [u32])
-    requires { ⌜ at + length (now values) ≤ length (now slots) ⌝ }
-    ensures { λ _. ⌜ now (slots .exit) ≡ overlay (now (slots .entry)) at (now (values .entry)) ⌝ }
+pub fn lay_words(words: &[u32], at: usize, slots: &mut [u32])
+    requires { ⌜ at + length (now words) ≤ length (now slots) ⌝ }
+    ensures { λ _. ⌜ now (slots .exit) ≡ overlay (now (slots .entry)) at (now (words .entry)) ⌝ }
 {
     let mut i = 0;
-    while i < values.len() {
-        slots[at + i] = values[i];
+    while i < words.len() {
+        slots[at + i] = words[i];
         i += 1;
     }
 }

@@ -1,5 +1,5 @@
--- `slots::lay_words` meets its contract. The loop's invariant: the first i values are copied, and
--- the list has its length. The measure is what is left of the values.
+-- `slots::lay_words` meets its contract. The loop's invariant: the first i words are copied, and
+-- the list has its length. The measure is what is left of the words.
 -- Assumes nothing.
 use borrow.Author.Needs.{needs}
 use mathlib.Core.Path.{_≡_, refl, _∙_}
@@ -13,19 +13,19 @@ use Rattle.slots.proofs.lay_words.Statement.{statement}
 use Rattle.slots.proofs.lay_words.Tie as tie
 
 abbrev Inv-loop : tie.InvT-loop
-Inv-loop values at slots₀ i₀ slots i = (i ≤ length values) × (length slots ≡ length slots₀) × (slots ≡ paste slots₀ at values i)
+Inv-loop words at slots₀ i₀ slots i = (i ≤ length words) × (length slots ≡ length slots₀) × (slots ≡ paste slots₀ at words i)
 
 abbrev μ-loop : tie.MeasureT-loop
-μ-loop values at slots₀ i₀ slots i = length values - i
+μ-loop words at slots₀ i₀ slots i = length words - i
 
 loop-holds : tie.Need-loop-holds Inv-loop μ-loop
-loop-holds c = (omega arith, refl, paste-zero (c .args .slots .now) (c .args .at) (c .args .values .now))
+loop-holds c = (omega arith, refl, paste-zero (c .args .slots .now) (c .args .at) (c .args .words .now))
 
 loop-again : tie.Need-loop-again Inv-loop μ-loop
 loop-again c =
     let start : tie.Start Inv-loop μ-loop = search needs in
     let a = start .args in
-    let vs = a .values .now in
+    let vs = a .words .now in
     let t = c .before .before .loop in
     (omega arith, simp length-set (t .inv .1), rw (t .inv .2, add-one (t .i)) (paste-suc (a .slots .now) (a .at) vs (t .i) 0 (omega arith) (omega arith)))
 
@@ -36,7 +36,7 @@ returns : tie.Need-returns Inv-loop μ-loop
 returns c =
     let a = c .before .before .args in
     let t = c .before .loop in
-    t .inv .2 ∙ overlay-copied (a .slots .now) (a .values .now) (a .at) (t .i) (omega arith)
+    t .inv .2 ∙ overlay-copied (a .slots .now) (a .words .now) (a .at) (t .i) (omega arith)
 
 pub lay-words-spec : {M : Type 1} → statement M
 lay-words-spec =
