@@ -57,7 +57,8 @@ fn run_array(
     list
 }
 
-// Decorrelation or analysis by the first `count` passes of an array. A list that is refused changes nothing.
+// Decorrelation or analysis by the first `count` passes of an array. A list that is refused changes
+// nothing.
 pub fn array_answer(
     direction: Direction,
     passes: [DecorrPass; MAX_PASSES],

@@ -1,7 +1,7 @@
 // Decorrelation and analysis by a lent list of passes.
 //
-// The list stays lent: `run_list` walks it, takes each pass out, runs it over the buffer and stores it back. All tests and all
-// arithmetic stand in functions of plain values.
+// The list stays lent: `run_list` walks it, takes each pass out, runs it over the buffer and stores
+// it back. All tests and all arithmetic stand in functions of plain values.
 ghost use mathlib.Core.Path.{_≡_};
 ghost use Prim.Native.Nat.{_<_};
 ghost use Rattle.answers.specs.Numbers.{outcomeNumber};
@@ -20,7 +20,8 @@ pub fn valid_pass(p: DecorrPass) -> bool
     passes::is_valid(passes::term_of(p.term))
 }
 
-// What decorrelation and analysis say of a list, by whether its terms are valid, its passes and the buffer's elements.
+// What decorrelation and analysis say of a list, by whether its terms are valid, its passes and the
+// buffer's elements.
 pub fn list_outcome(valid: bool, count: usize, elements: usize) -> Outcome
     ensures { λ r. ⌜ outcomeNumber r ≡ listNumber valid count elements ⌝ }
 {
@@ -74,8 +75,8 @@ pub fn all_valid(passes: &[DecorrPass]) -> bool
     true
 }
 
-// Runs every pass of a list over the buffer: in decorrelation the first one first, in analysis the last one first. It refuses
-// nothing.
+// Runs every pass of a list over the buffer: in decorrelation the first one first, in analysis the
+// last one first. It refuses nothing.
 pub fn run_list(direction: Direction, passes: &mut [DecorrPass], buffer: &mut [i32])
     ensures {
         λ _. ⌜
@@ -112,8 +113,9 @@ pub fn run_checked(direction: Direction, passes: &mut [DecorrPass], buffer: &mut
     outcome
 }
 
-// Decorrelation: turns the residuals of the buffer into samples, each pass in turn, and leaves the passes' states. Refuses a
-// buffer of more than 262,144 elements (5), more than 16 passes (9) and an invalid term (7), and then changes nothing.
+// Decorrelation: turns the residuals of the buffer into samples, each pass in turn, and leaves the
+// passes' states. Refuses a buffer of more than 262,144 elements (5), more than 16 passes (9) and
+// an invalid term (7), and then changes nothing.
 pub fn decorrelate_stereo(passes: &mut [DecorrPass], buffer: &mut [i32]) -> Outcome
     ensures {
         λ r. ⌜
@@ -125,8 +127,8 @@ pub fn decorrelate_stereo(passes: &mut [DecorrPass], buffer: &mut [i32]) -> Outc
     run_checked(Direction::Decorrelation, passes, buffer)
 }
 
-// Analysis: turns the samples of the buffer into residuals, the last pass first, and leaves the passes as decorrelation would.
-// Refuses as decorrelation does.
+// Analysis: turns the samples of the buffer into residuals, the last pass first, and leaves the
+// passes as decorrelation would. Refuses as decorrelation does.
 pub fn recorrelate_stereo(passes: &mut [DecorrPass], buffer: &mut [i32]) -> Outcome
     ensures {
         λ r. ⌜

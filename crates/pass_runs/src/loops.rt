@@ -1,7 +1,8 @@
-// Four loops serve the thirteen terms and both directions: the fixed lags; 17 and 18; -1 and -2; -3. The match on the term stands
-// outside them, the weights and the samples that are looked back at are locals, and the pass is put together again behind the
-// loop: a match or a struct inside the loop is several times slower. The history index runs along in each loop, as the
-// definition has it; only the fixed lags look at it.
+// Four loops serve the thirteen terms and both directions: the fixed lags; 17 and 18; -1 and -2;
+// -3. The match on the term stands outside them, the weights and the samples that are looked back
+// at are locals, and the pass is put together again behind the loop: a match or a struct inside the
+// loop is several times slower. The history index runs along in each loop, as the definition has
+// it; only the fixed lags look at it.
 ghost use mathlib.Core.Path.{_≡_};
 ghost use Rattle.passes.specs.Run.{run, turn};
 ghost use Rattle.passes.specs.declared.Term.the-variants.{Lag, MinusThree};
@@ -94,8 +95,8 @@ pub fn run_two(direction: Direction, eighteen: bool, start: DecorrPass, buffer: 
     with_state(start, weight_a, weight_b, history_a, history_b)
 }
 
-// Terms -1 and -2: one channel from the last sample of the other, the other from this frame's. For -2 the channels change
-// places where they are read and written.
+// Terms -1 and -2: one channel from the last sample of the other, the other from this frame's. For
+// -2 the channels change places where they are read and written.
 pub fn run_cross(direction: Direction, second: bool, start: DecorrPass, buffer: &mut [i32]) -> DecorrPass
     ensures {
         λ r. ⌜

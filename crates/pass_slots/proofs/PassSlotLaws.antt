@@ -1,5 +1,5 @@
--- Passes and their slots: the term of a slot, one pass and its 20 slots, lists of passes pass by pass.
--- Assumes nothing.
+-- Passes and their slots: the term of a slot, one pass and its 20 slots, lists of passes pass by
+-- pass. Assumes nothing.
 use mathlib.Core.Path.{_≡_, refl, sym, ap, _∙_}
 use mathlib.Core.Bool.{true, false}
 use mathlib.Core.List.{List, [], _∷_, _++_, append-assoc, append-nil}

@@ -18,32 +18,11 @@ use Rattle.pass_slots.proofs.pass_slots.Tie as tie
 cast-t7 : tie.Need-cast-t7
 cast-t7 c = rw (toZ-ofZ w8 (c .before .before .before .args .p .term) (search needs)) (wider (search needs))
 
-slice-aggregate-lay : tie.Need-slice-aggregate-lay
-slice-aggregate-lay c = search needs
-
-slice-aggregate-lay-2 : tie.Need-slice-aggregate-lay-2
-slice-aggregate-lay-2 c = search needs
-
-lay-requires : tie.Need-lay-requires
-lay-requires c κs = search needs
-
-slice-aggregate-lay-3 : tie.Need-slice-aggregate-lay-3
-slice-aggregate-lay-3 c = search needs
-
-slice-aggregate-lay-4 : tie.Need-slice-aggregate-lay-4
-slice-aggregate-lay-4 c = search needs
-
 lay-requires-2 : tie.Need-lay-requires-2
 lay-requires-2 c κs =
     let a : length (c .before .before .before .before .before .before .before .before .before .before .args .p .«history_a») ≡ 8 = search needs in
     let n : length (c .before .before .before .lay .last .1 .1 .0) ≡ 20 = ap length (c .before .before .before .lay .ensures) in
     omega (arith, a, n)
-
-slice-aggregate-lay-5 : tie.Need-slice-aggregate-lay-5
-slice-aggregate-lay-5 c = search needs
-
-slice-aggregate-lay-6 : tie.Need-slice-aggregate-lay-6
-slice-aggregate-lay-6 c = search needs
 
 lay-requires-3 : tie.Need-lay-requires-3
 lay-requires-3 c κs =
@@ -66,13 +45,13 @@ pass-slots-spec =
     tie.close
     (tie.spec
     cast-t7
-    slice-aggregate-lay
-    slice-aggregate-lay-2
-    lay-requires
-    slice-aggregate-lay-3
-    slice-aggregate-lay-4
+    (λ c. search needs)
+    (λ c. search needs)
+    (λ c κs. search needs)
+    (λ c. search needs)
+    (λ c. search needs)
     lay-requires-2
-    slice-aggregate-lay-5
-    slice-aggregate-lay-6
+    (λ c. search needs)
+    (λ c. search needs)
     lay-requires-3
     returns)
