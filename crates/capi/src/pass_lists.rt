@@ -20,17 +20,13 @@ pub extern "C" fn wv_pass(
     seed_b: &[i32],
     pass: &mut [i32],
 ) -> u32
-    ensures answer {
-        λ r. ⌜ r ≡ passAnswer term (now («seed_a» .entry)) (now («seed_b» .entry)) (now (pass .entry)) ⌝
-    }
-    ensures pass {
-        λ r. ⌜
-            now (pass .exit)
-                ≡ laidIf r
-                    (passValues term delta «weight_a» «weight_b» (now («seed_a» .entry)) (now («seed_b» .entry)))
-                    (now (pass .entry))
-        ⌝
-    }
+    ensures answer { λ r. ⌜ r ≡ passAnswer term (now («seed_a» .entry)) (now («seed_b» .entry)) (now (pass .entry)) ⌝ }
+    ensures pass { λ r. ⌜
+        now (pass .exit)
+        ≡ laidIf r
+        (passValues term delta «weight_a» «weight_b» (now («seed_a» .entry)) (now («seed_b» .entry)))
+        (now (pass .entry))
+        ⌝ }
 {
     make_pass(term, delta, weight_a, weight_b, seed_a, seed_b, pass)
 }
@@ -40,12 +36,10 @@ pub extern "C" fn wv_pass(
 // lists are then as they were.
 #[no_mangle]
 pub extern "C" fn wv_decorrelate(passes: &mut [i32], buffer: &mut [i32]) -> u32
-    ensures {
-        λ r. ⌜
-            record { refusal = r; passes = now (passes .exit); buffer = now (buffer .exit) }
-                ≡ passesCall decorrelation (now (passes .entry)) (now (buffer .entry))
-        ⌝
-    }
+    ensures { λ r. ⌜
+        record { refusal = r; passes = now (passes .exit); buffer = now (buffer .exit) }
+        ≡ passesCall decorrelation (now (passes .entry)) (now (buffer .entry))
+        ⌝ }
 {
     run_slots(Direction::Decorrelation, passes, buffer)
 }
@@ -53,12 +47,10 @@ pub extern "C" fn wv_decorrelate(passes: &mut [i32], buffer: &mut [i32]) -> u32
 // Analysis of the buffer, the last pass first. It refuses as decorrelation does.
 #[no_mangle]
 pub extern "C" fn wv_analyse(passes: &mut [i32], buffer: &mut [i32]) -> u32
-    ensures {
-        λ r. ⌜
-            record { refusal = r; passes = now (passes .exit); buffer = now (buffer .exit) }
-                ≡ passesCall analysis (now (passes .entry)) (now (buffer .entry))
-        ⌝
-    }
+    ensures { λ r. ⌜
+        record { refusal = r; passes = now (passes .exit); buffer = now (buffer .exit) }
+        ≡ passesCall analysis (now (passes .entry)) (now (buffer .entry))
+        ⌝ }
 {
     run_slots(Direction::Analysis, passes, buffer)
 }

@@ -6,12 +6,12 @@ ghost use Rattle.answers.specs.Limits.{maxPasses};
 ghost use Rattle.answers.specs.Numbers.{outcomeNumber};
 ghost use Rattle.passes.specs.declared.Direction.the-variants.{Decorrelation, Analysis};
 ghost use Rattle.decorrelation.specs.Lists.{allValid, chained, followed, arrayAnswer};
-use answers::Outcome;
-use answers::limits::MAX_PASSES;
 use crate::lists::is_accepted;
 use crate::lists::list_outcome;
 use crate::lists::run_list;
 use crate::lists::valid_pass;
+use answers::Outcome;
+use answers::limits::MAX_PASSES;
 use passes::DecorrPass;
 use passes::Direction;
 
@@ -45,12 +45,10 @@ fn run_array(
     buffer: &mut [i32],
 ) -> [DecorrPass; MAX_PASSES]
     requires { ⌜ count ≤ maxPasses ⌝ }
-    ensures {
-        λ r. ⌜
-            record { passes = r; buffer = now (buffer .exit) }
-                ≡ followed (drop count passes) (chained direction (take count passes) (now (buffer .entry)))
-        ⌝
-    }
+    ensures { λ r. ⌜
+        record { passes = r; buffer = now (buffer .exit) }
+        ≡ followed (drop count passes) (chained direction (take count passes) (now (buffer .entry)))
+        ⌝ }
 {
     let mut list = passes;
     run_list(direction, &mut list[..count], buffer);
@@ -65,12 +63,10 @@ pub fn array_answer(
     count: usize,
     buffer: &mut [i32],
 ) -> ListAnswer
-    ensures {
-        λ r. ⌜
-            record { refusal = outcomeNumber (r .outcome); passes = r .passes; buffer = now (buffer .exit) }
-                ≡ arrayAnswer direction passes count (now (buffer .entry))
-        ⌝
-    }
+    ensures { λ r. ⌜
+        record { refusal = outcomeNumber (r .outcome); passes = r .passes; buffer = now (buffer .exit) }
+        ≡ arrayAnswer direction passes count (now (buffer .entry))
+        ⌝ }
 {
     let elements = buffer.len();
     if MAX_PASSES < count {
@@ -93,25 +89,29 @@ pub fn array_answer(
 }
 
 // Decorrelation by the first `count` passes of an array. Refuses as `decorrelate_stereo` does.
-pub fn decorrelate_array(passes: [DecorrPass; MAX_PASSES], count: usize, buffer: &mut [i32]) -> ListAnswer
-    ensures {
-        λ r. ⌜
-            record { refusal = outcomeNumber (r .outcome); passes = r .passes; buffer = now (buffer .exit) }
-                ≡ arrayAnswer Decorrelation passes count (now (buffer .entry))
-        ⌝
-    }
+pub fn decorrelate_array(
+    passes: [DecorrPass; MAX_PASSES],
+    count: usize,
+    buffer: &mut [i32],
+) -> ListAnswer
+    ensures { λ r. ⌜
+        record { refusal = outcomeNumber (r .outcome); passes = r .passes; buffer = now (buffer .exit) }
+        ≡ arrayAnswer Decorrelation passes count (now (buffer .entry))
+        ⌝ }
 {
     array_answer(Direction::Decorrelation, passes, count, buffer)
 }
 
 // Analysis by the first `count` passes of an array. Refuses as `recorrelate_stereo` does.
-pub fn recorrelate_array(passes: [DecorrPass; MAX_PASSES], count: usize, buffer: &mut [i32]) -> ListAnswer
-    ensures {
-        λ r. ⌜
-            record { refusal = outcomeNumber (r .outcome); passes = r .passes; buffer = now (buffer .exit) }
-                ≡ arrayAnswer Analysis passes count (now (buffer .entry))
-        ⌝
-    }
+pub fn recorrelate_array(
+    passes: [DecorrPass; MAX_PASSES],
+    count: usize,
+    buffer: &mut [i32],
+) -> ListAnswer
+    ensures { λ r. ⌜
+        record { refusal = outcomeNumber (r .outcome); passes = r .passes; buffer = now (buffer .exit) }
+        ≡ arrayAnswer Analysis passes count (now (buffer .entry))
+        ⌝ }
 {
     array_answer(Direction::Analysis, passes, count, buffer)
 }

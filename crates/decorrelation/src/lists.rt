@@ -78,12 +78,10 @@ pub fn all_valid(passes: &[DecorrPass]) -> bool
 // Runs every pass of a list over the buffer: in decorrelation the first one first, in analysis the
 // last one first. It refuses nothing.
 pub fn run_list(direction: Direction, passes: &mut [DecorrPass], buffer: &mut [i32])
-    ensures {
-        λ _. ⌜
-            record { passes = now (passes .exit); buffer = now (buffer .exit) }
-                ≡ chained direction (now (passes .entry)) (now (buffer .entry))
-        ⌝
-    }
+    ensures { λ _. ⌜
+        record { passes = now (passes .exit); buffer = now (buffer .exit) }
+        ≡ chained direction (now (passes .entry)) (now (buffer .entry))
+        ⌝ }
 {
     let n = passes.len();
     let mut i: usize = 0;
@@ -98,12 +96,10 @@ pub fn run_list(direction: Direction, passes: &mut [DecorrPass], buffer: &mut [i
 
 // The same where the list is accepted: else nothing changes.
 pub fn run_checked(direction: Direction, passes: &mut [DecorrPass], buffer: &mut [i32]) -> Outcome
-    ensures {
-        λ r. ⌜
-            record { refusal = outcomeNumber r; passes = now (passes .exit); buffer = now (buffer .exit) }
-                ≡ listed direction (now (passes .entry)) (now (buffer .entry))
-        ⌝
-    }
+    ensures { λ r. ⌜
+        record { refusal = outcomeNumber r; passes = now (passes .exit); buffer = now (buffer .exit) }
+        ≡ listed direction (now (passes .entry)) (now (buffer .entry))
+        ⌝ }
 {
     let valid = all_valid(passes);
     let outcome = list_outcome(valid, passes.len(), buffer.len());
@@ -117,12 +113,10 @@ pub fn run_checked(direction: Direction, passes: &mut [DecorrPass], buffer: &mut
 // passes' states. Refuses a buffer of more than 262,144 elements (5), more than 16 passes (9) and
 // an invalid term (7), and then changes nothing.
 pub fn decorrelate_stereo(passes: &mut [DecorrPass], buffer: &mut [i32]) -> Outcome
-    ensures {
-        λ r. ⌜
-            record { refusal = outcomeNumber r; passes = now (passes .exit); buffer = now (buffer .exit) }
-                ≡ decorrelation (now (passes .entry)) (now (buffer .entry))
-        ⌝
-    }
+    ensures { λ r. ⌜
+        record { refusal = outcomeNumber r; passes = now (passes .exit); buffer = now (buffer .exit) }
+        ≡ decorrelation (now (passes .entry)) (now (buffer .entry))
+        ⌝ }
 {
     run_checked(Direction::Decorrelation, passes, buffer)
 }
@@ -130,12 +124,10 @@ pub fn decorrelate_stereo(passes: &mut [DecorrPass], buffer: &mut [i32]) -> Outc
 // Analysis: turns the samples of the buffer into residuals, the last pass first, and leaves the
 // passes as decorrelation would. Refuses as decorrelation does.
 pub fn recorrelate_stereo(passes: &mut [DecorrPass], buffer: &mut [i32]) -> Outcome
-    ensures {
-        λ r. ⌜
-            record { refusal = outcomeNumber r; passes = now (passes .exit); buffer = now (buffer .exit) }
-                ≡ analysis (now (passes .entry)) (now (buffer .entry))
-        ⌝
-    }
+    ensures { λ r. ⌜
+        record { refusal = outcomeNumber r; passes = now (passes .exit); buffer = now (buffer .exit) }
+        ≡ analysis (now (passes .entry)) (now (buffer .entry))
+        ⌝ }
 {
     run_checked(Direction::Analysis, passes, buffer)
 }

@@ -18,13 +18,16 @@ use passes::DecorrPass;
 use passes::Direction;
 
 // A fixed lag.
-pub fn run_lag(direction: Direction, lag: usize, start: DecorrPass, buffer: &mut [i32]) -> DecorrPass
-    ensures {
-        λ r. ⌜
-            record { pass = r; buffer = now (buffer .exit) }
-                ≡ run (turn direction (Lag lag)) start 0 (now (buffer .entry))
-        ⌝
-    }
+pub fn run_lag(
+    direction: Direction,
+    lag: usize,
+    start: DecorrPass,
+    buffer: &mut [i32],
+) -> DecorrPass
+    ensures { λ r. ⌜
+        record { pass = r; buffer = now (buffer .exit) }
+        ≡ run (turn direction (Lag lag)) start 0 (now (buffer .entry))
+        ⌝ }
 {
     let delta = start.delta;
     let mut history_a = start.history_a;
@@ -53,13 +56,16 @@ pub fn run_lag(direction: Direction, lag: usize, start: DecorrPass, buffer: &mut
 }
 
 // Terms 17 and 18: both channels from their own last two samples.
-pub fn run_two(direction: Direction, eighteen: bool, start: DecorrPass, buffer: &mut [i32]) -> DecorrPass
-    ensures {
-        λ r. ⌜
-            record { pass = r; buffer = now (buffer .exit) }
-                ≡ run (turn direction (twoTerm eighteen)) start 0 (now (buffer .entry))
-        ⌝
-    }
+pub fn run_two(
+    direction: Direction,
+    eighteen: bool,
+    start: DecorrPass,
+    buffer: &mut [i32],
+) -> DecorrPass
+    ensures { λ r. ⌜
+        record { pass = r; buffer = now (buffer .exit) }
+        ≡ run (turn direction (twoTerm eighteen)) start 0 (now (buffer .entry))
+        ⌝ }
 {
     let delta = start.delta;
     let mut history_a = start.history_a;
@@ -97,13 +103,16 @@ pub fn run_two(direction: Direction, eighteen: bool, start: DecorrPass, buffer: 
 
 // Terms -1 and -2: one channel from the last sample of the other, the other from this frame's. For
 // -2 the channels change places where they are read and written.
-pub fn run_cross(direction: Direction, second: bool, start: DecorrPass, buffer: &mut [i32]) -> DecorrPass
-    ensures {
-        λ r. ⌜
-            record { pass = r; buffer = now (buffer .exit) }
-                ≡ run (turn direction (crossTerm second)) start 0 (now (buffer .entry))
-        ⌝
-    }
+pub fn run_cross(
+    direction: Direction,
+    second: bool,
+    start: DecorrPass,
+    buffer: &mut [i32],
+) -> DecorrPass
+    ensures { λ r. ⌜
+        record { pass = r; buffer = now (buffer .exit) }
+        ≡ run (turn direction (crossTerm second)) start 0 (now (buffer .entry))
+        ⌝ }
 {
     let delta = start.delta;
     let mut history_a = start.history_a;
@@ -139,12 +148,10 @@ pub fn run_cross(direction: Direction, second: bool, start: DecorrPass, buffer: 
 
 // Term -3: each channel from the last sample of the other.
 pub fn run_swap(direction: Direction, start: DecorrPass, buffer: &mut [i32]) -> DecorrPass
-    ensures {
-        λ r. ⌜
-            record { pass = r; buffer = now (buffer .exit) }
-                ≡ run (turn direction MinusThree) start 0 (now (buffer .entry))
-        ⌝
-    }
+    ensures { λ r. ⌜
+        record { pass = r; buffer = now (buffer .exit) }
+        ≡ run (turn direction MinusThree) start 0 (now (buffer .entry))
+        ⌝ }
 {
     let delta = start.delta;
     let mut history_a = start.history_a;

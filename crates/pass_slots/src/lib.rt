@@ -117,17 +117,13 @@ pub fn make_pass(
     seed_b: &[i32],
     pass: &mut [i32],
 ) -> u32
-    ensures answer {
-        λ r. ⌜ r ≡ passAnswer term (now («seed_a» .entry)) (now («seed_b» .entry)) (now (pass .entry)) ⌝
-    }
-    ensures pass {
-        λ r. ⌜
-            now (pass .exit)
-                ≡ laidIf r
-                    (passValues term delta «weight_a» «weight_b» (now («seed_a» .entry)) (now («seed_b» .entry)))
-                    (now (pass .entry))
-        ⌝
-    }
+    ensures answer { λ r. ⌜ r ≡ passAnswer term (now («seed_a» .entry)) (now («seed_b» .entry)) (now (pass .entry)) ⌝ }
+    ensures pass { λ r. ⌜
+        now (pass .exit)
+        ≡ laidIf r
+        (passValues term delta «weight_a» «weight_b» (now («seed_a» .entry)) (now («seed_b» .entry)))
+        (now (pass .entry))
+        ⌝ }
 {
     if pass.len() < 20 {
         return number(Refusal::ListLength);
@@ -146,12 +142,10 @@ pub fn make_pass(
 // Decorrelation or analysis by passes of 20 slots each, which then hold the passes after. Refuses 6
 // for a length that is no multiple of 20, then as the entry does; both lists are then as they were.
 pub fn run_slots(direction: Direction, passes: &mut [i32], buffer: &mut [i32]) -> u32
-    ensures {
-        λ r. ⌜
-            record { refusal = r; passes = now (passes .exit); buffer = now (buffer .exit) }
-                ≡ passesCall (listed direction) (now (passes .entry)) (now (buffer .entry))
-        ⌝
-    }
+    ensures { λ r. ⌜
+        record { refusal = r; passes = now (passes .exit); buffer = now (buffer .exit) }
+        ≡ passesCall (listed direction) (now (passes .entry)) (now (buffer .entry))
+        ⌝ }
 {
     let slots = passes.len();
     if slots % 20 != 0 {

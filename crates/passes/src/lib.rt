@@ -205,12 +205,10 @@ impl DecorrPass {
         seed_a: &[i32],
         seed_b: &[i32],
     ) -> PassAnswer
-        ensures {
-            λ r. ⌜
-                record { refusal = outcomeNumber (r .outcome); pass = r .pass }
-                    ≡ made term delta «weight_a» «weight_b» (now («seed_a» .entry)) (now («seed_b» .entry))
-            ⌝
-        }
+        ensures { λ r. ⌜
+            record { refusal = outcomeNumber (r .outcome); pass = r .pass }
+            ≡ made term delta «weight_a» «weight_b» (now («seed_a» .entry)) (now («seed_b» .entry))
+            ⌝ }
     {
         let t = term_of(term);
         if !is_valid(t) {
