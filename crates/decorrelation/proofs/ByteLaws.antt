@@ -1,5 +1,5 @@
--- The laws of the term byte and the weight byte: what the code computes is what document 01 says, and the range of a weight.
--- Assumes nothing.
+-- The laws of the term byte and the weight byte: what the code computes is what document 01 says,
+-- and the range of a weight. Assumes nothing.
 use mathlib.Core.Path.{_≡_, refl, ap, _∙_}
 use Prim.Native.Nat.{ℕ, zero, suc, _+_, _-_, _*_, _/_, _%_, _<_, _≤_}
 use native.Mathlib.Omega.{arith}

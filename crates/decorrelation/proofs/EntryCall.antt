@@ -1,6 +1,7 @@
--- A call of `run_checked` in a walk, to which a list of passes and a buffer are handed for good. It is a step for any context: from
--- [the tokens; the list; the buffer; Γ] to [what both hold at last; the tokens; Γ], where the outcome is about to land.
--- Assumes `Given`, and that the table of calls is monotone under a frame.
+-- A call of `run_checked` in a walk, to which a list of passes and a buffer are handed for good. It
+-- is a step for any context: from [the tokens; the list; the buffer; Γ] to [what both hold at last;
+-- the tokens; Γ], where the outcome is about to land. Assumes `Given`, and that the table of calls
+-- is monotone under a frame.
 use mathlib.Core.Path.{_≡_, refl}
 use mathlib.Core.List.{List, [], _∷_}
 use Prim.Native.Nat.{ℕ}
@@ -88,5 +89,6 @@ module _ {M : Type 1} (𝓤 : URA M) (H : Heap 𝓤) (A : Atoms 𝓤) (W : Given
       split ! $ move ! (1 ∷ []) $ heard ! (_≡_ {A = Answer} (record { refusal = outcomeNumber r; passes = zs .1 .0; buffer = zs .1 .1 .0 }) (listed dir P B)) (λ e. fsplit ! $ drop ! $ fsplit ! $ fsplit ! $ move ! (1 ∷ []) $ feqL ! (λ long. move ! (1 ∷ []) $ fsplit ! $ fsplit ! $ move ! (1 ∷ []) $ feqL ! (λ wide.
       -- [the buffer's last list; true; the passes' last list; the tokens and the result; Γ]
       move ! (3 ∷ []) $ split ! $ move ! (1 ∷ []) $ peeks ! S.the-row (Is S.the-row) (shows 𝓤 H A S.the-row) r (w ∷ []) (λ is. drop ! $ split ! $ move ! (1 ∷ []) $ split ! $
-      -- [the buffer's token; true; the list's token; the buffer's last list; true; the passes' last list; Γ]
+      -- [the buffer's token; true; the list's token; the buffer's last list; true; the passes' last
+      -- list; Γ]
       move ! (1 ∷ 4 ∷ []) $ drop ! $ drop ! $ move ! (3 ∷ 2 ∷ 1 ∷ 0 ∷ []) $ k w r (zs .1 .0) (zs .1 .1 .0) is long wide e)))))))

@@ -1,5 +1,6 @@
--- The first elements of an array in memory, lent as a `&mut [T]` for a call and taken back: what the lender keeps meanwhile is its part
--- of the loan, and the elements behind. The arrays are of any type. Assumes `Given`.
+-- The first elements of an array in memory, lent as a `&mut [T]` for a call and taken back: what
+-- the lender keeps meanwhile is its part of the loan, and the elements behind. The arrays are of
+-- any type. Assumes `Given`.
 use mathlib.Core.Path.{_≡_, refl, sym, _∙_}
 use Prim.Native.Nat.{ℕ}
 use mathlib.Core.List.{List, [], _∷_, _++_}

@@ -1,6 +1,7 @@
--- A lent slice that is lent on for a call, as a `&mut [T]` or as a `&[T]`, and comes back; and one that is given up for good. In
--- both cases its holder opens its own borrow, keeps that open for the length of the call, and closes it over what came back.
--- The lists are of any type. Assumes `Given`.
+-- A lent slice that is lent on for a call, as a `&mut [T]` or as a `&[T]`, and comes back; and one
+-- that is given up for good. In both cases its holder opens its own borrow, keeps that open for the
+-- length of the call, and closes it over what came back. The lists are of any type. Assumes
+-- `Given`.
 use mathlib.Core.Path.{_≡_, refl, sym, ap, subst}
 use Prim.Native.Nat.{ℕ}
 use mathlib.Core.List.{List, [], _∷_}

@@ -4,7 +4,7 @@ pub mod Lending
 pub mod Front
 pub mod Turns
 pub mod Answers
-pub mod Ways
+pub mod Locals
 pub mod TurnCalls
 pub mod TestCalls
 pub mod EntryCall

@@ -1,5 +1,6 @@
--- Calls of the tests in a walk: `all_valid`, to which the list is lent as a `&[DecorrPass]`, `list_outcome` and `is_accepted`. Each is
--- a step for any context. Assumes `Given`, and that the table of calls is monotone under a frame.
+-- Calls of the tests in a walk: `all_valid`, to which the list is lent as a `&[DecorrPass]`,
+-- `list_outcome` and `is_accepted`. Each is a step for any context. Assumes `Given`, and that the
+-- table of calls is monotone under a frame.
 use mathlib.Core.Path.{_≡_, refl, sym, _∙_, ap, subst}
 use mathlib.Core.Bool.{Bool}
 use mathlib.Core.List.{List, [], _∷_}
@@ -77,7 +78,8 @@ module _ {M : Type 1} (𝓤 : URA M) (H : Heap 𝓤) (A : Atoms 𝓤) (W : Given
   goes-all-valid ν δ =
       qed W (‵ (flft (ν ∷ []) fullShare) ∷ ‵ (ShrSlice (named 0) (ν ∷ []) T.the-row .own (list-at b o δ P) (v ∷ [])) ∷ []) ∵ nothing ! $ move ! (2 ∷ 0 ∷ []) $ fjoin ! $ nothing ! $ move ! (2 ∷ 0 ∷ []) $ join ! $ join ! $ frame ! $ done !
 
-  -- `all_valid`: from [the list; its token; Γ] to the same, where whether all terms are valid is about to land
+  -- `all_valid`: from [the list; its token; Γ] to the same, where whether all terms are valid is
+  -- about to land
   pub calls-all-valid : {Γ : List (Item 𝓤)} {E : Env 𝓤 H} {C : Calls 𝓤 H} {Λ : Loops 𝓤 H} {Q : Post 𝓤 H} {xs : List Operand} {d : Place} {rest : Body}
       → FmC 𝓤 H (W .laws) C → Triple 𝓤 (C #decorrelation·all-valid) (AllValid 𝓤 H A mem run) → Room T.the-row (length P)
       → ((ν : ℕ) (δ : GName) → Opds (Go {0}) W (raw (AllValid 𝓤 H A mem run .pre (to-all-valid ν δ)) ∷ ‵ (LentShared T.the-row κ (ν ∷ []) q γ b o P) ∷ Γ) E xs (v ∷ []))

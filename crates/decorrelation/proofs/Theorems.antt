@@ -1,5 +1,6 @@
--- What holds of the two entries together. A recording, or a residual list, is a list of 32-bit numbers (`Fit`); passes are well-made when
--- every term is valid, whatever their weights, deltas and histories hold. Assumes nothing.
+-- What holds of the two entries together. A recording, or a residual list, is a list of 32-bit
+-- numbers (`Fit`); passes are well-made when every term is valid, whatever their weights, deltas
+-- and histories hold. Assumes nothing.
 use mathlib.Core.Path.{_≡_, refl, sym, ap, _∙_}
 use mathlib.Core.Bool.{Bool, true, false, cond}
 use mathlib.Core.List.{List, _++_}
@@ -46,7 +47,8 @@ module _ (ps : List DecorrPass) (l : List ℤ) (h : Accepted ps l) (fit : Fit l)
   decorrelation-analysis =
       rw (listed-accepts Analysis ps l h, listed-accepts Decorrelation ps (analysed ps l .buffer) after-analysis) (ap done (decorrelated-analysed ps l fit))
 
-  -- decorrelation, then analysis, returns the residuals, and leaves the passes that decorrelation left
+  -- decorrelation, then analysis, returns the residuals, and leaves the passes that decorrelation
+  -- left
   pub analysis-decorrelation : analysis ps (decorrelation ps l .buffer) ≡ record { refusal = 0; passes = decorrelation ps l .passes; buffer = l }
   analysis-decorrelation =
       rw (listed-accepts Decorrelation ps l h, listed-accepts Analysis ps (decorrelated ps l .buffer) after-decorrelation) (ap done (analysed-decorrelated ps l fit))
@@ -56,12 +58,14 @@ unique-by : (n : ℕ) (ps : List DecorrPass) (r s : List ℤ) → Fit r → Fit 
 unique-by zero ps r s hr hs e = residuals-unique ps r s hr hs e
 unique-by (suc n) ps r s hr hs e = e
 
--- two residual lists of one length that decorrelate to one recording are equal, for any list of passes
+-- two residual lists of one length that decorrelate to one recording are equal, for any list of
+-- passes
 pub decorrelation-unique : (ps : List DecorrPass) (r s : List ℤ) → length r ≡ length s → Fit r → Fit s → decorrelation ps r .buffer ≡ decorrelation ps s .buffer → r ≡ s
 unfolding listed
 decorrelation-unique ps r s same hr hs e = unique-by (listNumber (allValid ps) (length ps) (length s)) ps r s hr hs (rw same at e)
 
--- the residuals of a recording: a list of its length that decorrelates to it, and every such list is this one
+-- the residuals of a recording: a list of its length that decorrelates to it, and every such list
+-- is this one
 pub record OnlyResiduals (ps : List DecorrPass) (x r : List ℤ) : Type 0 where
   pub fit : Fit r
   pub same : length r ≡ length x
@@ -86,7 +90,8 @@ bounded-by : (n : ℕ) (c : Chain) (ps : List DecorrPass) (l : List ℤ) → All
 bounded-by zero c ps l h k = k
 bounded-by (suc n) c ps l h k = h
 
--- cross weights within 1024 of 0, with delta 0 to 7, stay there, through decorrelation and through analysis
+-- cross weights within 1024 of 0, with delta 0 to 7, stay there, through decorrelation and through
+-- analysis
 pub decorrelation-bounded : (ps : List DecorrPass) (l : List ℤ) → AllBounded ps → AllBounded (decorrelation ps l .passes)
 unfolding listed
 decorrelation-bounded ps l h = bounded-by (listNumber (allValid ps) (length ps) (length l)) (decorrelated ps l) ps l h (decorrelated-bounded ps l h)

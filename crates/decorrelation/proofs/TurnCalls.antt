@@ -1,6 +1,7 @@
--- Calls of plain functions in a walk over a list of passes: `valid_pass`, `place` and `run_pass`. Each is a step for any context:
--- what the function is passed is plain data, and for `run_pass` the buffer, which is lent on for the call and comes back.
--- Assumes `Given`, and that the table of calls is monotone under a frame.
+-- Calls of plain functions in a walk over a list of passes: `valid_pass`, `place` and `run_pass`.
+-- Each is a step for any context: what the function is passed is plain data, and for `run_pass` the
+-- buffer, which is lent on for the call and comes back. Assumes `Given`, and that the table of
+-- calls is monotone under a frame.
 use mathlib.Core.Path.{_≡_, refl, sym, _∙_, ap, subst}
 use mathlib.Core.Bool.{Bool}
 use mathlib.Core.List.{List, [], _∷_}
@@ -130,7 +131,8 @@ module _ {M : Type 1} (𝓤 : URA M) (H : Heap 𝓤) (A : Atoms 𝓤) (W : Given
   abbrev Kept : ℕ → GName → Fml
   Kept ν δ = LentMut i32 κ (ν ∷ []) q γ b o δ cs
 
-  -- `run_pass`: from [the buffer at cs; its token; Γ] to [the buffer at zs; its token; what the result r owns; Γ], where r is about to land
+  -- `run_pass`: from [the buffer at cs; its token; Γ] to [the buffer at zs; its token; what the
+  -- result r owns; Γ], where r is about to land
   pub calls-run-pass : {Γ : List (Item 𝓤)} {E : Env 𝓤 H} {C : Calls 𝓤 H} {Λ : Loops 𝓤 H} {Q : Post 𝓤 H} {xs : List Operand} {d : Place} {rest : Body} (ℓ : Lifetime)
       → FmC 𝓤 H (W .laws) C → Triple 𝓤 (C #pass_runs·run-pass) (RunPass 𝓤 H A mem run) → Is T.the-row p (mach p ∷ []) → Room i32 m → length cs ≡ m
       → ((ν : ℕ) (δ : GName) → Opds (Go {0}) W (raw (RunPass 𝓤 H A mem run .pre (to-run-pass ν δ)) ∷ ‵ (Kept ν δ) ∷ Γ) E xs (dv ∷ mach p ∷ sliceVal (b, o) m ∷ []))

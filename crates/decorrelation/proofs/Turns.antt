@@ -1,5 +1,5 @@
--- What holds of a list of passes and of the buffer at a turn of the loops over them, as facts on lists alone: at the start, from one
--- turn to the next, and at the end. Assumes nothing.
+-- What holds of a list of passes and of the buffer at a turn of the loops over them, as facts on
+-- lists alone: at the start, from one turn to the next, and at the end. Assumes nothing.
 use mathlib.Core.Path.{_≡_, refl, sym, _∙_, ap, subst}
 use mathlib.Core.Bool.{Bool, true, false}
 use mathlib.Core.List.{List, [], _∷_, append-nil}
@@ -52,6 +52,13 @@ pub record Ran (dir : Direction) (P : List DecorrPass) (B : List ℤ) (i : ℕ) 
   pub long : length ps ≡ length P
   pub wide : length cs ≡ length B
   pub whole : pending dir i ps cs ≡ chained dir P B
+
+-- where that loop stands: the turn's number, the passes and the buffer now, and what holds of them
+pub record Turn (dir : Direction) (P : List DecorrPass) (B : List ℤ) : Type 0 where
+  pub i : ℕ
+  pub ps : List DecorrPass
+  pub cs : List ℤ
+  pub good : Ran dir P B i ps cs
 
 -- the place of a turn lies in the list
 pub place-within : (dir : Direction) (n i : ℕ) → i < n → placeOf dir n i < n

@@ -1,5 +1,5 @@
--- Document 01, "Why each operation says no": decorrelation and analysis of a list of passes, with what they refuse (X5). What
--- they do to passes and buffer is defined in `passes`. Assumes nothing.
+-- Document 01, "Why each operation says no": decorrelation and analysis of a list of passes, with
+-- what they refuse (X5). What they do to passes and buffer is defined in `passes`. Assumes nothing.
 use mathlib.Core.Bool.{Bool, true, false, cond, _&&_}
 use mathlib.Core.List.{List, [], _∷_, _++_}
 use Prim.Native.Nat.{ℕ, _-_}
@@ -24,8 +24,8 @@ abbrev pub allValid : List DecorrPass → Bool
 allValid [] = true
 allValid (p ∷ ps) = validPass p && allValid ps
 
--- "5, over 262,144 elements; 9, over 16 passes; 7, an invalid term in the list" (X5), by whether all are valid and how many there
--- are of each; 0 for none
+-- "5, over 262,144 elements; 9, over 16 passes; 7, an invalid term in the list" (X5), by whether
+-- all are valid and how many there are of each; 0 for none
 unfoldable pub listNumber : Bool → ℕ → ℕ → ℕ
 listNumber valid passes elements = cond (ltb maxElements elements) 5 (cond (ltb maxPasses passes) 9 (cond valid 0 7))
 
@@ -77,7 +77,8 @@ analysis ps l = listed Analysis ps l
 abbrev pub followed : List DecorrPass → Chain → Chain
 followed rest c = record { passes = c .passes ++ rest; buffer = c .buffer }
 
--- the first n passes of an array: those behind keep their values, and more than the array has are refused by their number
+-- the first n passes of an array: those behind keep their values, and more than the array has are
+-- refused by their number
 unfoldable pub arrayAnswer : Direction → List DecorrPass → ℕ → List ℤ → Answer
 arrayAnswer d ps n l =
     unlessRefused (numberBy d (allValid (take n ps)) n (length l)) (kept ps l) (done (followed (drop n ps) (chained d (take n ps) l)))

@@ -6,12 +6,12 @@ ghost use Rattle.answers.specs.Limits.{maxPasses};
 ghost use Rattle.answers.specs.Numbers.{outcomeNumber};
 ghost use Rattle.passes.specs.declared.Direction.the-variants.{Decorrelation, Analysis};
 ghost use Rattle.decorrelation.specs.Lists.{allValid, analysisNumber, chained, followed, arrayAnswer};
-use answers::Outcome;
-use answers::limits::MAX_PASSES;
 use crate::lists::is_accepted;
 use crate::lists::list_outcome;
 use crate::lists::run_list;
 use crate::lists::valid_pass;
+use answers::Outcome;
+use answers::limits::MAX_PASSES;
 use passes::DecorrPass;
 use passes::Direction;
 
@@ -45,12 +45,10 @@ fn run_array(
     buffer: &mut [i32],
 ) -> [DecorrPass; MAX_PASSES]
     requires { ⌜ count ≤ maxPasses ⌝ }
-    ensures {
-        λ r. ⌜
-            record { passes = r; buffer = now (buffer .exit) }
-                ≡ followed (drop count passes) (chained direction (take count passes) (now (buffer .entry)))
-        ⌝
-    }
+    ensures { λ r. ⌜
+        record { passes = r; buffer = now (buffer .exit) }
+        ≡ followed (drop count passes) (chained direction (take count passes) (now (buffer .entry)))
+        ⌝ }
 {
     let mut list = passes;
     run_list(direction, &mut list[..count], buffer);
@@ -59,14 +57,8 @@ fn run_array(
 
 // What analysis by the first `count` passes of an array says of a buffer of that many elements, as
 // `recorrelate_array` answers: 5, 9 and 7. Runs no pass.
-pub fn analysis_refusal(
-    passes: [DecorrPass; MAX_PASSES],
-    count: usize,
-    elements: usize,
-) -> Outcome
-    ensures {
-        λ r. ⌜ outcomeNumber r ≡ analysisNumber (allValid (take count passes)) count elements ⌝
-    }
+pub fn analysis_refusal(passes: [DecorrPass; MAX_PASSES], count: usize, elements: usize) -> Outcome
+    ensures { λ r. ⌜ outcomeNumber r ≡ analysisNumber (allValid (take count passes)) count elements ⌝ }
 {
     if MAX_PASSES < count {
         return list_outcome(true, count, elements);
@@ -75,19 +67,18 @@ pub fn analysis_refusal(
     list_outcome(valid, count, elements)
 }
 
-// Decorrelation or analysis by the first `count` passes of an array. A list that is refused changes nothing.
+// Decorrelation or analysis by the first `count` passes of an array. A list that is refused changes
+// nothing.
 pub fn array_answer(
     direction: Direction,
     passes: [DecorrPass; MAX_PASSES],
     count: usize,
     buffer: &mut [i32],
 ) -> ListAnswer
-    ensures {
-        λ r. ⌜
-            record { refusal = outcomeNumber (r .outcome); passes = r .passes; buffer = now (buffer .exit) }
-                ≡ arrayAnswer direction passes count (now (buffer .entry))
-        ⌝
-    }
+    ensures { λ r. ⌜
+        record { refusal = outcomeNumber (r .outcome); passes = r .passes; buffer = now (buffer .exit) }
+        ≡ arrayAnswer direction passes count (now (buffer .entry))
+        ⌝ }
 {
     let elements = buffer.len();
     if MAX_PASSES < count {
@@ -110,25 +101,29 @@ pub fn array_answer(
 }
 
 // Decorrelation by the first `count` passes of an array. Refuses as `decorrelate_stereo` does.
-pub fn decorrelate_array(passes: [DecorrPass; MAX_PASSES], count: usize, buffer: &mut [i32]) -> ListAnswer
-    ensures {
-        λ r. ⌜
-            record { refusal = outcomeNumber (r .outcome); passes = r .passes; buffer = now (buffer .exit) }
-                ≡ arrayAnswer Decorrelation passes count (now (buffer .entry))
-        ⌝
-    }
+pub fn decorrelate_array(
+    passes: [DecorrPass; MAX_PASSES],
+    count: usize,
+    buffer: &mut [i32],
+) -> ListAnswer
+    ensures { λ r. ⌜
+        record { refusal = outcomeNumber (r .outcome); passes = r .passes; buffer = now (buffer .exit) }
+        ≡ arrayAnswer Decorrelation passes count (now (buffer .entry))
+        ⌝ }
 {
     array_answer(Direction::Decorrelation, passes, count, buffer)
 }
 
 // Analysis by the first `count` passes of an array. Refuses as `recorrelate_stereo` does.
-pub fn recorrelate_array(passes: [DecorrPass; MAX_PASSES], count: usize, buffer: &mut [i32]) -> ListAnswer
-    ensures {
-        λ r. ⌜
-            record { refusal = outcomeNumber (r .outcome); passes = r .passes; buffer = now (buffer .exit) }
-                ≡ arrayAnswer Analysis passes count (now (buffer .entry))
-        ⌝
-    }
+pub fn recorrelate_array(
+    passes: [DecorrPass; MAX_PASSES],
+    count: usize,
+    buffer: &mut [i32],
+) -> ListAnswer
+    ensures { λ r. ⌜
+        record { refusal = outcomeNumber (r .outcome); passes = r .passes; buffer = now (buffer .exit) }
+        ≡ arrayAnswer Analysis passes count (now (buffer .entry))
+        ⌝ }
 {
     array_answer(Direction::Analysis, passes, count, buffer)
 }

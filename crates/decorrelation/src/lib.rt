@@ -1,5 +1,5 @@
-// Implements document 01, "Passes": the term byte and the weight byte, and decorrelation and analysis by a list of passes, lent
-// or held in an array.
+// Implements document 01, "Passes": the term byte and the weight byte, and decorrelation and
+// analysis by a list of passes, lent or held in an array.
 mod arrays;
 mod bytes;
 mod lists;

@@ -1,4 +1,5 @@
--- The loop of terms -1 and -2: a turn of it is a step of the pass, and its start and end are the pass. Assumes nothing.
+-- The loop of terms -1 and -2: a turn of it is a step of the pass, and its start and end are the
+-- pass. Assumes nothing.
 use mathlib.Core.Path.{_≡_, refl}
 use mathlib.Core.Bool.{Bool, true, false, cond}
 use mathlib.Core.List.{List}

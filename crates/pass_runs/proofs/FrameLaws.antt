@@ -1,5 +1,5 @@
--- What holds at a turn of each of the four loops over a buffer, and what a frame makes of it: once for all of them.
--- Assumes nothing.
+-- What holds at a turn of each of the four loops over a buffer, and what a frame makes of it: once
+-- for all of them. Assumes nothing.
 use mathlib.Core.Path.{_≡_, refl, sym, ap, _∙_}
 use mathlib.Core.List.{List}
 use Prim.Native.Nat.{ℕ, _+_, _<_, _≤_}

@@ -1,4 +1,5 @@
--- From the runs by term to a pass: the term that its number stands for, and a term that is not valid. Assumes nothing.
+-- From the runs by term to a pass: the term that its number stands for, and a term that is not
+-- valid. Assumes nothing.
 use mathlib.Core.Path.{_≡_, refl, sym, ap, _∙_}
 use mathlib.Core.Bool.{Bool, true, false}
 use mathlib.Core.List.{List, [], _∷_}

@@ -1,4 +1,5 @@
--- The laws of one channel's step: what the calls leave, and the first slots of a history. Assumes nothing.
+-- The laws of one channel's step: what the calls leave, and the first slots of a history. Assumes
+-- nothing.
 use mathlib.Core.Path.{_≡_, refl}
 use mathlib.Core.Bool.{Bool, true, false}
 use mathlib.Core.List.{List, [], _∷_}
@@ -25,17 +26,17 @@ weighed-sym false w d x y = updated-sym w d x y
 
 module _ (c : Bool) (w d s x : ℤ) where
   -- analysis, by what its calls answer
-  pub back-raw : {b : Direction} {r n : ℤ} → b ≡ Analysis → r ≡ residual (reread w) (reread s) (reread x) → n ≡ weighed c (reread w) (reread d) (reread r) (reread s)
+  pub analysis-raw : {b : Direction} {r n : ℤ} → b ≡ Analysis → r ≡ residual (reread w) (reread s) (reread x) → n ≡ weighed c (reread w) (reread d) (reread r) (reread s)
       → SFits w32 w → SFits w32 d → SFits w32 s → SFits w32 x → SFits w32 r → SFits w32 n
       → _≡_ {A = Turned} (record { weight = reread n; element = reread r; sample = reread x }) (turned b c w d s x)
-  back-raw {b} {r} {n} eb er en fw fd fs fx fr fn =
+  analysis-raw {b} {r} {n} eb er en fw fd fs fx fr fn =
       rw (eb, toZ-ofZ w32 n fn, en, toZ-ofZ w32 r fr, er, toZ-ofZ w32 w fw, toZ-ofZ w32 d fd, toZ-ofZ w32 s fs, toZ-ofZ w32 x fx, weighed-sym c w d (residual w s x) s)
 
   -- decorrelation, by what its calls answer
-  pub forth-raw : {b : Direction} {a n : ℤ} → b ≡ Decorrelation → a ≡ sample (reread w) (reread s) (reread x) → n ≡ weighed c (reread w) (reread d) (reread s) (reread x)
+  pub decorrelation-raw : {b : Direction} {a n : ℤ} → b ≡ Decorrelation → a ≡ sample (reread w) (reread s) (reread x) → n ≡ weighed c (reread w) (reread d) (reread s) (reread x)
       → SFits w32 w → SFits w32 d → SFits w32 s → SFits w32 x → SFits w32 a → SFits w32 n
       → _≡_ {A = Turned} (record { weight = reread n; element = reread a; sample = reread a }) (turned b c w d s x)
-  forth-raw {b} {a} {n} eb ea en fw fd fs fx fa fn =
+  decorrelation-raw {b} {a} {n} eb ea en fw fd fs fx fa fn =
       rw (eb, toZ-ofZ w32 n fn, en, toZ-ofZ w32 a fa, ea, toZ-ofZ w32 w fw, toZ-ofZ w32 d fd, toZ-ofZ w32 s fs, toZ-ofZ w32 x fx)
 
 -- a history by its first slot and the rest

@@ -1,5 +1,5 @@
--- One channel's step in either direction, as the loops make it, and the pass with the numbers that a loop carries. The
--- definition of a step stands in `passes`. Assumes nothing.
+-- One channel's step in either direction, as the loops make it, and the pass with the numbers that
+-- a loop carries. The definition of a step stands in `passes`. Assumes nothing.
 use mathlib.Core.Bool.{Bool, true, false}
 use mathlib.Core.List.{List, _∷_}
 use Prim.Native.Nat.{ℕ, _+_}

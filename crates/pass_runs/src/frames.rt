@@ -11,7 +11,7 @@ pub struct Frame {
 }
 
 // The frame whose first element is i.
-pub fn frame_at(buffer: &[i32], i: usize) -> Frame
+pub(crate) fn frame_at(buffer: &[i32], i: usize) -> Frame
     requires { ⌜ i + 1 < length (now buffer) ⌝ }
     ensures { λ r. ⌜ r ≡ frameAt (now (buffer .entry)) i ⌝ }
 {
@@ -22,7 +22,7 @@ pub fn frame_at(buffer: &[i32], i: usize) -> Frame
 }
 
 // Stores that frame.
-pub fn store_frame(buffer: &mut [i32], i: usize, a: i32, b: i32)
+pub(crate) fn store_frame(buffer: &mut [i32], i: usize, a: i32, b: i32)
     requires { ⌜ i + 1 < length (now buffer) ⌝ }
     ensures { λ _. ⌜ now (buffer .exit) ≡ frameStored (now (buffer .entry)) i a b ⌝ }
 {

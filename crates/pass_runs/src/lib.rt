@@ -13,13 +13,12 @@ mod frames;
 mod loops;
 mod turns;
 
-// One pass over a buffer, by its term. A term that is not valid is run as a lag of 0; no entry runs one.
+// One pass over a buffer, by its term. A term that is not valid is run as a lag of 0; no entry runs
+// one.
 pub fn run_pass(direction: Direction, start: DecorrPass, buffer: &mut [i32]) -> DecorrPass
-    ensures {
-        λ r. ⌜
-            record { pass = r; buffer = now (buffer .exit) } ≡ passed direction start (now (buffer .entry))
-        ⌝
-    }
+    ensures { λ r. ⌜
+        record { pass = r; buffer = now (buffer .exit) } ≡ passed direction start (now (buffer .entry))
+        ⌝ }
 {
     let t = passes::term_of(start.term);
     match t {

@@ -1,7 +1,8 @@
-// Four loops serve the thirteen terms and both directions: the fixed lags; 17 and 18; -1 and -2; -3. The match on the term stands
-// outside them, the weights and the samples that are looked back at are locals, and the pass is put together again behind the
-// loop: a match or a struct inside the loop is several times slower. The history index runs along in each loop, as the
-// definition has it; only the fixed lags look at it.
+// Four loops serve the thirteen terms and both directions: the fixed lags; 17 and 18; -1 and -2;
+// -3. The match on the term stands outside them, the weights and the samples that are looked back
+// at are locals, and the pass is put together again behind the loop: a match or a struct inside the
+// loop is several times slower. The history index runs along in each loop, as the definition has
+// it; only the fixed lags look at it.
 ghost use mathlib.Core.Path.{_≡_};
 ghost use Rattle.passes.specs.Run.{run, turn};
 ghost use Rattle.passes.specs.declared.Term.the-variants.{Lag, MinusThree};
@@ -17,13 +18,16 @@ use passes::DecorrPass;
 use passes::Direction;
 
 // A fixed lag.
-pub fn run_lag(direction: Direction, lag: usize, start: DecorrPass, buffer: &mut [i32]) -> DecorrPass
-    ensures {
-        λ r. ⌜
-            record { pass = r; buffer = now (buffer .exit) }
-                ≡ run (turn direction (Lag lag)) start 0 (now (buffer .entry))
-        ⌝
-    }
+pub(crate) fn run_lag(
+    direction: Direction,
+    lag: usize,
+    start: DecorrPass,
+    buffer: &mut [i32],
+) -> DecorrPass
+    ensures { λ r. ⌜
+        record { pass = r; buffer = now (buffer .exit) }
+        ≡ run (turn direction (Lag lag)) start 0 (now (buffer .entry))
+        ⌝ }
 {
     let delta = start.delta;
     let mut history_a = start.history_a;
@@ -52,13 +56,16 @@ pub fn run_lag(direction: Direction, lag: usize, start: DecorrPass, buffer: &mut
 }
 
 // Terms 17 and 18: both channels from their own last two samples.
-pub fn run_two(direction: Direction, eighteen: bool, start: DecorrPass, buffer: &mut [i32]) -> DecorrPass
-    ensures {
-        λ r. ⌜
-            record { pass = r; buffer = now (buffer .exit) }
-                ≡ run (turn direction (twoTerm eighteen)) start 0 (now (buffer .entry))
-        ⌝
-    }
+pub(crate) fn run_two(
+    direction: Direction,
+    eighteen: bool,
+    start: DecorrPass,
+    buffer: &mut [i32],
+) -> DecorrPass
+    ensures { λ r. ⌜
+        record { pass = r; buffer = now (buffer .exit) }
+        ≡ run (turn direction (twoTerm eighteen)) start 0 (now (buffer .entry))
+        ⌝ }
 {
     let delta = start.delta;
     let mut history_a = start.history_a;
@@ -94,15 +101,18 @@ pub fn run_two(direction: Direction, eighteen: bool, start: DecorrPass, buffer: 
     with_state(start, weight_a, weight_b, history_a, history_b)
 }
 
-// Terms -1 and -2: one channel from the last sample of the other, the other from this frame's. For -2 the channels change
-// places where they are read and written.
-pub fn run_cross(direction: Direction, second: bool, start: DecorrPass, buffer: &mut [i32]) -> DecorrPass
-    ensures {
-        λ r. ⌜
-            record { pass = r; buffer = now (buffer .exit) }
-                ≡ run (turn direction (crossTerm second)) start 0 (now (buffer .entry))
-        ⌝
-    }
+// Terms -1 and -2: one channel from the last sample of the other, the other from this frame's. For
+// -2 the channels change places where they are read and written.
+pub(crate) fn run_cross(
+    direction: Direction,
+    second: bool,
+    start: DecorrPass,
+    buffer: &mut [i32],
+) -> DecorrPass
+    ensures { λ r. ⌜
+        record { pass = r; buffer = now (buffer .exit) }
+        ≡ run (turn direction (crossTerm second)) start 0 (now (buffer .entry))
+        ⌝ }
 {
     let delta = start.delta;
     let mut history_a = start.history_a;
@@ -137,13 +147,11 @@ pub fn run_cross(direction: Direction, second: bool, start: DecorrPass, buffer: 
 }
 
 // Term -3: each channel from the last sample of the other.
-pub fn run_swap(direction: Direction, start: DecorrPass, buffer: &mut [i32]) -> DecorrPass
-    ensures {
-        λ r. ⌜
-            record { pass = r; buffer = now (buffer .exit) }
-                ≡ run (turn direction MinusThree) start 0 (now (buffer .entry))
-        ⌝
-    }
+pub(crate) fn run_swap(direction: Direction, start: DecorrPass, buffer: &mut [i32]) -> DecorrPass
+    ensures { λ r. ⌜
+        record { pass = r; buffer = now (buffer .exit) }
+        ≡ run (turn direction MinusThree) start 0 (now (buffer .entry))
+        ⌝ }
 {
     let delta = start.delta;
     let mut history_a = start.history_a;

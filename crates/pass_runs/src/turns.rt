@@ -13,7 +13,13 @@ pub struct Turned {
 }
 
 // One channel's step for a term that does not clip, at the buffer's element x.
-pub fn turn_plain(direction: Direction, weight: i32, delta: i32, source: i32, x: i32) -> Turned
+pub(crate) fn turn_plain(
+    direction: Direction,
+    weight: i32,
+    delta: i32,
+    source: i32,
+    x: i32,
+) -> Turned
     ensures { λ r. ⌜ r ≡ turned direction false weight delta source x ⌝ }
 {
     match direction {
@@ -37,7 +43,13 @@ pub fn turn_plain(direction: Direction, weight: i32, delta: i32, source: i32, x:
 }
 
 // One channel's step for a cross term, at the buffer's element x.
-pub fn turn_clip(direction: Direction, weight: i32, delta: i32, source: i32, x: i32) -> Turned
+pub(crate) fn turn_clip(
+    direction: Direction,
+    weight: i32,
+    delta: i32,
+    source: i32,
+    x: i32,
+) -> Turned
     ensures { λ r. ⌜ r ≡ turned direction true weight delta source x ⌝ }
 {
     match direction {
@@ -61,7 +73,7 @@ pub fn turn_clip(direction: Direction, weight: i32, delta: i32, source: i32, x: 
 }
 
 // The source of term 18, or of 17.
-pub fn two_source(eighteen: bool, last: i32, before: i32) -> i32
+pub(crate) fn two_source(eighteen: bool, last: i32, before: i32) -> i32
     ensures { λ r. ⌜ r ≡ twoSource eighteen last before ⌝ }
 {
     if eighteen {
@@ -72,14 +84,14 @@ pub fn two_source(eighteen: bool, last: i32, before: i32) -> i32
 }
 
 // y where `second` is set, else x.
-pub fn either(second: bool, x: i32, y: i32) -> i32
+pub(crate) fn either(second: bool, x: i32, y: i32) -> i32
     ensures { λ r. ⌜ r ≡ cond second y x ⌝ }
 {
     if second { y } else { x }
 }
 
 // A pass with other weights and histories.
-pub fn with_state(
+pub(crate) fn with_state(
     pass: DecorrPass,
     weight_a: i32,
     weight_b: i32,

@@ -1,5 +1,5 @@
--- Passes and their slots: the term of a slot, one pass and its 20 slots, lists of passes pass by pass.
--- Assumes nothing.
+-- Passes and their slots: the term of a slot, one pass and its 20 slots, lists of passes pass by
+-- pass. Assumes nothing.
 use mathlib.Core.Path.{_≡_, refl, sym, ap, _∙_}
 use mathlib.Core.Bool.{true, false}
 use mathlib.Core.List.{List, [], _∷_, _++_, append-assoc, append-nil}
@@ -14,7 +14,7 @@ use mir.Val.{SFits}
 use borrow.Author.Tests.{ltb-true, ltb-false, le-leb, lt-leb}
 use Rattle.passes.specs.declared.DecorrPass.{DecorrPass}
 use Rattle.overlay.specs.Overlay.{overlay}
-use Rattle.overlay.proofs.OverlayLaws.{overlay-none, overlay-on, overlay-whole}
+use Rattle.overlay.proofs.OverlayLaws.{overlay-none, overlay-length, overlay-on, overlay-whole}
 use Rattle.pass_slots.specs.PassSlots.{slotTerm, passOf, slotsOf, passesOf, listSlots}
 
 -- ---- the term of a slot
@@ -57,6 +57,10 @@ pub pass-held : (s h g : List ℤ) (t : ℤ) (a b : List ℤ) → 20 ≤ length 
     → record { term = t; delta = getD s 1 (pos 0); «weight_a» = getD s 2 (pos 0); «weight_b» = getD s 3 (pos 0); «history_a» = a; «history_b» = b } ≡ passOf s
 unfolding passOf
 pass-held s h g t a b long i j e f k = rw (e, f, k, history-held s h 4 (omega arith) i, history-held s g 12 (omega arith) j)
+
+-- four numbers laid into 20 slots leave 20
+pub head-laid : (none head first : List ℤ) → first ≡ overlay none 0 head → length none ≡ 20 → length head ≡ 4 → length first ≡ 20
+head-laid none head first e n h = ap length e ∙ overlay-length none 0 head (omega arith) ∙ n
 
 -- the 20 slots of a pass: four numbers, then the two histories
 pub twenty : (p : DecorrPass) (head none first second third : List ℤ) → first ≡ overlay none 0 head → second ≡ overlay first 4 (p .«history_a») → third ≡ overlay second 12 (p .«history_b») → length none ≡ 20

@@ -1,5 +1,6 @@
--- A pass as 20 slots, a list of passes as 20 slots each: what pass making answers and lays into slots, and what decorrelation and
--- analysis answer and leave in the lent lists, on refusal too. Assumes nothing.
+-- A pass as 20 slots, a list of passes as 20 slots each: what pass making answers and lays into
+-- slots, and what decorrelation and analysis answer and leave in the lent lists, on refusal too.
+-- Assumes nothing.
 use Prim.Native.Nat.{ℕ, zero, suc, _/_, _%_}
 use mathlib.Core.Bool.{cond}
 use mathlib.Core.List.{List, [], _∷_, _++_}
@@ -17,7 +18,8 @@ abbrev pub slotTerm : ℤ → ℤ
 slotTerm (pos n) = cond (leb n 127) (pos n) (pos 0)
 slotTerm (negsuc n) = cond (leb n 127) (negsuc n) (pos 0)
 
--- the pass that the first 20 slots hold: term, delta, weight of A, weight of B, history of A (8), history of B (8)
+-- the pass that the first 20 slots hold: term, delta, weight of A, weight of B, history of A (8),
+-- history of B (8)
 unfoldable pub passOf : List ℤ → DecorrPass
 passOf slots =
     record {
@@ -63,9 +65,15 @@ pub record PassesLeft : Type 0 where
 
 -- what an entry leaves, its passes as slots: on refusal the slots that there were
 abbrev pub leavePasses : List ℤ → Answer → PassesLeft
-leavePasses slots a = record { refusal = a .refusal; passes = unlessRefused (a .refusal) (λ n. slots) (listSlots (a .passes)); buffer = a .buffer }
+leavePasses slots a =
+    record {
+      refusal = a .refusal;
+      passes = unlessRefused (a .refusal) (λ n. slots) (listSlots (a .passes));
+      buffer = a .buffer;
+    }
 
--- an entry over the passes of 20 slots each; other lengths are refused with 6, and both lists are as they were
+-- an entry over the passes of 20 slots each; other lengths are refused with 6, and both lists are
+-- as they were
 unfoldable pub passesCall : (List DecorrPass → List ℤ → Answer) → List ℤ → List ℤ → PassesLeft
 passesCall entry slots buffer =
     cond (eqb (length slots % 20) 0)

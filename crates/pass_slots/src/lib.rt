@@ -1,5 +1,6 @@
-// Passes in lists of slots, 20 to a pass: what the C interface's callers hold. The passes of a list are taken into an array
-// for a call, since a list of numbers is no list of passes, and laid back where the call was accepted.
+// Passes in lists of slots, 20 to a pass: what the C interface's callers hold. The passes of a list
+// are taken into an array for a call, since a list of numbers is no list of passes, and laid back
+// where the call was accepted.
 use answers::Outcome;
 use answers::Refusal;
 use answers::limits::MAX_PASSES;
@@ -105,7 +106,8 @@ fn lay_passes(passes: [DecorrPass; MAX_PASSES], count: usize, slots: &mut [i32])
     }
 }
 
-// A pass made from its parts, into 20 slots. Refuses 6, then 7 and 8 as pass making does, with nothing written.
+// A pass made from its parts, into 20 slots. Refuses 6, then 7 and 8 as pass making does, with
+// nothing written.
 pub fn make_pass(
     term: i8,
     delta: i32,
@@ -115,17 +117,13 @@ pub fn make_pass(
     seed_b: &[i32],
     pass: &mut [i32],
 ) -> u32
-    ensures answer {
-        λ r. ⌜ r ≡ passAnswer term (now («seed_a» .entry)) (now («seed_b» .entry)) (now (pass .entry)) ⌝
-    }
-    ensures pass {
-        λ r. ⌜
-            now (pass .exit)
-                ≡ leaveValues r
-                    (passValues term delta «weight_a» «weight_b» (now («seed_a» .entry)) (now («seed_b» .entry)))
-                    (now (pass .entry))
-        ⌝
-    }
+    ensures answer { λ r. ⌜ r ≡ passAnswer term (now («seed_a» .entry)) (now («seed_b» .entry)) (now (pass .entry)) ⌝ }
+    ensures pass { λ r. ⌜
+        now (pass .exit)
+        ≡ leaveValues r
+        (passValues term delta «weight_a» «weight_b» (now («seed_a» .entry)) (now («seed_b» .entry)))
+        (now (pass .entry))
+        ⌝ }
 {
     if pass.len() < 20 {
         return number(Refusal::ListLength);
@@ -141,15 +139,13 @@ pub fn make_pass(
     0
 }
 
-// Decorrelation or analysis by passes of 20 slots each, which then hold the passes after. Refuses 6 for a length that is no
-// multiple of 20, then as the entry does; both lists are then as they were.
+// Decorrelation or analysis by passes of 20 slots each, which then hold the passes after. Refuses 6
+// for a length that is no multiple of 20, then as the entry does; both lists are then as they were.
 pub fn run_slots(direction: Direction, passes: &mut [i32], buffer: &mut [i32]) -> u32
-    ensures {
-        λ r. ⌜
-            record { refusal = r; passes = now (passes .exit); buffer = now (buffer .exit) }
-                ≡ passesCall (listed direction) (now (passes .entry)) (now (buffer .entry))
-        ⌝
-    }
+    ensures { λ r. ⌜
+        record { refusal = r; passes = now (passes .exit); buffer = now (buffer .exit) }
+        ≡ passesCall (listed direction) (now (passes .entry)) (now (buffer .entry))
+        ⌝ }
 {
     let slots = passes.len();
     if slots % 20 != 0 {

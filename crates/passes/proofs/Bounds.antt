@@ -1,5 +1,6 @@
--- "A cross weight that starts within ±1024, with delta 0 to 7, stays there" (P9): through a step, a pass and a list, in
--- decorrelation and in analysis. One update is `clip-stays` of `weights`. Assumes nothing.
+-- "A cross weight that starts within ±1024, with delta 0 to 7, stays there" (P9): through a step, a
+-- pass and a list, in decorrelation and in analysis. One update is `clip-stays` of `weights`.
+-- Assumes nothing.
 use mathlib.Core.Path.{_≡_, refl, _∙_}
 use mathlib.Core.Bool.{true}
 use mathlib.Core.List.{List, [], _∷_}

@@ -1,3 +1,4 @@
+-- What the proofs of the functions and other crates cite.
 pub mod TermLaws
 pub mod SeedLaws
 pub mod MakingLaws

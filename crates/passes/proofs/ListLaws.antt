@@ -1,5 +1,5 @@
--- A list of passes by turns, as a loop over a lent list leaves it: one pass is run and its state stored, forwards in
--- decorrelation and backwards in analysis. Assumes nothing.
+-- A list of passes by turns, as a loop over a lent list leaves it: one pass is run and its state
+-- stored, forwards in decorrelation and backwards in analysis. Assumes nothing.
 use mathlib.Core.Path.{_≡_, refl, ap}
 use mathlib.Core.List.{List, [], _∷_, _++_}
 use Prim.Native.Nat.{ℕ, zero, suc, _<_, _≤_}

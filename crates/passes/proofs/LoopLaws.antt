@@ -1,4 +1,5 @@
--- A pass by turns, as a loop over the buffer makes it: what is done stands before what is left. Assumes nothing.
+-- A pass by turns, as a loop over the buffer makes it: what is done stands before what is left.
+-- Assumes nothing.
 use mathlib.Core.Path.{_≡_, refl, ap}
 use mathlib.Core.List.{List, [], _∷_, _++_}
 use Prim.Native.Nat.{ℕ, zero, suc, _<_, _≤_}

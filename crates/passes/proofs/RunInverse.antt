@@ -1,5 +1,5 @@
--- Analysis and decorrelation undo one another, a pass and a list of passes at a time, with equal pass states, whatever the
--- passes hold (P12). Assumes nothing.
+-- Analysis and decorrelation undo one another, a pass and a list of passes at a time, with equal
+-- pass states, whatever the passes hold (P12). Assumes nothing.
 use mathlib.Core.Path.{_≡_, refl, ap, _∙_}
 use mathlib.Core.List.{List, [], _∷_}
 use Prim.Native.Nat.{ℕ, suc}
@@ -86,7 +86,8 @@ pub decorrelated-analysed : (ps : List DecorrPass) (l : List ℤ) → Fit l → 
 decorrelated-analysed [] l h = refl
 decorrelated-analysed (p ∷ ps) l h = rw (decorrelates-back p (analysed ps l .buffer) (analysed-fit ps l h), decorrelated-analysed ps l h)
 
--- analysing what decorrelation left returns the residuals, and leaves the passes that decorrelation left
+-- analysing what decorrelation left returns the residuals, and leaves the passes that decorrelation
+-- left
 pub analysed-decorrelated : (ps : List DecorrPass) (l : List ℤ) → Fit l → analysed ps (decorrelated ps l .buffer) ≡ record { passes = decorrelated ps l .passes; buffer = l }
 analysed-decorrelated [] l h = refl
 analysed-decorrelated (p ∷ ps) l h = rw (analysed-decorrelated ps (passed Decorrelation p l .buffer) (passed-fit Decorrelation p l h), analyses-back p l h)

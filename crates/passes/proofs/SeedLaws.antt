@@ -1,4 +1,5 @@
--- The laws of seeds: what stands in each slot of a seeded history, and what an answer about a seed tells. Assumes nothing.
+-- The laws of seeds: what stands in each slot of a seeded history, and what an answer about a seed
+-- tells. Assumes nothing.
 use mathlib.Core.Path.{_≡_, refl, sym, ap, _∙_}
 use mathlib.Core.Bool.{Bool, true, false, cond, _&&_, _||_}
 use mathlib.Core.List.{List, [], _∷_, _++_, reverse, reverse-append}

@@ -1,4 +1,5 @@
--- A step of analysis and a step of decorrelation undo one another, for every term (P12). Assumes nothing.
+-- A step of analysis and a step of decorrelation undo one another, for every term (P12). Assumes
+-- nothing.
 use mathlib.Core.Path.{_≡_, refl}
 use mathlib.Core.Bool.{Bool, true, false}
 use Prim.Native.Nat.{ℕ}
@@ -43,7 +44,8 @@ module _ (t : Term) (r : Rule) (p : DecorrPass) (x y : ℤ) (hx : SFits w32 x) (
   b-first-back h =
       rw (h (stepped true x y .a), residual-sample (p .«weight_b») (r .sourceB (pos 0)) y hy, residual-sample (p .«weight_a») (r .sourceA (stepped true x y .b)) x hx)
 
--- analysing a frame, then decorrelating it, returns its samples and leaves the pass that analysis left
+-- analysing a frame, then decorrelating it, returns its samples and leaves the pass that analysis
+-- left
 pub step-unstep : (t : Term) → Undoes (step t) (unstep t)
 unfolding Undoes step unstep
 step-unstep (Lag t) p m x y hx hy = a-first (Lag t) (ruleOf (Lag t) p m) p x y hx hy (λ z. refl)
@@ -54,7 +56,8 @@ step-unstep MinusTwo p m x y hx hy = b-first MinusTwo (ruleOf MinusTwo p m) p x 
 step-unstep MinusThree p m x y hx hy = a-first MinusThree (ruleOf MinusThree p m) p x y hx hy (λ z. refl)
 step-unstep Invalid p m x y hx hy = a-first Invalid (ruleOf Invalid p m) p x y hx hy (λ z. refl)
 
--- decorrelating a frame, then analysing it, returns its residuals and leaves the pass that decorrelation left
+-- decorrelating a frame, then analysing it, returns its residuals and leaves the pass that
+-- decorrelation left
 pub unstep-step : (t : Term) → Undoes (unstep t) (step t)
 unfolding Undoes step unstep
 unstep-step (Lag t) p m x y hx hy = a-first-back (Lag t) (ruleOf (Lag t) p m) p x y hx hy (λ z. refl)

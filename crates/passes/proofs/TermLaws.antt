@@ -1,4 +1,5 @@
--- The laws of terms: from the bits of a number to its term, as the code's `match` finds it. Assumes nothing.
+-- The laws of terms: from the bits of a number to its term, as the code's `match` finds it. Assumes
+-- nothing.
 use mathlib.Core.Path.{_≡_, refl, sym, ap, _∙_}
 use Prim.Native.Nat.{ℕ, zero, suc, _<_, _≤_}
 use native.Mathlib.Omega.{arith}

@@ -1,5 +1,6 @@
--- Every recording has exactly one residual list under given passes, and analysis finds it (D3.1, D3.2, D3.3). The passes are any,
--- whatever their weights, deltas and histories hold. Assumes nothing.
+-- Every recording has exactly one residual list under given passes, and analysis finds it (D3.1,
+-- D3.2, D3.3). The passes are any, whatever their weights, deltas and histories hold. Assumes
+-- nothing.
 use mathlib.Core.Path.{_≡_, sym, ap, _∙_}
 use mathlib.Core.List.{List}
 use Prim.Native.Nat.{ℕ}
@@ -35,7 +36,8 @@ residuals-unique ps r s hr hs e =
     sym (ap (λ (c : Chain). c .buffer) (analysed-decorrelated ps r hr)) ∙ ap (λ (l : List ℤ). analysed ps l .buffer) e
     ∙ ap (λ (c : Chain). c .buffer) (analysed-decorrelated ps s hs)
 
--- "A residual list decorrelates to a recording when decorrelation, given the list as the buffer, leaves that recording there" (M3)
+-- "A residual list decorrelates to a recording when decorrelation, given the list as the buffer,
+-- leaves that recording there" (M3)
 abbrev pub DecorrelatesTo : List DecorrPass → List ℤ → List ℤ → Type 0
 DecorrelatesTo ps r x = decorrelated ps r .buffer ≡ x
 

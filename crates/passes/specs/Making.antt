@@ -1,4 +1,5 @@
--- Document 01, "Passes": the making of a pass from its seeds, and why it is refused. Assumes nothing.
+-- Document 01, "Passes": the making of a pass from its seeds, and why it is refused. Assumes
+-- nothing.
 use mathlib.Core.Bool.{Bool, true, false, cond, _&&_, _||_}
 use mathlib.Core.List.{List, _++_, reverse}
 use Prim.Native.Nat.{ℕ, _-_}
@@ -36,8 +37,8 @@ padded l = l ++ replicate (8 - length l) (pos 0)
 unfoldable pub seeded : Term → List ℤ → List ℤ
 seeded t seed = padded (ordered (isLag t) (take (seedCount t) seed))
 
--- a seed is too short where it is needed and has fewer samples than the term takes. An empty one is not needed, "except that a
--- cross term with an A seed needs a B seed" (P5)
+-- a seed is too short where it is needed and has fewer samples than the term takes. An empty one is
+-- not needed, "except that a cross term with an A seed needs a B seed" (P5)
 abbrev pub tooShort : Bool → ℕ → ℕ → Bool
 tooShort needed count len = (needed || ltb 0 len) && ltb len count
 

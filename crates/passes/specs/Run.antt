@@ -1,4 +1,5 @@
--- Document 01, "Passes": a pass over a whole buffer, and a list of passes, one after the other. Assumes nothing.
+-- Document 01, "Passes": a pass over a whole buffer, and a list of passes, one after the other.
+-- Assumes nothing.
 use mathlib.Core.List.{List, [], _∷_}
 use Prim.Native.Nat.{ℕ, suc}
 use lib.IntN.{ℤ}
@@ -11,7 +12,8 @@ use Rattle.passes.specs.declared.Direction.{Direction}
 use Rattle.passes.specs.declared.Direction.the-variants.{Decorrelation, Analysis}
 use Rattle.passes.specs.declared.Term.{Term}
 
--- document 01, "The words of demand 3" (M1): a list of 32-bit numbers, as a recording or a residual list is
+-- document 01, "The words of demand 3" (M1): a list of 32-bit numbers, as a recording or a residual
+-- list is
 abbrev pub Fit : List ℤ → Type 0
 Fit [] = Unit {0}
 Fit (x ∷ l) = SFits w32 x × Fit l

@@ -1,5 +1,6 @@
--- Document 01, "Passes": one step of a pass, over a frame's two numbers, and its inverse. "Sources, weights, order and the
--- history index follow the match in `decorrelate_stereo`" (P8): that match is `ruleOf`, the only one. Assumes nothing.
+-- Document 01, "Passes": one step of a pass, over a frame's two numbers, and its inverse. "Sources,
+-- weights, order and the history index follow the match in `decorrelate_stereo`" (P8): that match
+-- is `ruleOf`, the only one. Assumes nothing.
 use mathlib.Core.Bool.{Bool, true, false}
 use mathlib.Core.List.{List}
 use Prim.Native.Nat.{ℕ, _+_, _%_}
@@ -53,8 +54,8 @@ twoRule source p =
       historyB = λ a b. shifted (p .«history_b») b;
     }
 
--- the rule of a term, for a pass and its history index. So that there is one for every number, a term that is not valid is
--- treated as a lag of 0: no entry runs one
+-- the rule of a term, for a pass and its history index. So that there is one for every number, a
+-- term that is not valid is treated as a lag of 0: no entry runs one
 abbrev pub ruleOf : Term → DecorrPass → ℕ → Rule
 ruleOf (Lag t) p m = lagRule t p m
 ruleOf Seventeen p m = twoRule source17 p
@@ -90,7 +91,8 @@ abbrev pub weighed : Bool → ℤ → ℤ → ℤ → ℤ → ℤ
 weighed true weight delta source res = updatedClip weight delta source res
 weighed false weight delta source res = updated weight delta source res
 
--- the pass after a step, whose samples are a and b and residuals ra and rb: the same for decorrelation and analysis
+-- the pass after a step, whose samples are a and b and residuals ra and rb: the same for
+-- decorrelation and analysis
 unfoldable pub advanced : Term → Rule → DecorrPass → ℤ → ℤ → ℤ → ℤ → DecorrPass
 advanced t r p a b ra rb =
     record {
@@ -107,7 +109,8 @@ pub record Pair : Type 0 where
   pub a : ℤ
   pub b : ℤ
 
--- the samples that two residuals stand for: the channel that is made first does not look at the other
+-- the samples that two residuals stand for: the channel that is made first does not look at the
+-- other
 abbrev pub samplesBy : Bool → Rule → DecorrPass → ℤ → ℤ → Pair
 samplesBy false r p ra rb =
     let a = sample (p .«weight_a») (r .sourceA (pos 0)) ra in

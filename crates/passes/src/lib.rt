@@ -1,5 +1,6 @@
-// Implements document 01, "Passes": what a pass is, how it is made from its seeds, and what its term stands for. The
-// definitions of a step, a pass over a buffer and a list of passes stand in specs/, with their theorems in proofs/.
+// Implements document 01, "Passes": what a pass is, how it is made from its seeds, and what its
+// term stands for. The definitions of a step, a pass over a buffer and a list of passes stand in
+// specs/, with their theorems in proofs/.
 ghost use mathlib.Core.Path.{_≡_};
 ghost use Prim.Native.Nat.{_<_, _≤_};
 ghost use lib.IntN.{pos};
@@ -134,7 +135,8 @@ fn seed_count(t: Term) -> usize
     }
 }
 
-// Whether a seed of `len` samples has the `count` that its term takes; an empty one that is not needed has.
+// Whether a seed of `len` samples has the `count` that its term takes; an empty one that is not
+// needed has.
 fn seed_length(needed: bool, count: usize, len: usize) -> SeedLength
     ensures { λ r. ⌜ r ≡ seedLength needed count len ⌝ }
 {
@@ -193,8 +195,8 @@ fn refused(refusal: Refusal) -> PassAnswer
 }
 
 impl DecorrPass {
-    // A pass with its histories seeded. Refuses an invalid term (7), then an A seed and then a B seed that is too short (8). Any
-    // weights and any delta are taken.
+    // A pass with its histories seeded. Refuses an invalid term (7), then an A seed and then a B
+    // seed that is too short (8). Any weights and any delta are taken.
     pub fn new(
         term: i8,
         delta: i32,
@@ -203,7 +205,10 @@ impl DecorrPass {
         seed_a: &[i32],
         seed_b: &[i32],
     ) -> PassAnswer
-        ensures { λ r. ⌜ record { refusal = outcomeNumber (r .outcome); pass = r .pass } ≡ made term delta «weight_a» «weight_b» (now («seed_a» .entry)) (now («seed_b» .entry)) ⌝ }
+        ensures { λ r. ⌜
+            record { refusal = outcomeNumber (r .outcome); pass = r .pass }
+            ≡ made term delta «weight_a» «weight_b» (now («seed_a» .entry)) (now («seed_b» .entry))
+            ⌝ }
     {
         let t = term_of(term);
         if !is_valid(t) {

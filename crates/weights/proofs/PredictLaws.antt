@@ -1,4 +1,5 @@
--- The laws of a prediction: it is worked out within 64 bits, and sample and residual undo one another. Assumes nothing.
+-- The laws of a prediction: it is worked out within 64 bits, and sample and residual undo one
+-- another. Assumes nothing.
 use mathlib.Core.Path.{_≡_}
 use native.Mathlib.Omega.{arith}
 use lib.IntN.{ℤ, pos, _+ℤ_, _*ℤ_}

@@ -1,4 +1,5 @@
--- The laws of choices by signs: by the code's tests, by the sign of a product, by one sign after the other. Assumes nothing.
+-- The laws of choices by signs: by the code's tests, by the sign of a product, by one sign after
+-- the other. Assumes nothing.
 use mathlib.Core.Path.{_≡_, refl}
 use mathlib.Core.Bool.{true, false}
 use Prim.Native.Nat.{zero, suc}

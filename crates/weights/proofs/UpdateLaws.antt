@@ -1,4 +1,5 @@
--- The laws of the weight updates: what the calls of the code leave is what the definitions say. Assumes nothing.
+-- The laws of the weight updates: what the calls of the code leave is what the definitions say.
+-- Assumes nothing.
 use mathlib.Core.Path.{_≡_, refl, ap}
 use Prim.Native.Nat.{zero, suc}
 use native.Mathlib.Omega.{arith}

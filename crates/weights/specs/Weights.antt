@@ -1,5 +1,5 @@
--- Document 01, "Passes": the prediction, the sample, and what a step makes of a weight. Numbers are whole numbers of any
--- size; what is kept to 32 bits says so. Assumes nothing.
+-- Document 01, "Passes": the prediction, the sample, and what a step makes of a weight. Numbers are
+-- whole numbers of any size; what is kept to 32 bits says so. Assumes nothing.
 use mathlib.Core.Bool.{cond}
 use Prim.Native.Nat.{zero, suc}
 use lib.IntN.{ℤ, pos, negsuc, negℤ, _+ℤ_, _-ℤ_, _*ℤ_}
@@ -18,7 +18,8 @@ sample weight source res = wrap32 (predict weight source +ℤ res)
 unfoldable pub residual : ℤ → ℤ → ℤ → ℤ
 residual weight source x = wrap32 (x -ℤ predict weight source)
 
--- the source of term 17, from the last sample and the one before it: the products by 2 and 3 wrap (P7, P8)
+-- the source of term 17, from the last sample and the one before it: the products by 2 and 3 wrap
+-- (P7, P8)
 unfoldable pub source17 : ℤ → ℤ → ℤ
 source17 last before = wrap32 (wrap32 (last *ℤ pos 2) -ℤ before)
 
@@ -32,7 +33,8 @@ pub data Way : Type 0 where
   up : Way
   down : Way
 
--- not at all where the source or the residual is 0, up where their signs agree, down where they differ (P8)
+-- not at all where the source or the residual is 0, up where their signs agree, down where they
+-- differ (P8)
 abbrev pub wayOf : ℤ → ℤ → Way
 wayOf (pos zero) r = Way.still
 wayOf (pos (suc s)) (pos zero) = Way.still
@@ -52,8 +54,8 @@ moved Way.down weight delta = wrap32 (weight -ℤ delta)
 unfoldable pub atMost1024 : ℤ → ℤ
 atMost1024 x = cond (ltZ (pos 1024) x) (pos 1024) x
 
--- a cross weight: it is cut at 1024 where it grows, and its negation is where it falls (P9). For weights and deltas of any
--- size this is not a cut to -1024 and 1024
+-- a cross weight: it is cut at 1024 where it grows, and its negation is where it falls (P9). For
+-- weights and deltas of any size this is not a cut to -1024 and 1024
 abbrev pub movedClip : Way → ℤ → ℤ → ℤ
 movedClip Way.still weight delta = weight
 movedClip Way.up weight delta = atMost1024 (wrap32 (weight +ℤ delta))

@@ -1,8 +1,10 @@
-// Implements document 01, "Passes": the prediction, the sample or residual that goes with it, and the two weight updates.
+// Implements document 01, "Passes": the prediction, the sample or residual that goes with it, and
+// the two weight updates.
 //
-// No update branches on a sign. Whether a weight grows or falls is as good as random, so a branch on it costs more than
-// working out both outcomes and picking one: `by_sign` is the only test of a sign, and its arms hold names alone. The number
-// that is ready last is tested last: the source in decorrelation, the residual in analysis.
+// No update branches on a sign. Whether a weight grows or falls is as good as random, so a branch
+// on it costs more than working out both outcomes and picking one: `by_sign` is the only test of a
+// sign, and its arms hold names alone. The number that is ready last is tested last: the source in
+// decorrelation, the residual in analysis.
 ghost use mathlib.Core.Path.{_≡_};
 ghost use Rattle.weights.specs.Weights.{predict, sample, residual, source17, source18, atMost1024, Way, wayOf, movedClip, updated, updatedClip};
 ghost use Rattle.weights.specs.Sign.{bySign, chosen};
@@ -54,7 +56,8 @@ fn by_sign(x: i64, up: i32, down: i32, still: i32) -> i32
     }
 }
 
-// `up` where the signs of x and y agree, `down` where they differ, `still` where one is 0: by the sign of the product.
+// `up` where the signs of x and y agree, `down` where they differ, `still` where one is 0: by the
+// sign of the product.
 fn by_product(x: i32, y: i32, up: i32, down: i32, still: i32) -> i32
     ensures { λ r. ⌜ r ≡ chosen (wayOf x y) up down still ⌝ }
 {

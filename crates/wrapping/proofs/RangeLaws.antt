@@ -1,4 +1,5 @@
--- Sums, differences and products of 32-bit numbers fit 64 bits, and so does what a right shift leaves. Assumes nothing.
+-- Sums, differences and products of 32-bit numbers fit 64 bits, and so does what a right shift
+-- leaves. Assumes nothing.
 use mathlib.Core.Path.{_≡_, refl}
 use Prim.Native.Nat.{ℕ, zero, suc, _+_, _*_, _≤_}
 use native.Mathlib.Omega.{arith}

@@ -1,5 +1,5 @@
--- What the code's casts and calls leave: a signed number that is passed, returned or cast is read back from its bits.
--- Assumes nothing.
+-- What the code's casts and calls leave: a signed number that is passed, returned or cast is read
+-- back from its bits. Assumes nothing.
 use mathlib.Core.Path.{_≡_}
 use Prim.Native.Nat.{ℕ, _-_, _<_}
 use native.Mathlib.Omega.{arith}

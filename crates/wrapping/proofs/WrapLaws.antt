@@ -1,5 +1,5 @@
--- The laws of numbers kept to 32 bits: which numbers they are, and that wrapping sums and differences undo one another.
--- Assumes nothing.
+-- The laws of numbers kept to 32 bits: which numbers they are, and that wrapping sums and
+-- differences undo one another. Assumes nothing.
 use mathlib.Core.Path.{_≡_, refl, ap, _∙_}
 use mathlib.Core.Bool.{Bool, true, false, not, cond}
 use Prim.Native.Nat.{ℕ, zero, suc, _+_, _-_, _%_, _<_, _≤_}

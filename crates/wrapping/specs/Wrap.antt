@@ -1,4 +1,5 @@
--- Document 01, "Passes": signed arithmetic "kept to 32 bits" (P6, P7), on whole numbers of any size. Assumes nothing.
+-- Document 01, "Passes": signed arithmetic "kept to 32 bits" (P6, P7), on whole numbers of any
+-- size. Assumes nothing.
 use Prim.Native.Nat.{ℕ, _-_, _%_, _/_}
 use lib.IntN.{ℤ, pos, negsuc}
 use mir.Syntax.{w32}

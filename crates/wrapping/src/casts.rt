@@ -1,5 +1,5 @@
-// Widening of unsigned numbers. In the middle of an expression `x as u64` asks for a proof that x fits where it stands; a call
-// asks for nothing, and tells that the number is the same.
+// Widening of unsigned numbers. In the middle of an expression `x as u64` asks for a proof that x
+// fits where it stands; a call asks for nothing, and tells that the number is the same.
 ghost use mathlib.Core.Path.{_≡_};
 ghost use Prim.Native.Nat.{_≤_};
 

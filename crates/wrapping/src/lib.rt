@@ -1,14 +1,15 @@
-// Implements the 32-bit arithmetic of document 01, "Passes": sums, differences and products that wrap at 32 bits, and the
-// right shift. Each function is worked out exactly, in 64 bits, and then kept to 32 bits by `narrow`: so one function wraps,
-// and the machine code is that of the plain 32-bit operation. None has a requirement: all inputs are taken.
+// Implements the 32-bit arithmetic of document 01, "Passes": sums, differences and products that
+// wrap at 32 bits, and the right shift. Each function is worked out exactly, in 64 bits, and then
+// kept to 32 bits by `narrow`: so one function wraps, and the machine code is that of the plain
+// 32-bit operation. None has a requirement: all inputs are taken.
 ghost use mathlib.Core.Path.{_≡_};
 ghost use lib.IntN.{ℤ, pos, negℤ, _+ℤ_, _-ℤ_, _*ℤ_};
 ghost use Rattle.wrapping.specs.Wrap.{wrap32, floorDiv};
 
 pub mod casts;
 
-// A 64-bit number kept to 32 bits. The test is one of unsigned numbers; the two complements turn the pattern of a
-// negative number into that number.
+// A 64-bit number kept to 32 bits. The test is one of unsigned numbers; the two complements turn
+// the pattern of a negative number into that number.
 pub fn narrow(x: i64) -> i32
     ensures { λ r. ⌜ r ≡ wrap32 x ⌝ }
 {

@@ -1,5 +1,5 @@
--- `pass_slots::lay_passes` meets its contract. The loop's invariant: the list has its length, and the first i passes are laid. The measure is what is left of the count.
--- Assumes nothing.
+-- `pass_slots::lay_passes` meets its contract. The loop's invariant: the list has its length, and
+-- the first i passes are laid. The measure is what is left of the count. Assumes nothing.
 use mathlib.Core.Path.{_≡_, refl, ap, _∙_}
 use Prim.Native.Nat.{_+_, _*_, _-_, _≤_, _<_}
 use native.Mathlib.Numerals.{add-one}
@@ -20,32 +20,11 @@ abbrev μ-loop : tie.MeasureT-loop
 loop-holds : tie.Need-loop-holds Inv-loop μ-loop
 loop-holds c = (omega arith, refl, laying-none (c .args .t1) (c .args .slots .now))
 
-mul-at : tie.Need-mul-at Inv-loop μ-loop
-mul-at c = search needs
-
-mul-p : tie.Need-mul-p Inv-loop μ-loop
-mul-p c = search needs
-
-array-copy-out-p : tie.Need-array-copy-out-p Inv-loop μ-loop
-array-copy-out-p c = search needs
-
-pass-slots-requires : tie.Need-pass-slots-requires Inv-loop μ-loop
-pass-slots-requires c κs = search needs
-
-slice-aggregate-lay : tie.Need-slice-aggregate-lay Inv-loop μ-loop
-slice-aggregate-lay c = search needs
-
 lay-requires : tie.Need-lay-requires Inv-loop μ-loop
 lay-requires c κs =
     let t = c .before .before .before .before .before .loop in
     let n : length (c .before .before .pass-slots .result) ≡ 20 = search needs in
     omega (arith, n, c .before .before .before .before .before .before .pre .1, t .inv .1)
-
-add-i : tie.Need-add-i Inv-loop μ-loop
-add-i c = search needs
-
-loop-less : tie.Need-loop-less Inv-loop μ-loop
-loop-less c = omega arith
 
 loop-again : tie.Need-loop-again Inv-loop μ-loop
 loop-again c =
@@ -76,14 +55,14 @@ lay-passes-spec =
     Inv-loop
     μ-loop
     loop-holds
-    mul-at
-    mul-p
-    array-copy-out-p
-    pass-slots-requires
-    slice-aggregate-lay
+    (λ c. search needs)
+    (λ c. search needs)
+    (λ c. search needs)
+    (λ c κs. search needs)
+    (λ c. search needs)
     lay-requires
-    add-i
-    loop-less
+    (λ c. search needs)
+    (λ c. omega arith)
     loop-again
     same-length
     returns)

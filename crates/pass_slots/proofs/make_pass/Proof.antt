@@ -10,25 +10,13 @@ use borrow.Author.Needs.{needs}
 use Rattle.pass_slots.proofs.make_pass.Statement.{statement}
 use Rattle.pass_slots.proofs.make_pass.Tie as tie
 
-number-requires : tie.Need-number-requires
-number-requires c κs = search needs
-
 returns : tie.Need-returns
 returns c =
     let a = c .before .before .args in
     pass-short (a .term) (a .delta) (a .weight-a) (a .weight-b) (a .seed-a .now) (a .seed-b .now) (a .pass .now) _ (c .number .ensures) (c .before .if1 .taken)
 
-new-requires : tie.Need-new-requires
-new-requires c κs = search needs
-
 enum-told : tie.Need-enum-told
 enum-told c = search needs
-
-enum-told-2 : tie.Need-enum-told-2
-enum-told-2 c = search needs
-
-outcome-number-requires : tie.Need-outcome-number-requires
-outcome-number-requires c κs = search needs
 
 returns-2 : tie.Need-returns-2
 returns-2 c =
@@ -38,18 +26,6 @@ returns-2 c =
     let told : record { refusal = outcomeNumber (x .result .outcome); pass = x .result .pass } ≡ made (a .term) (a .delta) (a .weight-a) (a .weight-b) (a .seed-a .now) (a .seed-b .now) =
     rw (toZ-ofZ w8 (a .term) (f .term), toZ-ofZ w32 (a .delta) (f .delta), toZ-ofZ w32 (a .weight-a) (f .weight-a), toZ-ofZ w32 (a .weight-b) (f .weight-b)) at (x .ensures) in
     pass-refused (a .term) (a .delta) (a .weight-a) (a .weight-b) (a .seed-a .now) (a .seed-b .now) (a .pass .now) (x .result .outcome) (x .result .pass) told (c .before .before .before .before .before .if1 .left) _ _ (c .outcome-number .ensures) (c .before .enum-told2 .given .1)
-
-pass-slots-requires : tie.Need-pass-slots-requires
-pass-slots-requires c κs = search needs
-
-slice-aggregate-lay : tie.Need-slice-aggregate-lay
-slice-aggregate-lay c = search needs
-
-lay-requires : tie.Need-lay-requires
-lay-requires c κs = search needs
-
-same-length : tie.Need-same-length
-same-length c = search needs
 
 returns-3 : tie.Need-returns-3
 returns-3 c =
@@ -64,15 +40,15 @@ pub make-pass-spec : {M : Type 1} → statement M
 make-pass-spec =
     tie.close
     (tie.spec
-    number-requires
+    (λ c κs. search needs)
     returns
-    new-requires
+    (λ c κs. search needs)
     enum-told
-    enum-told-2
-    outcome-number-requires
+    (λ c. search needs)
+    (λ c κs. search needs)
     returns-2
-    pass-slots-requires
-    slice-aggregate-lay
-    lay-requires
-    same-length
+    (λ c κs. search needs)
+    (λ c. search needs)
+    (λ c κs. search needs)
+    (λ c. search needs)
     returns-3)

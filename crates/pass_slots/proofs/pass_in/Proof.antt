@@ -10,51 +10,6 @@ use borrow.Author.Needs.{needs}
 use Rattle.pass_slots.proofs.pass_in.Statement.{statement}
 use Rattle.pass_slots.proofs.pass_in.Tie as tie
 
-shared-slice-copy-out-slot-term : tie.Need-shared-slice-copy-out-slot-term
-shared-slice-copy-out-slot-term c = search needs
-
-slot-term-requires : tie.Need-slot-term-requires
-slot-term-requires c κs = search needs
-
-sub-lay : tie.Need-sub-lay
-sub-lay c = search needs
-
-part-lay-start : tie.Need-part-lay-start
-part-lay-start c = search needs
-
-part-lay-end : tie.Need-part-lay-end
-part-lay-end c = search needs
-
-slice-aggregate-lay : tie.Need-slice-aggregate-lay
-slice-aggregate-lay c = search needs
-
-lay-requires : tie.Need-lay-requires
-lay-requires c κs = search needs
-
-sub-lay-2 : tie.Need-sub-lay-2
-sub-lay-2 c = search needs
-
-part-lay-start-2 : tie.Need-part-lay-start-2
-part-lay-start-2 c = search needs
-
-part-lay-end-2 : tie.Need-part-lay-end-2
-part-lay-end-2 c = search needs
-
-slice-aggregate-lay-2 : tie.Need-slice-aggregate-lay-2
-slice-aggregate-lay-2 c = search needs
-
-lay-requires-2 : tie.Need-lay-requires-2
-lay-requires-2 c κs = search needs
-
-shared-slice-copy-out-t6 : tie.Need-shared-slice-copy-out-t6
-shared-slice-copy-out-t6 c = search needs
-
-shared-slice-copy-out-t21 : tie.Need-shared-slice-copy-out-t21
-shared-slice-copy-out-t21 c = search needs
-
-shared-slice-copy-out-t23 : tie.Need-shared-slice-copy-out-t23
-shared-slice-copy-out-t23 c = search needs
-
 returns : tie.Need-returns
 returns c =
     let s = c .before .before .before .before .before .before .before .before .before .before .before .before .before .args .slots .now in
@@ -66,19 +21,19 @@ pub pass-in-spec : {M : Type 1} → statement M
 pass-in-spec =
     tie.close
     (tie.spec
-    shared-slice-copy-out-slot-term
-    slot-term-requires
-    sub-lay
-    part-lay-start
-    part-lay-end
-    slice-aggregate-lay
-    lay-requires
-    sub-lay-2
-    part-lay-start-2
-    part-lay-end-2
-    slice-aggregate-lay-2
-    lay-requires-2
-    shared-slice-copy-out-t6
-    shared-slice-copy-out-t21
-    shared-slice-copy-out-t23
+    (λ c. search needs)
+    (λ c κs. search needs)
+    (λ c. search needs)
+    (λ c. search needs)
+    (λ c. search needs)
+    (λ c. search needs)
+    (λ c κs. search needs)
+    (λ c. search needs)
+    (λ c. search needs)
+    (λ c. search needs)
+    (λ c. search needs)
+    (λ c κs. search needs)
+    (λ c. search needs)
+    (λ c. search needs)
+    (λ c. search needs)
     returns)

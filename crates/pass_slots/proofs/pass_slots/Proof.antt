@@ -11,7 +11,7 @@ use mir.ValLaws.{toZ-ofZ}
 use Rattle.wrapping.proofs.ReadBack.{reread}
 use Rattle.overlay.proofs.OverlayLaws.{overlay-length}
 use Rattle.slots.proofs.SlotLaws.{wider}
-use Rattle.pass_slots.proofs.PassSlotLaws.{twenty}
+use Rattle.pass_slots.proofs.PassSlotLaws.{head-laid, twenty}
 use borrow.Author.Needs.{needs}
 use Rattle.pass_slots.proofs.pass_slots.Statement.{statement}
 use Rattle.pass_slots.proofs.pass_slots.Tie as tie
@@ -19,39 +19,18 @@ use Rattle.pass_slots.proofs.pass_slots.Tie as tie
 cast-t7 : tie.Need-cast-t7
 cast-t7 c = rw (toZ-ofZ w8 (c .before .before .before .args .p .term) (search needs)) (wider (search needs))
 
-slice-aggregate-lay : tie.Need-slice-aggregate-lay
-slice-aggregate-lay c = search needs
-
-slice-aggregate-lay-2 : tie.Need-slice-aggregate-lay-2
-slice-aggregate-lay-2 c = search needs
-
-lay-requires : tie.Need-lay-requires
-lay-requires c κs = search needs
-
-slice-aggregate-lay-3 : tie.Need-slice-aggregate-lay-3
-slice-aggregate-lay-3 c = search needs
-
-slice-aggregate-lay-4 : tie.Need-slice-aggregate-lay-4
-slice-aggregate-lay-4 c = search needs
-
 lay-requires-2 : tie.Need-lay-requires-2
 lay-requires-2 c κs =
     let a : length (c .before .before .before .before .before .before .before .before .before .before .args .p .«history_a») ≡ 8 = search needs in
-    let n : length (c .before .before .before .lay .last .1 .1 .0) ≡ 20 = ap length (c .before .before .before .lay .ensures) in
+    let n : length (c .before .before .before .lay .last .1 .1 .0) ≡ 20 = head-laid _ _ _ (c .before .before .before .lay .ensures) refl refl in
     omega (arith, a, n)
-
-slice-aggregate-lay-5 : tie.Need-slice-aggregate-lay-5
-slice-aggregate-lay-5 c = search needs
-
-slice-aggregate-lay-6 : tie.Need-slice-aggregate-lay-6
-slice-aggregate-lay-6 c = search needs
 
 lay-requires-3 : tie.Need-lay-requires-3
 lay-requires-3 c κs =
     let p = c .before .before .before .before .before .before .before .before .before .before .before .before .before .before .args .p in
     let a : length (p .«history_a») ≡ 8 = search needs in
     let b : length (p .«history_b») ≡ 8 = search needs in
-    let n : length (c .before .before .before .before .before .before .before .lay .last .1 .1 .0) ≡ 20 = ap length (c .before .before .before .before .before .before .before .lay .ensures) ∙ overlay-length _ 0 _ (omega arith) in
+    let n : length (c .before .before .before .before .before .before .before .lay .last .1 .1 .0) ≡ 20 = head-laid _ _ _ (c .before .before .before .before .before .before .before .lay .ensures) refl refl in
     let m = ap length (c .before .before .before .lay2 .ensures) ∙ overlay-length (c .before .before .before .before .before .before .before .lay .last .1 .1 .0) 4 (p .«history_a») (omega (arith, a, n)) in
     omega (arith, b, m, n)
 
@@ -67,13 +46,13 @@ pass-slots-spec =
     tie.close
     (tie.spec
     cast-t7
-    slice-aggregate-lay
-    slice-aggregate-lay-2
-    lay-requires
-    slice-aggregate-lay-3
-    slice-aggregate-lay-4
+    (λ c. search needs)
+    (λ c. search needs)
+    (λ c κs. search needs)
+    (λ c. search needs)
+    (λ c. search needs)
     lay-requires-2
-    slice-aggregate-lay-5
-    slice-aggregate-lay-6
+    (λ c. search needs)
+    (λ c. search needs)
     lay-requires-3
     returns)

@@ -1,5 +1,5 @@
--- `pass_slots::passes_in` meets its contract. The loop's invariant: the first i passes are those of the slots. The measure is what is left of the count.
--- Assumes nothing.
+-- `pass_slots::passes_in` meets its contract. The loop's invariant: the first i passes are those of
+-- the slots. The measure is what is left of the count. Assumes nothing.
 use mathlib.Core.Path.{_≡_, refl}
 use Prim.Native.Nat.{_*_, _-_, _≤_}
 use native.Mathlib.Numerals.{add-one}
@@ -20,38 +20,11 @@ abbrev μ-loop : tie.MeasureT-loop
 loop-holds : tie.Need-loop-holds Inv-loop μ-loop
 loop-holds c = (omega arith, refl, refl)
 
-mul-at : tie.Need-mul-at Inv-loop μ-loop
-mul-at c = search needs
-
-mul-pass-in : tie.Need-mul-pass-in Inv-loop μ-loop
-mul-pass-in c = search needs
-
-sub-pass-in : tie.Need-sub-pass-in Inv-loop μ-loop
-sub-pass-in c = search needs
-
-part-pass-in-start : tie.Need-part-pass-in-start Inv-loop μ-loop
-part-pass-in-start c = search needs
-
-part-pass-in-end : tie.Need-part-pass-in-end Inv-loop μ-loop
-part-pass-in-end c = search needs
-
 pass-in-requires : tie.Need-pass-in-requires Inv-loop μ-loop
 pass-in-requires c κs =
     let s = c .before .before .before .args .slots .now in
     let at = c .before .before .loop .i * 20 in
     rw (part-is at s, length-drop at s) (omega arith)
-
-mul-passes : tie.Need-mul-passes Inv-loop μ-loop
-mul-passes c = search needs
-
-array-set-from-passes : tie.Need-array-set-from-passes Inv-loop μ-loop
-array-set-from-passes c = search needs
-
-add-i : tie.Need-add-i Inv-loop μ-loop
-add-i c = search needs
-
-loop-less : tie.Need-loop-less Inv-loop μ-loop
-loop-less c = omega arith
 
 loop-again : tie.Need-loop-again Inv-loop μ-loop
 loop-again c =
@@ -72,15 +45,15 @@ passes-in-spec =
     Inv-loop
     μ-loop
     loop-holds
-    mul-at
-    mul-pass-in
-    sub-pass-in
-    part-pass-in-start
-    part-pass-in-end
+    (λ c. search needs)
+    (λ c. search needs)
+    (λ c. search needs)
+    (λ c. search needs)
+    (λ c. search needs)
     pass-in-requires
-    mul-passes
-    array-set-from-passes
-    add-i
-    loop-less
+    (λ c. search needs)
+    (λ c. search needs)
+    (λ c. search needs)
+    (λ c. omega arith)
     loop-again
     returns)

@@ -1,3 +1,4 @@
+-- `passes::seed_history` meets its contract. The loop fills the slots one by one. Assumes nothing.
 use mathlib.Core.Path.{_≡_, refl, sym}
 use Prim.Native.Nat.{_≤_, _-_}
 use native.Mathlib.Omega.{arith}
@@ -25,18 +26,6 @@ loop-holds c = (omega arith, refl, refl)
 seed-slot-requires : tie.Need-seed-slot-requires Inv-loop μ-loop
 seed-slot-requires c κs = c .before .before .before .pre .1 (omega (arith, c .before .before .if1 .left))
 
-mul-history : tie.Need-mul-history Inv-loop μ-loop
-mul-history c = omega arith
-
-array-set-from-history : tie.Need-array-set-from-history Inv-loop μ-loop
-array-set-from-history c = omega arith
-
-add-j : tie.Need-add-j Inv-loop μ-loop
-add-j c = omega arith
-
-loop-less : tie.Need-loop-less Inv-loop μ-loop
-loop-less c = omega arith
-
 loop-again : tie.Need-loop-again Inv-loop μ-loop
 loop-again c =
     let s = c .before .before .before .before in
@@ -62,9 +51,9 @@ seed-history-spec =
     returns
     loop-holds
     seed-slot-requires
-    mul-history
-    array-set-from-history
-    add-j
-    loop-less
+    (λ c. omega arith)
+    (λ c. omega arith)
+    (λ c. omega arith)
+    (λ c. omega arith)
     loop-again
     returns-2)

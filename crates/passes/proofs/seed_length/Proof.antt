@@ -1,3 +1,4 @@
+-- `passes::seed_length` meets its contract. Assumes nothing.
 use Rattle.passes.proofs.seed_length.Statement.{statement}
 use Rattle.passes.proofs.seed_length.Tie as tie
 

@@ -1,3 +1,4 @@
+-- `passes::seed_slot` meets its contract. Assumes nothing.
 use mathlib.Core.Path.{sym, _∙_}
 use borrow.Author.Needs.{needs}
 use mir.Syntax.{w32}
@@ -5,24 +6,6 @@ use mir.ValLaws.{toZ-ofZ}
 use Rattle.passes.proofs.SeedLaws.{slot-ordered, slot-reversed, slot-behind}
 use Rattle.passes.proofs.seed_slot.Statement.{statement}
 use Rattle.passes.proofs.seed_slot.Tie as tie
-
-sub-result : tie.Need-sub-result
-sub-result c = search needs
-
-sub-result-2 : tie.Need-sub-result-2
-sub-result-2 c = search needs
-
-mul-result : tie.Need-mul-result
-mul-result c = search needs
-
-shared-slice-copy-out-result : tie.Need-shared-slice-copy-out-result
-shared-slice-copy-out-result c = search needs
-
-mul-result-2 : tie.Need-mul-result-2
-mul-result-2 c = search needs
-
-shared-slice-copy-out-result-2 : tie.Need-shared-slice-copy-out-result-2
-shared-slice-copy-out-result-2 c = search needs
 
 returns : tie.Need-returns
 returns c =
@@ -41,12 +24,12 @@ pub seed-slot-spec : {M : Type 1} → statement M
 seed-slot-spec =
     tie.close
     (tie.spec
-    sub-result
-    sub-result-2
-    mul-result
-    shared-slice-copy-out-result
-    mul-result-2
-    shared-slice-copy-out-result-2
+    (λ c. search needs)
+    (λ c. search needs)
+    (λ c. search needs)
+    (λ c. search needs)
+    (λ c. search needs)
+    (λ c. search needs)
     returns
     returns-2
     returns-3)

@@ -1,3 +1,4 @@
+-- `passes::term_of` meets its contract. Assumes nothing.
 use Rattle.passes.specs.Terms.{termOf}
 use Rattle.passes.proofs.TermLaws.{by-bits, none-valid}
 use Rattle.passes.proofs.term_of.Statement.{statement}

@@ -1,3 +1,4 @@
+-- `weights::apply_weight` meets its contract. Assumes nothing.
 use borrow.Author.Needs.{needs}
 use mir.Syntax.{w32, w64}
 use mir.ValLaws.{toZ-ofZ}
@@ -21,12 +22,6 @@ add-product c =
     let f = c .fits in
     rw (cast64 _ (f .weight), cast64 _ (f .source), toZ-ofZ w64 _ (mul-fits64 _ _ (f .weight) (f .source))) (biased-fits64 _ _ (f .weight) (f .source))
 
-shift-right-10-requires : tie.Need-shift-right-10-requires
-shift-right-10-requires c κs = search needs
-
-narrow-requires : tie.Need-narrow-requires
-narrow-requires c κs = search needs
-
 returns : tie.Need-returns
 returns c =
     let f = c .before .before .fits in
@@ -40,6 +35,6 @@ apply-weight-spec =
     cast-product-2
     mul-product
     add-product
-    shift-right-10-requires
-    narrow-requires
+    (λ c κs. search needs)
+    (λ c κs. search needs)
     returns)

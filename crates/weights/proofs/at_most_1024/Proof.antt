@@ -1,3 +1,4 @@
+-- `weights::at_most_1024` meets its contract. Assumes nothing.
 use mir.Syntax.{w32}
 use mir.ValLaws.{toZ-ofZ}
 use Rattle.weights.specs.Weights.{atMost1024}

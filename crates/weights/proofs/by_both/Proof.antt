@@ -1,3 +1,4 @@
+-- `weights::by_both` meets its contract. Assumes nothing.
 use mir.Syntax.{w32}
 use mir.ValLaws.{toZ-ofZ}
 use Rattle.wrapping.proofs.RangeLaws.{widen}
@@ -13,15 +14,6 @@ cast-e c = rw (toZ-ofZ w32 _ (c .fits .early)) (widen (c .fits .early))
 cast-by-sign : tie.Need-cast-by-sign
 cast-by-sign c = rw (toZ-ofZ w32 _ (c .fits .late)) (widen (c .fits .late))
 
-by-sign-requires : tie.Need-by-sign-requires
-by-sign-requires c κs = search needs
-
-by-sign-requires-2 : tie.Need-by-sign-requires-2
-by-sign-requires-2 c κs = search needs
-
-by-sign-requires-3 : tie.Need-by-sign-requires-3
-by-sign-requires-3 c κs = search needs
-
 returns : tie.Need-returns
 returns c =
     let f = c .before .before .before .fits in
@@ -32,4 +24,10 @@ returns c =
 pub by-both-spec : {M : Type 1} → statement M
 by-both-spec =
     tie.close
-    (tie.spec cast-e cast-by-sign by-sign-requires by-sign-requires-2 by-sign-requires-3 returns)
+    (tie.spec
+    cast-e
+    cast-by-sign
+    (λ c κs. search needs)
+    (λ c κs. search needs)
+    (λ c κs. search needs)
+    returns)

@@ -1,3 +1,4 @@
+-- `weights::by_product` meets its contract. Assumes nothing.
 use mir.Syntax.{w32, w64}
 use mir.ValLaws.{toZ-ofZ}
 use Rattle.wrapping.proofs.RangeLaws.{widen, mul-fits64}
@@ -16,9 +17,6 @@ cast-by-sign-2 c = rw (toZ-ofZ w32 _ (c .fits .y)) (widen (c .fits .y))
 mul-by-sign : tie.Need-mul-by-sign
 mul-by-sign c = rw (cast64 _ (c .fits .x), cast64 _ (c .fits .y)) (mul-fits64 _ _ (c .fits .x) (c .fits .y))
 
-by-sign-requires : tie.Need-by-sign-requires
-by-sign-requires c κs = search needs
-
 returns : tie.Need-returns
 returns c =
     let f = c .before .fits in
@@ -28,4 +26,10 @@ returns c =
 
 pub by-product-spec : {M : Type 1} → statement M
 by-product-spec =
-    tie.close (tie.spec cast-by-sign cast-by-sign-2 mul-by-sign by-sign-requires returns)
+    tie.close
+    (tie.spec
+    cast-by-sign
+    cast-by-sign-2
+    mul-by-sign
+    (λ c κs. search needs)
+    returns)

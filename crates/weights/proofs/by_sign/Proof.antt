@@ -1,3 +1,4 @@
+-- `weights::by_sign` meets its contract. Assumes nothing.
 use mir.Syntax.{w32, w64}
 use mir.ValLaws.{toZ-ofZ}
 use Rattle.weights.proofs.SignLaws.{above, below, at-zero}

@@ -1,15 +1,10 @@
+-- `weights::sample_of` meets its contract. Assumes nothing.
 use mir.Syntax.{w32}
 use mir.ValLaws.{toZ-ofZ}
 use Rattle.weights.specs.Weights.{sample}
 use borrow.Author.Needs.{needs}
 use Rattle.weights.proofs.sample_of.Statement.{statement}
 use Rattle.weights.proofs.sample_of.Tie as tie
-
-apply-weight-requires : tie.Need-apply-weight-requires
-apply-weight-requires c κs = search needs
-
-wrapping-add-requires : tie.Need-wrapping-add-requires
-wrapping-add-requires c κs = search needs
 
 returns : tie.Need-returns
 unfolding sample
@@ -18,4 +13,9 @@ returns c =
     cc (toZ-ofZ w32 _ (f .weight), toZ-ofZ w32 _ (f .source), toZ-ofZ w32 _ (f .res), toZ-ofZ w32 (c .before .apply-weight .result) (search needs), toZ-ofZ w32 (c .wrapping-add .result) (search needs))
 
 pub sample-of-spec : {M : Type 1} → statement M
-sample-of-spec = tie.close (tie.spec apply-weight-requires wrapping-add-requires returns)
+sample-of-spec =
+    tie.close
+    (tie.spec
+    (λ c κs. search needs)
+    (λ c κs. search needs)
+    returns)

@@ -1,15 +1,10 @@
+-- `weights::source_17` meets its contract. Assumes nothing.
 use mir.Syntax.{w32}
 use mir.ValLaws.{toZ-ofZ}
 use Rattle.weights.specs.Weights.{source17}
 use borrow.Author.Needs.{needs}
 use Rattle.weights.proofs.source_17.Statement.{statement}
 use Rattle.weights.proofs.source_17.Tie as tie
-
-wrapping-mul2-requires : tie.Need-wrapping-mul2-requires
-wrapping-mul2-requires c κs = search needs
-
-wrapping-sub-requires : tie.Need-wrapping-sub-requires
-wrapping-sub-requires c κs = search needs
 
 returns : tie.Need-returns
 unfolding source17
@@ -18,4 +13,9 @@ returns c =
     cc (toZ-ofZ w32 _ (f .last), toZ-ofZ w32 _ (f .before), toZ-ofZ w32 (c .before .wrapping-mul2 .result) (search needs), toZ-ofZ w32 (c .wrapping-sub .result) (search needs))
 
 pub source-17-spec : {M : Type 1} → statement M
-source-17-spec = tie.close (tie.spec wrapping-mul2-requires wrapping-sub-requires returns)
+source-17-spec =
+    tie.close
+    (tie.spec
+    (λ c κs. search needs)
+    (λ c κs. search needs)
+    returns)

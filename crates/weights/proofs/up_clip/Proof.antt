@@ -1,14 +1,9 @@
+-- `weights::up_clip` meets its contract. Assumes nothing.
 use mir.Syntax.{w32}
 use mir.ValLaws.{toZ-ofZ}
 use borrow.Author.Needs.{needs}
 use Rattle.weights.proofs.up_clip.Statement.{statement}
 use Rattle.weights.proofs.up_clip.Tie as tie
-
-wrapping-add-requires : tie.Need-wrapping-add-requires
-wrapping-add-requires c κs = search needs
-
-at-most-1024-requires : tie.Need-at-most-1024-requires
-at-most-1024-requires c κs = search needs
 
 returns : tie.Need-returns
 returns c =
@@ -16,4 +11,9 @@ returns c =
     cc (toZ-ofZ w32 _ (f .weight), toZ-ofZ w32 _ (f .delta), toZ-ofZ w32 (c .at-most-1024 .result) (search needs), toZ-ofZ w32 (c .before .wrapping-add .result) (search needs))
 
 pub up-clip-spec : {M : Type 1} → statement M
-up-clip-spec = tie.close (tie.spec wrapping-add-requires at-most-1024-requires returns)
+up-clip-spec =
+    tie.close
+    (tie.spec
+    (λ c κs. search needs)
+    (λ c κs. search needs)
+    returns)

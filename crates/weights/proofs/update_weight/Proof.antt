@@ -1,3 +1,4 @@
+-- `weights::update_weight` meets its contract. Assumes nothing.
 use mir.Syntax.{w32}
 use mir.ValLaws.{toZ-ofZ}
 use Rattle.wrapping.proofs.RangeLaws.{widen}
@@ -9,23 +10,8 @@ use Rattle.weights.proofs.update_weight.Tie as tie
 cast-by-sign : tie.Need-cast-by-sign
 cast-by-sign c = rw (toZ-ofZ w32 _ (c .fits .early)) (widen (c .fits .early))
 
-wrapping-neg-requires : tie.Need-wrapping-neg-requires
-wrapping-neg-requires c κs = search needs
-
-by-sign-requires : tie.Need-by-sign-requires
-by-sign-requires c κs = search needs
-
 cast-by-sign-2 : tie.Need-cast-by-sign-2
 cast-by-sign-2 c = let f = c .before .before .fits in rw (toZ-ofZ w32 _ (f .late)) (widen (f .late))
-
-wrapping-neg-requires-2 : tie.Need-wrapping-neg-requires-2
-wrapping-neg-requires-2 c κs = search needs
-
-by-sign-requires-2 : tie.Need-by-sign-requires-2
-by-sign-requires-2 c κs = search needs
-
-wrapping-add-requires : tie.Need-wrapping-add-requires
-wrapping-add-requires c κs = search needs
 
 returns : tie.Need-returns
 returns c =
@@ -41,10 +27,10 @@ update-weight-spec =
     tie.close
     (tie.spec
     cast-by-sign
-    wrapping-neg-requires
-    by-sign-requires
+    (λ c κs. search needs)
+    (λ c κs. search needs)
     cast-by-sign-2
-    wrapping-neg-requires-2
-    by-sign-requires-2
-    wrapping-add-requires
+    (λ c κs. search needs)
+    (λ c κs. search needs)
+    (λ c κs. search needs)
     returns)

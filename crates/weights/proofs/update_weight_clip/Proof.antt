@@ -1,16 +1,8 @@
+-- `weights::update_weight_clip` meets its contract. Assumes nothing.
 use Rattle.weights.proofs.UpdateLaws.{clip-raw}
 use borrow.Author.Needs.{needs}
 use Rattle.weights.proofs.update_weight_clip.Statement.{statement}
 use Rattle.weights.proofs.update_weight_clip.Tie as tie
-
-up-clip-requires : tie.Need-up-clip-requires
-up-clip-requires c κs = search needs
-
-down-clip-requires : tie.Need-down-clip-requires
-down-clip-requires c κs = search needs
-
-by-product-requires : tie.Need-by-product-requires
-by-product-requires c κs = search needs
 
 returns : tie.Need-returns
 returns c =
@@ -21,4 +13,9 @@ returns c =
 
 pub update-weight-clip-spec : {M : Type 1} → statement M
 update-weight-clip-spec =
-    tie.close (tie.spec up-clip-requires down-clip-requires by-product-requires returns)
+    tie.close
+    (tie.spec
+    (λ c κs. search needs)
+    (λ c κs. search needs)
+    (λ c κs. search needs)
+    returns)

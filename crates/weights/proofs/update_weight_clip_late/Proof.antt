@@ -1,16 +1,8 @@
+-- `weights::update_weight_clip_late` meets its contract. Assumes nothing.
 use Rattle.weights.proofs.UpdateLaws.{clip-raw}
 use borrow.Author.Needs.{needs}
 use Rattle.weights.proofs.update_weight_clip_late.Statement.{statement}
 use Rattle.weights.proofs.update_weight_clip_late.Tie as tie
-
-up-clip-requires : tie.Need-up-clip-requires
-up-clip-requires c κs = search needs
-
-down-clip-requires : tie.Need-down-clip-requires
-down-clip-requires c κs = search needs
-
-by-both-requires : tie.Need-by-both-requires
-by-both-requires c κs = search needs
 
 returns : tie.Need-returns
 returns c =
@@ -21,4 +13,9 @@ returns c =
 
 pub update-weight-clip-late-spec : {M : Type 1} → statement M
 update-weight-clip-late-spec =
-    tie.close (tie.spec up-clip-requires down-clip-requires by-both-requires returns)
+    tie.close
+    (tie.spec
+    (λ c κs. search needs)
+    (λ c κs. search needs)
+    (λ c κs. search needs)
+    returns)

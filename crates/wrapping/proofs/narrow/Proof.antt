@@ -1,3 +1,4 @@
+-- `wrapping::narrow` meets its contract. Assumes nothing.
 use borrow.Author.Needs.{needs}
 use Rattle.wrapping.specs.Wrap.{wrap32}
 use Rattle.wrapping.proofs.WrapLaws.{masked, low32-lt}
@@ -8,12 +9,6 @@ use Rattle.wrapping.proofs.narrow.Tie as tie
 cast-low : tie.Need-cast-low
 cast-low c = rw (masked _ (c .fits .x)) (tt, record { fits = low32-lt (c .args .x) })
 
-cast-result : tie.Need-cast-result
-cast-result c = search needs
-
-cast-result-2 : tie.Need-cast-result-2
-cast-result-2 c = search needs
-
 returns : tie.Need-returns
 unfolding wrap32
 returns c = rw (masked _ (c .before .fits .x))
@@ -23,4 +18,11 @@ unfolding wrap32
 returns-2 c = rw (masked _ (c .before .fits .x), not-not _ (low32-lt (c .before .args .x)))
 
 pub narrow-spec : {M : Type 1} → statement M
-narrow-spec = tie.close (tie.spec cast-low cast-result cast-result-2 returns returns-2)
+narrow-spec =
+    tie.close
+    (tie.spec
+    cast-low
+    (λ c. search needs)
+    (λ c. search needs)
+    returns
+    returns-2)

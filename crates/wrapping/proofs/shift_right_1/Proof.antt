@@ -1,3 +1,4 @@
+-- `wrapping::shift_right_1` meets its contract. Assumes nothing.
 use mir.Syntax.{w32}
 use mir.ValLaws.{toZ-ofZ}
 use Rattle.wrapping.proofs.RangeLaws.{shift-floor, floor-fits}

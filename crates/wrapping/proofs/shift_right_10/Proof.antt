@@ -1,3 +1,4 @@
+-- `wrapping::shift_right_10` meets its contract. Assumes nothing.
 use mir.Syntax.{w64}
 use mir.ValLaws.{toZ-ofZ}
 use Rattle.wrapping.proofs.RangeLaws.{shift-floor, floor-fits}

@@ -1,3 +1,4 @@
+-- `wrapping::wrapping_mul2` meets its contract. Assumes nothing.
 use borrow.Author.Needs.{needs}
 use mir.Syntax.{w32, w64}
 use mir.ValLaws.{toZ-ofZ}
@@ -13,13 +14,16 @@ cast-narrow c = rw (toZ-ofZ w32 _ (c .fits .a)) (widen (c .fits .a))
 mul-narrow : tie.Need-mul-narrow
 mul-narrow c = rw (cast64 _ (c .fits .a)) (mul-fits64 _ (pos 2) (c .fits .a) (search needs))
 
-narrow-requires : tie.Need-narrow-requires
-narrow-requires c κs = search needs
-
 returns : tie.Need-returns
 returns c =
     let f = c .before .fits in
     narrowed _ _ _ (c .narrow .ensures) (rw (cast64 _ (f .a)) (toZ-ofZ w64 _ (mul-fits64 _ (pos 2) (f .a) (search needs))))
 
 pub wrapping-mul2-spec : {M : Type 1} → statement M
-wrapping-mul2-spec = tie.close (tie.spec cast-narrow mul-narrow narrow-requires returns)
+wrapping-mul2-spec =
+    tie.close
+    (tie.spec
+    cast-narrow
+    mul-narrow
+    (λ c κs. search needs)
+    returns)

@@ -1,3 +1,4 @@
+-- `wrapping::wrapping_neg` meets its contract. Assumes nothing.
 use mir.Syntax.{w32, w64}
 use mir.ValLaws.{toZ-ofZ}
 use lib.IntN.{+ℤ-idl}
@@ -13,13 +14,16 @@ cast-narrow c = rw (toZ-ofZ w32 _ (c .fits .a)) (widen (c .fits .a))
 sub-narrow : tie.Need-sub-narrow
 sub-narrow c = rw (cast64 _ (c .fits .a), +ℤ-idl) (neg-fits64 _ (c .fits .a))
 
-narrow-requires : tie.Need-narrow-requires
-narrow-requires c κs = search needs
-
 returns : tie.Need-returns
 returns c =
     let f = c .before .fits in
     narrowed _ _ _ (c .narrow .ensures) (rw (cast64 _ (f .a), +ℤ-idl) (toZ-ofZ w64 _ (neg-fits64 _ (f .a))))
 
 pub wrapping-neg-spec : {M : Type 1} → statement M
-wrapping-neg-spec = tie.close (tie.spec cast-narrow sub-narrow narrow-requires returns)
+wrapping-neg-spec =
+    tie.close
+    (tie.spec
+    cast-narrow
+    sub-narrow
+    (λ c κs. search needs)
+    returns)

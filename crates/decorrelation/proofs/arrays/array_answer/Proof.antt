@@ -1,29 +1,12 @@
+-- `decorrelation::arrays::array_answer` meets its contract. Assumes nothing.
 use mathlib.Core.Path.{sym, _∙_}
 use borrow.Author.Needs.{needs}
 use Rattle.decorrelation.proofs.Answers.{array-many, array-refused, array-accepted}
 use Rattle.decorrelation.proofs.arrays.array_answer.Statement.{statement}
 use Rattle.decorrelation.proofs.arrays.array_answer.Tie as tie
 
-list-outcome-requires : tie.Need-list-outcome-requires
-list-outcome-requires c κs = search needs
-
 returns : tie.Need-returns
 returns c = let a = c .before .before .args in array-many (a .direction) (a .passes) (a .count) (a .buffer .now) (c .list-outcome .result) (c .list-outcome .ensures) (c .before .if1 .taken)
-
-array-valid-requires : tie.Need-array-valid-requires
-array-valid-requires c κs = search needs
-
-list-outcome-requires-2 : tie.Need-list-outcome-requires-2
-list-outcome-requires-2 c κs = search needs
-
-is-accepted-requires : tie.Need-is-accepted-requires
-is-accepted-requires c κs = search needs
-
-run-array-requires : tie.Need-run-array-requires
-run-array-requires c κs = search needs
-
-same-length : tie.Need-same-length
-same-length c = search needs
 
 returns-2 : tie.Need-returns-2
 returns-2 c =
@@ -39,12 +22,12 @@ pub array-answer-spec : {M : Type 1} → statement M
 array-answer-spec =
     tie.close
     (tie.spec
-    list-outcome-requires
+    (λ c κs. search needs)
     returns
-    array-valid-requires
-    list-outcome-requires-2
-    is-accepted-requires
-    run-array-requires
-    same-length
+    (λ c κs. search needs)
+    (λ c κs. search needs)
+    (λ c κs. search needs)
+    (λ c κs. search needs)
+    (λ c. search needs)
     returns-2
     returns-3)

@@ -1,6 +1,7 @@
--- `decorrelation::run_array` meets its contract: a walk of its MIR, by hand. The array is a local in memory; its first passes are lent as a
--- `&mut [DecorrPass]` for the call of `run_list` (`Front`), to which the buffer is handed for good. All that the proof knows of
--- `run_list` is that it meets its contract. Assumes nothing.
+-- `decorrelation::run_array` meets its contract: a walk of its MIR, by hand. The array is a local
+-- in memory; its first passes are lent as a `&mut [DecorrPass]` for the call of `run_list`
+-- (`Front`), to which the buffer is handed for good. All that the proof knows of `run_list` is that
+-- it meets its contract. Assumes nothing.
 use mathlib.Core.Path.{_≡_, refl, ap}
 use Prim.Native.Nat.{ℕ, _+_, _<_, _≤_, _^_}
 use native.Mathlib.Omega.{arith}
@@ -56,7 +57,7 @@ use Rattle.passes.proofs.DecorrPass.Laws as T′
 use Rattle.passes.proofs.Direction as D
 use Rattle.passes.proofs.Direction.Laws as D′
 use Rattle.decorrelation.specs.Lists.{chained, followed}
-use Rattle.decorrelation.proofs.Ways.{way, ways, WayTyped, way-is, way-tells, way-typed}
+use Rattle.decorrelation.proofs.Locals.{way, ways, WayTyped, way-is, way-tells, way-typed}
 use Rattle.decorrelation.proofs.TurnCalls.{buf}
 use Rattle.decorrelation.proofs.Front.{Out, lends-front, front-back}
 use Rattle.decorrelation.proofs.lists.run_list as run-list
@@ -142,14 +143,16 @@ module _ {M : Type 1} (𝓤 : URA M) (H : Heap 𝓤) (A : Atoms 𝓤) (W : Given
   abbrev Buffer : Item 𝓤
   Buffer = ‵ (MutSlice (named 0) κ i32 .own (buf b′ o′ γ′ B) (s′ ∷ []))
 
-  -- what `run_all`'s triple binds outside: the slot's first n passes lent for the lifetime ν, under the name δ, and the buffer handed on
+  -- what `run_all`'s triple binds outside: the slot's first n passes lent for the lifetime ν, under
+  -- the name δ, and the buffer handed on
   abbrev to-run-list : ℕ → ℕ → GName → RunList 𝓤 H A mem run .Ghost
   to-run-list l ν δ = (((ν ∷ [], (κ, tt)), (fullShare, (q, tt)), tt, (dir, (x l δ, (buf b′ o′ γ′ B, tt))), (dv ∷ [], (sliceVal (l, 0) n ∷ [], (s′ ∷ [], tt)))), tt)
 
   abbrev Lent : ℕ → ℕ → GName → ℕ → Item 𝓤
   Lent l ν δ k = ‵ (MutSlice (named 0) (ν ∷ []) T.the-row .own (x l δ) (sliceVal (l, 0) k ∷ []))
 
-  -- the buffer is at `run_all`'s second lifetime, whose name in its row is `named 1`: what it owns does not depend on it
+  -- the buffer is at `run_all`'s second lifetime, whose name in its row is `named 1`: what it owns
+  -- does not depend on it
   goes-run-list : (l ν : ℕ) (δ : GName) → ent 𝓤 (⋆ 𝓤 H A ((‵ (flft (ν ∷ []) fullShare) ⊛ (‵ (flft κ q) ⊛ ‵ ftrue)) ∷ Lent l ν δ n ∷ Buffer ∷ [])) (RunList 𝓤 H A mem run .pre (to-run-list l ν δ))
   goes-run-list l ν δ =
       qed W ((‵ (flft (ν ∷ []) fullShare) ⊛ (‵ (flft κ q) ⊛ ‵ ftrue)) ∷ Lent l ν δ n ∷ Buffer ∷ []) ∵ nothing ! $ move ! (3 ∷ 0 ∷ []) $ fjoin ! $ move ! (2 ∷ 0 ∷ []) $ fjoin ! $
@@ -188,9 +191,11 @@ module _ {M : Type 1} (𝓤 : URA M) (H : Heap 𝓤) (A : Atoms 𝓤) (W : Given
         use1 W (later (some (λ (r : Unit {0}). ((‵ (flft (ν ∷ []) fullShare) ⊛ (‵ (flft κ q) ⊛ ‵ ftrue)) ⊛ ‵ (unit .own r (w ∷ []))) ⊛ raw (ensured 𝓤 H A run-list.ended (run-list.clauses 𝓤 H A mem run) (ν ∷ [], (κ, tt)) (dir, (x l₅ δ, (buf b′ o′ γ′ B, tt))) tt r)))) (id⊢ 𝓤 _) $ await ! tt $ pick ! (λ r.
         split ! $ move ! (1 ∷ []) $ use1 W (some (λ (zs : Unit {0} × (List DecorrPass × (List ℤ × Unit {0}))). ‵ (lasts run-list.ended (ν ∷ [], (κ, tt)) (dir, (x l₅ δ, (buf b′ o′ γ′ B, tt))) zs) ⊛ raw (fact 𝓤 (_≡_ {A = Chain} (record { passes = zs .1 .0; buffer = zs .1 .1 .0 }) (chained dir front B))))) (id⊢ 𝓤 _) $ pick ! (λ zs.
         split ! $ move ! (1 ∷ []) $ heard ! (_≡_ {A = Chain} (record { passes = zs .1 .0; buffer = zs .1 .1 .0 }) (chained dir front B)) (λ e. fsplit ! $ drop ! $ fsplit ! $ fsplit ! $ move ! (1 ∷ []) $ feqL ! (λ same. move ! (1 ∷ []) $ fsplit ! $ fsplit ! $ move ! (1 ∷ []) $ feqL ! (λ wide.
-        -- [the buffer's last list; true; the passes' last list; the tokens and the result; what is kept; _10; …]
+        -- [the buffer's last list; true; the passes' last list; the tokens and the result; what is
+        -- kept; _10; …]
         move ! (3 ∷ []) $ split ! $ move ! (1 ∷ []) $ peeks ! unit (Is unit) (shows 𝓤 H A unit) r (w ∷ []) (λ is. drop ! $ split ! $ move ! (1 ∷ []) $ split ! $
-        -- [the buffer's token; true; the lifetime's token; the buffer's last list; true; the passes' last list; what is kept; _10; …]
+        -- [the buffer's token; true; the lifetime's token; the buffer's last list; true; the
+        -- passes' last list; what is kept; _10; …]
         move ! (1 ∷ 4 ∷ []) $ drop ! $ drop ! $ move ! (1 ∷ []) $ lft-end ! tt $ move ! (0 ∷ 4 ∷ 3 ∷ []) $
         use3 W (later (‵ (partAt Many fullShare (zs .1 .0 ++ rest) l₅ 0))) (front-back T.the-row (ν ∷ []) 16 n l₅ 0 P 𝓤 H A W (named 0) δ (zs .1 .0) same long) $ await ! tt $
         use1 W (‵ (fat fullShare (tyArray T′.mir 16) l₅ 0 (mach (zs .1 .0 ++ rest))) ⊛ ‵ (Many .own (zs .1 .0 ++ rest) (vals (zs .1 .0 ++ rest)))) (unboxed 𝓤 H A W (zs .1 .0 ++ rest) l₅) $ split ! $

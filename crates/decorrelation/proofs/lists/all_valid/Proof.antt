@@ -1,6 +1,7 @@
--- `decorrelation::all_valid` meets its contract: a walk of its MIR, by hand, with a loop over a `&[DecorrPass]` that is only read, a call
--- of `valid_pass` in it, and a `return` from within the loop. Each turn looks into the slice for one pass and shuts it again. What
--- holds at a turn is `Sound` of `Turns`. Assumes nothing.
+-- `decorrelation::all_valid` meets its contract: a walk of its MIR, by hand, with a loop over a
+-- `&[DecorrPass]` that is only read, a call of `valid_pass` in it, and a `return` from within the
+-- loop. Each turn looks into the slice for one pass and shuts it again. What holds at a turn is
+-- `Sound` of `Turns`. Assumes nothing.
 use mathlib.Core.Path.{_≡_, refl, sym}
 use mathlib.Core.Bool.{Bool, true, false, not}
 use mathlib.Core.WellFounded.{InvImage·wf}
@@ -159,7 +160,8 @@ module _ {M : Type 1} (𝓤 : URA M) (H : Heap 𝓤) (A : Atoms 𝓤) (W : Given
           looks-slice ! tt T.the-row (Is T.the-row) (shows 𝓤 H A T.the-row) (LL.vals T.the-type T′.the-laws) (LL.tells T.the-type T′.the-laws) ((LL.copy T.the-type T′.the-copy) 𝓤 H A W) P b o (λ q′.
           elem-out ! T.the-row (Is T.the-row) (shows 𝓤 H A T.the-row) (LL.vals T.the-type T′.the-laws) (LL.tells T.the-type T′.the-laws) q′ P i none b o small (λ g.
           let typed = LL.lawful T.the-type T′.the-laws 𝓤 H A W .typed p _ g .0 in
-          -- [passes[i]; what it owns; the others; what shuts; the fractured borrow; res; the fact; _9; …]: local k stands at 25 - 2 k
+          -- [passes[i]; what it owns; the others; what shuts; the fractured borrow; res; the fact;
+          -- _9; …]: local k stands at 25 - 2 k
           assigns ! (of-opd ! (load ! (from ! (hop ! (look ! 11 refl) (stop !))) (look-raw ! 0 refl))) (from ! (stop !)) (init ! 9 refl typed) $
           elem-back ! T.the-row q′ P i none (mach p ∷ []) b o small $ shuts-slice ! tt T.the-row q′ P b o $ move ! (1 ∷ 0 ∷ []) $
           assigns ! (of-opd ! (load ! (from ! (stop !)) (look ! 6 refl))) (from ! (stop !)) (init ! 14 refl typed) $

@@ -1,4 +1,5 @@
--- `lists::decorrelate_stereo` meets its contract: the walk of `Entries`, in decorrelation. Assumes nothing.
+-- `lists::decorrelate_stereo` meets its contract: the walk of `Entries`, in decorrelation. Assumes
+-- nothing.
 use contract.Running.{givenOf, tables, tablesOf}
 use denote.Triple.Spec.{tripleOf}
 use denote.Triple.Table.{entered, cited}

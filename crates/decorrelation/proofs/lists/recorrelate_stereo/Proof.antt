@@ -1,4 +1,5 @@
--- `lists::recorrelate_stereo` meets its contract: the walk of `Entries`, in analysis. Assumes nothing.
+-- `lists::recorrelate_stereo` meets its contract: the walk of `Entries`, in analysis. Assumes
+-- nothing.
 use contract.Running.{givenOf, tables, tablesOf}
 use denote.Triple.Spec.{tripleOf}
 use denote.Triple.Table.{entered, cited}

@@ -1,6 +1,7 @@
--- `decorrelation::run_checked` meets its contract: a walk of its MIR, by hand. The list is lent as a `&[DecorrPass]` to `all_valid`
--- (`TestCalls`). Where the outcome accepts it, the list and the buffer are handed to `run_list` for good; where it does not, both are
--- given up as they were. All that the proof knows of the callees is that each meets its contract. Assumes nothing.
+-- `lists::run_checked` meets its contract: a walk of its MIR, by hand. The list is lent as a
+-- `&[DecorrPass]` to `all_valid` (`TestCalls`). Where the outcome accepts it, the list and the
+-- buffer are handed to `run_list` for good; where it does not, both are given up as they were. All
+-- that the proof knows of the callees is that each meets its contract. Assumes nothing.
 use mathlib.Core.Path.{_≡_, refl}
 use mathlib.Core.Bool.{Bool}
 use mathlib.Core.List.{List, [], _∷_}
@@ -55,7 +56,7 @@ use Rattle.passes.proofs.Direction.Laws as D′
 use Rattle.decorrelation.specs.Lists.{allValid, acceptedBy, chained, Answer, listed}
 use Rattle.decorrelation.proofs.Answers.{answer-accepted, answer-refused}
 use Rattle.decorrelation.proofs.Lending.{gives-up}
-use Rattle.decorrelation.proofs.Ways.{way, ways, wayTy, WayTyped, way-is, way-tells, way-typed}
+use Rattle.decorrelation.proofs.Locals.{word, wayTy, passPtr, lentPasses, lentNumbers, passesTy, bufferTy, way, ways, WayTyped, way-is, way-tells, way-typed}
 use Rattle.decorrelation.proofs.TurnCalls.{buf}
 use Rattle.decorrelation.proofs.TestCalls.{list-at, AllValid, calls-all-valid, ListOutcome, calls-list-outcome, IsAccepted, calls-is-accepted}
 use Rattle.decorrelation.proofs.lists.all_valid.Symbol as all-valid-def
@@ -82,18 +83,6 @@ stayed = (stay-none (λ _. D.the-row) yes, (gave-slice (0 ∷ []) tt (plain (λ 
 
 abbrev Arg : Type 0
 Arg = Direction × (RefT (List DecorrPass) × (RefT (List ℤ) × Unit {0}))
-
-abbrev word : Ty
-word = tyInt w64
-
-abbrev passPtr : Ty
-passPtr = pointee (R.the-row .written)
-
-abbrev passesTy : Ty
-passesTy = sliceTy (tyRef (named 0) mut passPtr)
-
-abbrev bufferTy : Ty
-bufferTy = sliceTy (tyRef (named 1) mut (tyInt w32))
 
 abbrev RunList : {M : Type 1} (𝓤 : URA M) (H : Heap 𝓤) (A : Atoms 𝓤) (mem : Memory → SProp 𝓤) (run : Routine → Fun 𝓤) → Contract 𝓤
 RunList 𝓤 H A mem run = tripleOf 𝓤 H A run-list.signature (run-list.spec 𝓤 H A mem run)
@@ -144,12 +133,12 @@ module _ {M : Type 1} (𝓤 : URA M) (H : Heap 𝓤) (A : Atoms 𝓤) (W : Given
       (known-accepted : Triple 𝓤 (𝓣 .C #decorrelation·is-accepted) (IsAccepted 𝓤 H A mem run)) (known-list : Triple 𝓤 (𝓣 .C #decorrelation·run-list) (RunList 𝓤 H A mem run)) (gn : Room R.the-row (length P)) (gm : Room i32 (length B)) where
     module _ (l₀ l₁ l₂ l₃ l₄ l₅ l₆ l₇ l₈ l₉ l₁₀ l₁₁ l₁₂ l₁₃ l₁₄ l₁₅ : ℕ) where
       abbrev E : Env 𝓤 H
-      E = (S′.mir, l₀) ∷ (wayTy, l₁) ∷ (passesTy, l₂) ∷ (bufferTy, l₃) ∷ (tyBool, l₄) ∷ (S′.mir, l₅) ∷ (tyRef erased imm passPtr, l₆) ∷ (sliceTy (tyRef erased imm passPtr), l₇) ∷ (word, l₈) ∷ (word, l₉) ∷ (tyBool, l₁₀) ∷ (tyUnit, l₁₁) ∷ (tyRef erased mut passPtr, l₁₂) ∷ (sliceTy (tyRef erased mut passPtr), l₁₃) ∷ (tyRef erased mut (tyInt w32), l₁₄) ∷ (sliceTy (tyRef erased mut (tyInt w32)), l₁₅) ∷ []
+      E = (S′.mir, l₀) ∷ (wayTy, l₁) ∷ (passesTy, l₂) ∷ (bufferTy, l₃) ∷ (tyBool, l₄) ∷ (S′.mir, l₅) ∷ (tyRef erased imm passPtr, l₆) ∷ (sliceTy (tyRef erased imm passPtr), l₇) ∷ (word, l₈) ∷ (word, l₉) ∷ (tyBool, l₁₀) ∷ (tyUnit, l₁₁) ∷ (lentPasses erased, l₁₂) ∷ (sliceTy (lentPasses erased), l₁₃) ∷ (lentNumbers erased, l₁₄) ∷ (sliceTy (lentNumbers erased), l₁₅) ∷ []
 
       -- the context after the branch: local k stands at 34 - 2 k
       abbrev After : List DecorrPass → List ℤ → Val → List (Item 𝓤)
       After zs cs w = ‵ (finally R.the-row γ zs) ∷ ‵ (finally i32 γ′ cs) ∷ ‵ (flft κ q) ∷ ‵ (flft κ′ q′)
-          ∷ ‵ (froom (sliceTy (tyRef erased mut (tyInt w32))) l₁₅ 0) ∷ ‵ (fdies (sliceTy (tyRef erased mut (tyInt w32))) l₁₅) ∷ ‵ (froom (tyRef erased mut (tyInt w32)) l₁₄ 0) ∷ ‵ (fdies (tyRef erased mut (tyInt w32)) l₁₄) ∷ ‵ (froom (sliceTy (tyRef erased mut passPtr)) l₁₃ 0) ∷ ‵ (fdies (sliceTy (tyRef erased mut passPtr)) l₁₃) ∷ ‵ (froom (tyRef erased mut passPtr) l₁₂ 0) ∷ ‵ (fdies (tyRef erased mut passPtr) l₁₂)
+          ∷ ‵ (froom (sliceTy (lentNumbers erased)) l₁₅ 0) ∷ ‵ (fdies (sliceTy (lentNumbers erased)) l₁₅) ∷ ‵ (froom (lentNumbers erased) l₁₄ 0) ∷ ‵ (fdies (lentNumbers erased) l₁₄) ∷ ‵ (froom (sliceTy (lentPasses erased)) l₁₃ 0) ∷ ‵ (fdies (sliceTy (lentPasses erased)) l₁₃) ∷ ‵ (froom (lentPasses erased) l₁₂ 0) ∷ ‵ (fdies (lentPasses erased) l₁₂)
           ∷ ‵ (froom tyUnit l₁₁ 0) ∷ ‵ (fdies tyUnit l₁₁) ∷ ‵ (froom tyBool l₁₀ 0) ∷ ‵ (fdies tyBool l₁₀) ∷ ‵ (froom word l₉ 0) ∷ ‵ (fdies word l₉) ∷ ‵ (froom word l₈ 0) ∷ ‵ (fdies word l₈)
           ∷ ‵ (froom (sliceTy (tyRef erased imm passPtr)) l₇ 0) ∷ ‵ (fdies (sliceTy (tyRef erased imm passPtr)) l₇) ∷ ‵ (froom (tyRef erased imm passPtr) l₆ 0) ∷ ‵ (fdies (tyRef erased imm passPtr) l₆) ∷ ‵ (fat fullShare S′.mir l₅ 0 w) ∷ ‵ (fdies S′.mir l₅) ∷ ‵ (froom tyBool l₄ 0) ∷ ‵ (fdies tyBool l₄)
           ∷ ‵ (froom bufferTy l₃ 0) ∷ ‵ (fdies bufferTy l₃) ∷ ‵ (froom passesTy l₂ 0) ∷ ‵ (fdies passesTy l₂) ∷ ‵ (froom wayTy l₁ 0) ∷ ‵ (fdies wayTy l₁) ∷ ‵ (froom S′.mir l₀ 0) ∷ ‵ (fdies S′.mir l₀) ∷ []
@@ -199,7 +188,8 @@ module _ {M : Type 1} (𝓤 : URA M) (H : Heap 𝓤) (A : Atoms 𝓤) (W : Given
         split ! $ move ! (1 ∷ []) $ heard ! (_≡_ {A = Chain} (record { passes = zs .1 .0; buffer = zs .1 .1 .0 }) (chained dir P B)) (λ c. fsplit ! $ drop ! $ fsplit ! $ fsplit ! $ move ! (1 ∷ []) $ feqL ! (λ long. move ! (1 ∷ []) $ fsplit ! $ fsplit ! $ move ! (1 ∷ []) $ feqL ! (λ wide.
         -- [the buffer's last list; true; the passes' last list; the tokens and the result; _15; …]
         move ! (3 ∷ []) $ split ! $ move ! (1 ∷ []) $ peeks ! unit (Is unit) (shows 𝓤 H A unit) x (u ∷ []) (λ is-unit. drop ! $ split ! $ move ! (1 ∷ []) $ split ! $
-        -- [the buffer's token; true; the list's token; the buffer's last list; true; the passes' last list; _15; …]
+        -- [the buffer's token; true; the list's token; the buffer's last list; true; the passes'
+        -- last list; _15; …]
         move ! (1 ∷ 4 ∷ []) $ drop ! $ drop ! $ move ! (3 ∷ 2 ∷ 1 ∷ 0 ∷ []) $
         land-last ! (from ! (stop !)) (init ! 12 refl (nothing-lawful 𝓤 H A W .typed x _ is-unit .0)) $ exec ! (𝓣 .C) (𝓣 .Λ) (E l₀ l₁ l₂ l₃ l₄ l₅ l₆ l₇ l₈ l₉ l₁₀ l₁₁ l₁₂ l₁₃ l₁₄ l₁₅) body.t-9 (atRet (E l₀ l₁ l₂ l₃ l₄ l₅ l₆ l₇ l₈ l₉ l₁₀ l₁₁ l₁₂ l₁₃ l₁₄ l₁₅) Ends) $
         forget ! 4 refl $ forget ! 6 refl $ forget ! 8 refl $ forget ! 10 refl $ forget ! 12 refl $ forget ! 14 refl $ forget ! 16 refl $ forget ! 18 refl $ forget ! 20 refl $ forget ! 22 refl $ forget ! 26 refl $ forget ! 28 refl $ forget ! 30 refl $ forget ! 32 refl $

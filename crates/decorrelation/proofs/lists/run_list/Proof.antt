@@ -1,6 +1,7 @@
--- `decorrelation::run_list` meets its contract: a walk of its MIR, by hand, with a loop. The list of passes is opened once, before the
--- loop, and closed once, after it; each turn takes the pass at its place out of the row, hands it to `run_pass` with the buffer lent
--- on (`TurnCalls`), and puts the result in its place. What holds of the lists at a turn is `Ran` of `Turns`. All that the proof knows of
+-- `lists::run_list` meets its contract: a walk of its MIR, by hand, with a loop. The list of passes
+-- is opened once, before the loop, and closed once, after it; each turn takes the pass at its place
+-- out of the row, hands it to `run_pass` with the buffer lent on (`TurnCalls`), and puts the result
+-- in its place. What holds of the lists at a turn is `Ran` of `Turns`. All that the proof knows of
 -- `place` and `run_pass` is that they meet their contracts. Assumes nothing.
 use mathlib.Core.Path.{_≡_, refl, sym, ap, subst}
 use mathlib.Core.Bool.{Bool}
@@ -34,7 +35,6 @@ use sound.WpLaws.{fmOf, WpFn-mono}
 use denote.RattleType.{owns}
 use denote.Shadow.{pureI}
 use denote.Laws.{Is, shows}
-use denote.Memory.{pointee}
 use denote.Builtin.{bool, i32}
 use denote.Plain.{bool-vals, bool-tells, bool-makes}
 use denote.Ref.{RefT}
@@ -62,9 +62,9 @@ use Rattle.pass_runs.proofs.run_pass.Symbol as run-pass-def
 use Rattle.pass_runs.proofs.run_pass.Symbol.{name as #pass_runs·run-pass}
 use Rattle.pass_runs.proofs.run_pass.Met as run-pass-thm
 use Rattle.decorrelation.specs.Lists.{chained, placeOf}
-use Rattle.decorrelation.proofs.Ways.{way, ways, passTy, wayTy, WayTyped, way-is, way-tells, way-typed}
+use Rattle.decorrelation.proofs.Locals.{word, passTy, wayTy, lentNumbers, passesTy, bufferTy, way, ways, WayTyped, way-is, way-tells, way-typed}
 use Rattle.decorrelation.proofs.TurnCalls.{PlaceOf, calls-place, RunPass, buf, calls-run-pass}
-use Rattle.decorrelation.proofs.Turns.{none, Ran, place-within, ran-start, ran-step, ran-end}
+use Rattle.decorrelation.proofs.Turns.{none, Turn, place-within, ran-start, ran-step, ran-end}
 use Rattle.decorrelation.proofs.lists.place.Symbol as place-def
 use Rattle.decorrelation.proofs.lists.place.Symbol.{name as #decorrelation·place}
 use Rattle.decorrelation.proofs.lists.place.Met as place-thm
@@ -76,32 +76,6 @@ use Rattle.decorrelation.proofs.lists.run_list.Code.Mir as body
 
 abbrev stayed : Stays (f.ended .signature .params) (f.ended .kept)
 stayed = (stay-none (λ _. D.the-row) yes, (stay-slice (0 ∷ []) tt (plain (λ _. T.the-row)), (stay-slice (1 ∷ []) tt (plain (λ _. i32)), tt)))
-
-abbrev Arg : Type 0
-Arg = Direction × (RefT (List DecorrPass) × (RefT (List ℤ) × Unit {0}))
-
--- the types of the locals that are slices: the passes, the buffer, and the buffer lent on
-abbrev word : Ty
-word = tyInt w64
-
-abbrev passesTy : Ty
-passesTy = sliceTy (tyRef (named 0) mut (pointee (T.the-row .written)))
-
-abbrev bufferTy : Ty
-bufferTy = sliceTy (tyRef (named 1) mut (tyInt w32))
-
-abbrev lentPtr : Ty
-lentPtr = tyRef erased mut (tyInt w32)
-
-abbrev lentTy : Ty
-lentTy = sliceTy lentPtr
-
--- where the loop stands: the turn's number, the passes and the buffer now, and what holds of them
-pub record Turn (dir : Direction) (P : List DecorrPass) (B : List ℤ) : Type 0 where
-  pub i : ℕ
-  pub ps : List DecorrPass
-  pub cs : List ℤ
-  pub good : Ran dir P B i ps cs
 
 module _ {M : Type 1} (𝓤 : URA M) (H : Heap 𝓤) (A : Atoms 𝓤) (W : Given 𝓤 H A) (at-mem : Memory → SProp 𝓤) (run : Routine → Fun 𝓤)
     (κ κ′ : Lft) (q q′ : Share) (b o : ℕ) (γ : GName) (dir : Direction) (dv : Val) (dv-is : Is D.the-row dir (dv ∷ [])) (dv-typed : WayTyped dv) (P : List DecorrPass) (b′ o′ : ℕ) (γ′ : GName) (B : List ℤ) where
@@ -117,7 +91,7 @@ module _ {M : Type 1} (𝓤 : URA M) (H : Heap 𝓤) (A : Atoms 𝓤) (W : Given
   abbrev y : List ℤ → RefT (List ℤ)
   y l = buf b′ o′ γ′ l
 
-  abbrev a : Arg
+  abbrev a : Direction × (RefT (List DecorrPass) × (RefT (List ℤ) × Unit {0}))
   a = (dir, (x P, (y B, tt)))
 
   abbrev s : Val
@@ -148,12 +122,12 @@ module _ {M : Type 1} (𝓤 : URA M) (H : Heap 𝓤) (A : Atoms 𝓤) (W : Given
   module _ (𝓣 : Tables 𝓤 H) (known-place : Triple 𝓤 (𝓣 .C #decorrelation·place) (PlaceOf 𝓤 H A at-mem run)) (known : Triple 𝓤 (𝓣 .C #pass_runs·run-pass) (RunPass 𝓤 H A at-mem run)) (gn : Room T.the-row n) (gm : Room i32 m) where
     module _ (l₀ l₁ l₂ l₃ l₄ l₅ l₆ l₇ l₈ l₉ l₁₀ l₁₁ l₁₂ l₁₃ l₁₄ l₁₅ : ℕ) where
       abbrev E : Env 𝓤 H
-      E = (tyUnit, l₀) ∷ (wayTy, l₁) ∷ (passesTy, l₂) ∷ (bufferTy, l₃) ∷ (word, l₄) ∷ (word, l₅) ∷ (word, l₆) ∷ (passTy, l₇) ∷ (passTy, l₈) ∷ (tyBool, l₉) ∷ (word, l₁₀) ∷ (tyPtr, l₁₁) ∷ (passTy, l₁₂) ∷ (lentPtr, l₁₃) ∷ (lentTy, l₁₄) ∷ (tyPtr, l₁₅) ∷ []
+      E = (tyUnit, l₀) ∷ (wayTy, l₁) ∷ (passesTy, l₂) ∷ (bufferTy, l₃) ∷ (word, l₄) ∷ (word, l₅) ∷ (word, l₆) ∷ (passTy, l₇) ∷ (passTy, l₈) ∷ (tyBool, l₉) ∷ (word, l₁₀) ∷ (tyPtr, l₁₁) ∷ (passTy, l₁₂) ∷ (lentNumbers erased, l₁₃) ∷ (sliceTy (lentNumbers erased), l₁₄) ∷ (tyPtr, l₁₅) ∷ []
 
       -- the context at a turn: local k stands at 36 - 2 k
       abbrev I : Turn dir P B → List (Item 𝓤)
       I t = ‵ (row T.the-row fullShare (t .ps) b o) ∷ ‵ (fobor κ q (Held T.the-row n b o γ)) ∷ ‵ (fobs γ (codedHoleys T.the-row .code (heres T.the-row P))) ∷ ‵ (fauth γ (codedHoleys T.the-row .code (heres T.the-row P))) ∷ Buffer (t .cs) ∷ ‵ (flft κ′ q′)
-          ∷ ‵ (froom tyPtr l₁₅ 0) ∷ ‵ (fdies tyPtr l₁₅) ∷ ‵ (froom lentTy l₁₄ 0) ∷ ‵ (fdies lentTy l₁₄) ∷ ‵ (froom lentPtr l₁₃ 0) ∷ ‵ (fdies lentPtr l₁₃) ∷ ‵ (froom passTy l₁₂ 0) ∷ ‵ (fdies passTy l₁₂)
+          ∷ ‵ (froom tyPtr l₁₅ 0) ∷ ‵ (fdies tyPtr l₁₅) ∷ ‵ (froom (sliceTy (lentNumbers erased)) l₁₄ 0) ∷ ‵ (fdies (sliceTy (lentNumbers erased)) l₁₄) ∷ ‵ (froom (lentNumbers erased) l₁₃ 0) ∷ ‵ (fdies (lentNumbers erased) l₁₃) ∷ ‵ (froom passTy l₁₂ 0) ∷ ‵ (fdies passTy l₁₂)
           ∷ ‵ (froom tyPtr l₁₁ 0) ∷ ‵ (fdies tyPtr l₁₁) ∷ ‵ (froom word l₁₀ 0) ∷ ‵ (fdies word l₁₀) ∷ ‵ (froom tyBool l₉ 0) ∷ ‵ (fdies tyBool l₉) ∷ ‵ (froom passTy l₈ 0) ∷ ‵ (fdies passTy l₈) ∷ ‵ (froom passTy l₇ 0) ∷ ‵ (fdies passTy l₇)
           ∷ ‵ (froom word l₆ 0) ∷ ‵ (fdies word l₆) ∷ ‵ (fat fullShare word l₅ 0 (vint w64 (t .i))) ∷ ‵ (fdies word l₅) ∷ ‵ (fat fullShare word l₄ 0 (vint w64 n)) ∷ ‵ (fdies word l₄) ∷ ‵ (fat fullShare bufferTy l₃ 0 s′) ∷ ‵ (fdies bufferTy l₃)
           ∷ ‵ (fat fullShare passesTy l₂ 0 s) ∷ ‵ (fdies passesTy l₂) ∷ ‵ (fat fullShare wayTy l₁ 0 (dv)) ∷ ‵ (fdies wayTy l₁) ∷ ‵ (froom tyUnit l₀ 0) ∷ ‵ (fdies tyUnit l₀) ∷ []
@@ -190,7 +164,8 @@ module _ {M : Type 1} (𝓤 : URA M) (H : Heap 𝓤) (A : Atoms 𝓤) (W : Given
           rewrite ! 14 (λ (k : ℕ). ‵ (fat fullShare tyPtr l₁₁ 0 (vptr b k))) (sym (place-is 80 o j)) refl $
           elem-out ! T.the-row (Is T.the-row) (shows 𝓤 H A T.the-row) (LL.vals T.the-type T′.the-laws) (LL.tells T.the-type T′.the-laws) fullShare ps j none b o within (λ g.
           let typed = LL.lawful T.the-type T′.the-laws 𝓤 H A W .typed p _ g .0 in
-          -- [passes[j]; what it owns; the others; the open borrow; obs; auth; the buffer; its token; _15; …]: local k stands at 38 - 2 k
+          -- [passes[j]; what it owns; the others; the open borrow; obs; auth; the buffer; its
+          -- token; _15; …]: local k stands at 38 - 2 k
           assigns ! (of-opd ! (load ! (from ! (hop ! (look ! 16 refl) (stop !))) (look-raw ! 0 refl))) (from ! (stop !)) (init ! 14 refl typed) $
           assigns ! (of-opd ! (load ! (from ! (stop !)) (look ! 14 refl))) (from ! (stop !)) (init ! 24 refl typed) $
           -- the buffer is lent on
@@ -201,7 +176,8 @@ module _ {M : Type 1} (𝓤 : URA M) (H : Heap 𝓤) (A : Atoms 𝓤) (W : Given
           (λ ν δ. and-then ! (load ! (from ! (stop !)) (look ! 36 refl)) (and-then ! (load ! (from ! (stop !)) (look ! 24 refl)) (and-then ! (load ! (from ! (stop !)) (look ! 10 refl)) (no-more !))))
           (λ w r zs is e el.
           let typed-r = LL.lawful T.the-type T′.the-laws 𝓤 H A W .typed r _ is .0 in
-          -- [the buffer; its token; what r owns; passes[j]; what it owns; the others; the open borrow; obs; auth; _15; …]: local k stands at 39 - 2 k
+          -- [the buffer; its token; what r owns; passes[j]; what it owns; the others; the open
+          -- borrow; obs; auth; _15; …]: local k stands at 39 - 2 k
           land ! (from ! (stop !)) (init ! 23 refl typed-r) $
           -- the result is stored
           assigns ! (bin ! (load ! (from ! (stop !)) (look ! 27 refl)) (lit ! tt) (record { fits = scaled })) (from ! (stop !)) (store ! 19 refl (tt, record { fits = scaled })) $

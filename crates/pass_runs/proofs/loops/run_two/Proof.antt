@@ -1,4 +1,5 @@
--- `loops::run_two` meets its contract. At each turn `Done` holds; the measure is what is left of the buffer. Assumes nothing.
+-- `loops::run_two` meets its contract. At each turn `Done` holds; the measure is what is left of
+-- the buffer. Assumes nothing.
 use mathlib.Core.Path.{_≡_}
 use Prim.Native.Nat.{_-_, _+_, _<_}
 use native.Mathlib.Omega.{arith}

@@ -1,3 +1,4 @@
+-- `pass_runs::turns::either` meets its contract. Assumes nothing.
 use mir.Syntax.{w32}
 use mir.ValLaws.{toZ-ofZ}
 use Rattle.pass_runs.proofs.turns.either.Statement.{statement}

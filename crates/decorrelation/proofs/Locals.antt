@@ -1,11 +1,14 @@
--- A direction in a walk: its machine value and its type; and the type of a pass. Assumes nothing.
+-- The locals of the walks: a direction's machine value, and the types that the code spells. Assumes
+-- nothing.
 use mathlib.Core.Path.{_≡_, refl}
 use mathlib.Core.List.{List, [], _∷_}
 use Prim.Native.Nat.{ℕ, _^_}
 use lib.Dec.{T, ltb, lit<}
-use mir.Syntax.{Ty, tyInt, tyArray, tyStruct, tyEnum, tnil, tcons, ttnil, ttcons, w8, w32}
+use mir.Syntax.{Ty, Lifetime, named, mut, tyInt, tyRef, tyArray, tyStruct, tyEnum, tnil, tcons, ttnil, ttcons, w8, w32, w64}
 use mir.Val.{Val, WT, hasTy, bits, vint, vstruct, ofList}
 use denote.Laws.{Is, Tells}
+use denote.Memory.{pointee}
+use denote.Slice.{sliceTy}
 use denote.Enum.Laws as EL
 use Rattle.passes.specs.declared.Direction.{Direction}
 use Rattle.passes.specs.declared.Direction.the-variants.{Decorrelation, Analysis}
@@ -13,6 +16,36 @@ use Rattle.passes.proofs.DecorrPass as R
 use Rattle.passes.proofs.Direction as D
 use Rattle.passes.proofs.Direction.Laws as D′
 
+-- ---- types
+abbrev pub word : Ty
+word = tyInt w64
+
+-- a pass and a direction, spelled out: a walk that spells them anew costs the kernel too much
+abbrev pub passTy : Ty
+passTy =
+    tyStruct (R.struct .name)
+    (tcons (tyInt w8) (tcons (tyInt w32) (tcons (tyInt w32) (tcons (tyInt w32) (tcons (tyArray (tyInt w32) 8) (tcons (tyArray (tyInt w32) 8) tnil))))))
+
+abbrev pub wayTy : Ty
+wayTy = tyEnum (D.enum .name) (ttcons tnil (ttcons tnil ttnil))
+
+-- passes and numbers behind a reference, and the two parameters
+abbrev pub passPtr : Ty
+passPtr = pointee (R.the-row .written)
+
+abbrev pub lentPasses : Lifetime → Ty
+lentPasses ℓ = tyRef ℓ mut passPtr
+
+abbrev pub lentNumbers : Lifetime → Ty
+lentNumbers ℓ = tyRef ℓ mut (tyInt w32)
+
+abbrev pub passesTy : Ty
+passesTy = sliceTy (lentPasses (named 0))
+
+abbrev pub bufferTy : Ty
+bufferTy = sliceTy (lentNumbers (named 1))
+
+-- ---- a direction
 -- the machine value: shut, since a walk that sees through it costs the kernel too much
 unfoldable pub way : Direction → Val
 way dir = EL.val D.the-type D′.the-laws dir
@@ -31,15 +64,6 @@ way-is Analysis = EL.owes D.the-type D′.the-laws Analysis tt
 pub way-tells : Tells D.the-row (Is D.the-row) ways
 unfolding way
 way-tells = EL.tells D.the-type D′.the-laws
-
--- the types of a pass and of a direction, as the code spells them: a walk that spells them anew costs the kernel too much
-abbrev pub passTy : Ty
-passTy =
-    tyStruct (R.struct .name)
-    (tcons (tyInt w8) (tcons (tyInt w32) (tcons (tyInt w32) (tcons (tyInt w32) (tcons (tyArray (tyInt w32) 8) (tcons (tyArray (tyInt w32) 8) tnil))))))
-
-abbrev pub wayTy : Ty
-wayTy = tyEnum (D.enum .name) (ttcons tnil (ttcons tnil ttnil))
 
 -- a value of that type
 abbrev pub WayTyped : Val → Type 0
