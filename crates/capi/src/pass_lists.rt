@@ -1,17 +1,11 @@
 // Pass making, decorrelation and analysis for a caller that holds its passes in lists of slots, 20 to a pass.
-use answers::Outcome;
-use answers::Refusal;
-use answers::number;
-use answers::outcome_number;
-use decorrelation::DecorrPass;
-use pass_slots::pass_slots;
+use decorrelation::Direction;
+use pass_slots::make_pass;
 use pass_slots::run_slots;
-use slots::lay;
 ghost use mathlib.Core.Path.{_≡_};
 ghost use Rattle.decorrelation.specs.Lists.{decorrelation, analysis};
 ghost use Rattle.slots.specs.Slots.{laidIf};
-ghost use Rattle.pass_slots.specs.PassSlots.{passesLeft, passesCall};
-ghost use Rattle.capi.specs.Passes.{passAnswer, passValues};
+ghost use Rattle.pass_slots.specs.PassSlots.{passAnswer, passValues, passesCall};
 
 // A pass made from its parts, into 20 slots. Refuses 6, then 7 and 8 as pass making does, with nothing written.
 #[no_mangle]
@@ -25,35 +19,35 @@ pub extern "C" fn wv_pass(
     pass: &mut [i32],
 ) -> u32
     ensures answer { λ r. ⌜ r ≡ passAnswer term (now («seed_a» .entry)) (now («seed_b» .entry)) (now (pass .entry)) ⌝ }
-    ensures pass { λ r. ⌜ now (pass .exit) ≡ laidIf r (passValues term delta «weight_a» «weight_b» (now («seed_a» .entry)) (now («seed_b» .entry))) (now (pass .entry)) ⌝ }
+    ensures pass { λ r. ⌜
+        now (pass .exit)
+        ≡ laidIf r
+        (passValues term delta «weight_a» «weight_b» (now («seed_a» .entry)) (now («seed_b» .entry)))
+        (now (pass .entry))
+        ⌝ }
 {
-    if pass.len() < 20 {
-        return number(Refusal::ListLength);
-    }
-    let answer = DecorrPass::new(term, delta, weight_a, weight_b, seed_a, seed_b);
-    let outcome = answer.outcome;
-    let made = answer.pass;
-    let Outcome::Accepted = outcome else {
-        return outcome_number(outcome);
-    };
-    let values = pass_slots(made);
-    lay(&values, 0, pass);
-    0
+    make_pass(term, delta, weight_a, weight_b, seed_a, seed_b, pass)
 }
 
-// Decorrelation of the buffer by passes of 20 slots each, which then hold the passes after. Refuses 6 for a length that is no
-// multiple of 20, then 5, 9 and 7, also for a term outside 8 bits; both lists are then as they were.
+// Decorrelation of the buffer by passes of 20 slots each, which then hold the passes after. Refuses 6 for a length that is
+// no multiple of 20, then 5, 9 and 7, also for a term outside 8 bits; both lists are then as they were.
 #[no_mangle]
 pub extern "C" fn wv_decorrelate(passes: &mut [i32], buffer: &mut [i32]) -> u32
-    ensures { λ r. ⌜ passesLeft r (now (passes .exit)) (now (buffer .exit)) ≡ passesCall decorrelation (now (passes .entry)) (now (buffer .entry)) ⌝ }
+    ensures { λ r. ⌜
+        record { refusal = r; passes = now (passes .exit); buffer = now (buffer .exit) }
+        ≡ passesCall decorrelation (now (passes .entry)) (now (buffer .entry))
+        ⌝ }
 {
-    run_slots(false, passes, buffer)
+    run_slots(Direction::Decorrelation, passes, buffer)
 }
 
 // Analysis of the buffer, the last pass first. It refuses as decorrelation does.
 #[no_mangle]
 pub extern "C" fn wv_analyse(passes: &mut [i32], buffer: &mut [i32]) -> u32
-    ensures { λ r. ⌜ passesLeft r (now (passes .exit)) (now (buffer .exit)) ≡ passesCall analysis (now (passes .entry)) (now (buffer .entry)) ⌝ }
+    ensures { λ r. ⌜
+        record { refusal = r; passes = now (passes .exit); buffer = now (buffer .exit) }
+        ≡ passesCall analysis (now (passes .entry)) (now (buffer .entry))
+        ⌝ }
 {
-    run_slots(true, passes, buffer)
+    run_slots(Direction::Analysis, passes, buffer)
 }

@@ -1,100 +1,97 @@
 -- From the outcome of a list and what its run left to the answer of an entry. Assumes nothing.
 use mathlib.Core.Path.{_≡_, refl, sym, ap, _∙_}
-use mathlib.Core.Bool.{Bool, true, false}
+use mathlib.Core.Bool.{Bool, true, false, cond}
 use mathlib.Core.List.{List}
-use Prim.Native.Nat.{ℕ, _<_, _≤_}
+use Prim.Native.Nat.{ℕ, _<_}
 use native.Mathlib.Omega.{arith}
-use borrow.Author.Tests.{lt-ltb, le-ltb}
+use borrow.Author.Tests.{lt-ltb}
 use lib.Dec.{ltb}
 use lib.IntN.{ℤ}
 use lib.ListN.{length, take, drop}
-use Rattle.answers.specs.Numbers.{numberOf, outcomeNumber}
+use Rattle.answers.specs.Guard.{unlessRefused}
+use Rattle.answers.specs.Limits.{maxElements, maxPasses}
+use Rattle.answers.specs.Numbers.{outcomeNumber}
 use Rattle.answers.specs.declared.Outcome.{Outcome}
-use Rattle.answers.specs.declared.Refusal.{Refusal}
+use Rattle.answers.proofs.NumberLaws.{number-positive}
+use Rattle.answers.proofs.GuardLaws.{guard-refused}
 use Rattle.passes.specs.Run.{Chain}
 use Rattle.passes.specs.declared.DecorrPass.{DecorrPass}
-use Rattle.decorrelation.specs.Lists.{allValid, pickNumber, decorrelationNumber, analysisNumber, answerBy, numberBy, chained, listed, acceptedBy, followed, arrayAnswer, decorrelation, analysis}
+use Rattle.passes.specs.declared.Direction.{Direction}
+use Rattle.passes.specs.declared.Direction.the-variants.{Decorrelation, Analysis}
+use Rattle.decorrelation.specs.Lists.{allValid, listNumber, numberBy, Answer, done, kept, chained, listed, acceptedBy, followed, arrayAnswer}
 
--- a refusal keeps passes and buffer
-kept : (x : Refusal) (c : Chain) (ps : List DecorrPass) (l : List ℤ) → record { refusal = numberOf x; passes = ps; buffer = l } ≡ answerBy (numberOf x) c ps l
-kept Refusal.EntropyLength c ps l = refl
-kept Refusal.NotStereo c ps l = refl
-kept Refusal.Truncated c ps l = refl
-kept Refusal.EndOfStream c ps l = refl
-kept Refusal.TooLarge c ps l = refl
-kept Refusal.ListLength c ps l = refl
-kept Refusal.InvalidTerm c ps l = refl
-kept Refusal.SeedTooShort c ps l = refl
-kept Refusal.TooManyPasses c ps l = refl
-kept Refusal.ResidualOutOfSpan c ps l = refl
-kept Refusal.OutputTooShort c ps l = refl
-kept Refusal.InvalidChannel c ps l = refl
+-- both directions refuse the same lists
+pub number-by : (dir : Direction) (v : Bool) (n m : ℕ) → numberBy dir v n m ≡ listNumber v n m
+number-by Decorrelation v n m = refl
+number-by Analysis v n m = refl
 
-refusal-kept : (r : Outcome) (c : Chain) (ps : List DecorrPass) (l : List ℤ) → acceptedBy r ≡ false → record { refusal = outcomeNumber r; passes = ps; buffer = l } ≡ answerBy (outcomeNumber r) c ps l
-refusal-kept Outcome.Accepted c ps l a = cc
-refusal-kept (Outcome.Refused x) c ps l a = kept x c ps l
+refused-positive : (r : Outcome) → acceptedBy r ≡ false → 0 < outcomeNumber r
+refused-positive Outcome.Accepted a = absurd (let z : _≡_ {A = ℕ} 0 1 = cc in omega arith)
+refused-positive (Outcome.Refused x) a = number-positive x
 
 accepted-zero : (r : Outcome) → acceptedBy r ≡ true → outcomeNumber r ≡ 0
 accepted-zero Outcome.Accepted a = refl
 accepted-zero (Outcome.Refused x) a = cc
 
-never : (b : Bool) → 0 ≡ pickNumber b 5 9 → ⊥
-never true e = omega arith
-never false e = omega arith
-
-module _ (back : Bool) (ps : List DecorrPass) (l : List ℤ) where
+module _ (ps : List DecorrPass) (l : List ℤ) (r : Outcome) (n : ℕ) (e : outcomeNumber r ≡ n) (c : Chain) where
   -- an accepted list answers what its run left
-  pub answer-accepted : (r : Outcome) (zs : List DecorrPass) (cs : List ℤ) → outcomeNumber r ≡ numberBy back (allValid ps) (length ps) (length l) → acceptedBy r ≡ true
-      → record { passes = zs; buffer = cs } ≡ chained back ps l → record { refusal = outcomeNumber r; passes = zs; buffer = cs } ≡ listed back ps l
-  unfolding listed
-  answer-accepted r zs cs e a c =
-      let z : outcomeNumber r ≡ 0 = accepted-zero r a in
-      rw (← e, z) (ap (λ (x : Chain). record { refusal = 0; passes = x .passes; buffer = x .buffer }) c)
+  told-done : {zs : List DecorrPass} {cs : List ℤ} → acceptedBy r ≡ true → record { passes = zs; buffer = cs } ≡ c
+      → record { refusal = outcomeNumber r; passes = zs; buffer = cs } ≡ unlessRefused n (kept ps l) (done c)
+  told-done a f = let z : outcomeNumber r ≡ 0 = accepted-zero r a in rw (← e, z) (ap done f)
 
   -- a refused list answers what it was given
-  pub answer-refused : (r : Outcome) → outcomeNumber r ≡ numberBy back (allValid ps) (length ps) (length l) → acceptedBy r ≡ false
-      → record { refusal = outcomeNumber r; passes = ps; buffer = l } ≡ listed back ps l
+  told-kept : acceptedBy r ≡ false → record { refusal = outcomeNumber r; passes = ps; buffer = l } ≡ unlessRefused n (kept ps l) (done c)
+  told-kept a = rw (← e) (sym (guard-refused (outcomeNumber r) (kept ps l) (done c) (refused-positive r a)))
+
+module _ (dir : Direction) (ps : List DecorrPass) (l : List ℤ) where
+  number-of : (r : Outcome) → outcomeNumber r ≡ listNumber (allValid ps) (length ps) (length l) → outcomeNumber r ≡ numberBy dir (allValid ps) (length ps) (length l)
+  number-of r e = e ∙ sym (number-by dir (allValid ps) (length ps) (length l))
+
+  -- an accepted list
+  pub answer-accepted : (r : Outcome) (zs : List DecorrPass) (cs : List ℤ) → outcomeNumber r ≡ listNumber (allValid ps) (length ps) (length l) → acceptedBy r ≡ true
+      → record { passes = zs; buffer = cs } ≡ chained dir ps l → record { refusal = outcomeNumber r; passes = zs; buffer = cs } ≡ listed dir ps l
   unfolding listed
-  answer-refused r e a = rw (← e) (refusal-kept r (chained back ps l) ps l a)
+  answer-accepted r zs cs e a c = told-done ps l r _ (number-of r e) (chained dir ps l) a c
 
--- decorrelation is the forward answer
-pub listed-decorrelation : (ps : List DecorrPass) (l : List ℤ) → listed false ps l ≡ decorrelation ps l
-unfolding listed decorrelation
-listed-decorrelation ps l = refl
-
--- analysis is the backward answer
-pub listed-analysis : (ps : List DecorrPass) (l : List ℤ) → listed true ps l ≡ analysis ps l
-unfolding listed analysis
-listed-analysis ps l = refl
+  -- a refused list
+  pub answer-refused : (r : Outcome) → outcomeNumber r ≡ listNumber (allValid ps) (length ps) (length l) → acceptedBy r ≡ false
+      → record { refusal = outcomeNumber r; passes = ps; buffer = l } ≡ listed dir ps l
+  unfolding listed
+  answer-refused r e a = told-kept ps l r _ (number-of r e) (chained dir ps l) a
 
 -- ---- the first n passes of an array
--- more than 16 passes are refused
-many-refused : (back : Bool) (n m : ℕ) (r : Outcome) → outcomeNumber r ≡ numberBy back true n m → 16 < n → acceptedBy r ≡ false
-unfolding decorrelationNumber analysisNumber
-many-refused back n m (Outcome.Refused x) e h = refl
-many-refused true n m Outcome.Accepted e h = absurd (never (ltb 262144 m) (rw (lt-ltb 16 n h) at e))
-many-refused false n m Outcome.Accepted e h = absurd (never (ltb 262144 m) (rw (lt-ltb 16 n h) at e))
 
-module _ (back : Bool) (ps : List DecorrPass) (n : ℕ) (l : List ℤ) (r : Outcome) where
-  by-refusal : (c : Chain) (k : ℕ) → outcomeNumber r ≡ k → acceptedBy r ≡ false → record { refusal = outcomeNumber r; passes = ps; buffer = l } ≡ answerBy k c ps l
-  by-refusal c k e a = refusal-kept r c ps l a ∙ ap (λ j. answerBy j c ps l) e
+-- more passes than a list may have are refused, whatever their terms
+pub many-number : (v : Bool) (n m : ℕ) → maxPasses < n → listNumber true n m ≡ listNumber v n m
+unfolding listNumber
+many-number v n m h = rw (lt-ltb maxPasses n h)
+
+-- 5 or 9
+positive : (b : Bool) → 0 < cond b 5 9
+positive true = omega arith
+positive false = omega arith
+
+pub many-positive : (n m : ℕ) → maxPasses < n → 0 < listNumber true n m
+unfolding listNumber
+many-positive n m h = rw (lt-ltb maxPasses n h) (positive (ltb maxElements m))
+
+not-accepted : (n m : ℕ) (r : Outcome) → outcomeNumber r ≡ listNumber true n m → maxPasses < n → acceptedBy r ≡ false
+not-accepted n m (Outcome.Refused x) e h = refl
+not-accepted n m Outcome.Accepted e h = absurd (omega (arith, e, many-positive n m h))
+
+module _ (dir : Direction) (ps : List DecorrPass) (n : ℕ) (l : List ℤ) (r : Outcome) where
+  -- a list that is refused
+  pub array-refused : {v : Bool} → v ≡ allValid (take n ps) → outcomeNumber r ≡ listNumber v n (length l) → acceptedBy r ≡ false
+      → record { refusal = outcomeNumber r; passes = ps; buffer = l } ≡ arrayAnswer dir ps n l
+  unfolding arrayAnswer
+  array-refused ev e a = told-kept ps l r _ ((rw ev at e) ∙ sym (number-by dir _ n (length l))) (followed (drop n ps) (chained dir (take n ps) l)) a
 
   -- more than the array has
-  pub array-many : outcomeNumber r ≡ numberBy back true n (length l) → 16 < n → record { refusal = outcomeNumber r; passes = ps; buffer = l } ≡ arrayAnswer back ps n l
-  unfolding arrayAnswer
-  array-many e h = rw (lt-ltb 16 n h) (by-refusal (chained back ps l) _ e (many-refused back n (length l) r e h))
-
-  -- a list that is refused
-  pub array-refused : {v : Bool} → v ≡ allValid (take n ps) → outcomeNumber r ≡ numberBy back v n (length l) → n ≤ 16 → acceptedBy r ≡ false
-      → record { refusal = outcomeNumber r; passes = ps; buffer = l } ≡ arrayAnswer back ps n l
-  unfolding arrayAnswer
-  array-refused ev e h a = rw (le-ltb 16 n h) (by-refusal (followed (drop n ps) (chained back (take n ps) l)) _ (rw ev at e) a)
+  pub array-many : outcomeNumber r ≡ listNumber true n (length l) → maxPasses < n → record { refusal = outcomeNumber r; passes = ps; buffer = l } ≡ arrayAnswer dir ps n l
+  array-many e h = array-refused refl (e ∙ many-number (allValid (take n ps)) n (length l) h) (not-accepted n (length l) r e h)
 
   -- a list that is accepted
-  pub array-accepted : {v : Bool} {zs : List DecorrPass} {cs : List ℤ} → v ≡ allValid (take n ps) → outcomeNumber r ≡ numberBy back v n (length l) → n ≤ 16 → acceptedBy r ≡ true
-      → record { passes = zs; buffer = cs } ≡ followed (drop n ps) (chained back (take n ps) l) → record { refusal = outcomeNumber r; passes = zs; buffer = cs } ≡ arrayAnswer back ps n l
+  pub array-accepted : {v : Bool} {zs : List DecorrPass} {cs : List ℤ} → v ≡ allValid (take n ps) → outcomeNumber r ≡ listNumber v n (length l) → acceptedBy r ≡ true
+      → record { passes = zs; buffer = cs } ≡ followed (drop n ps) (chained dir (take n ps) l) → record { refusal = outcomeNumber r; passes = zs; buffer = cs } ≡ arrayAnswer dir ps n l
   unfolding arrayAnswer
-  array-accepted {v} {zs} {cs} ev e h a c =
-      let z : outcomeNumber r ≡ 0 = accepted-zero r a in
-      let k : 0 ≡ numberBy back (allValid (take n ps)) n (length l) = sym z ∙ (rw ev at e) in
-      rw (le-ltb 16 n h, z, ← k) (ap (λ (x : Chain). record { refusal = 0; passes = x .passes; buffer = x .buffer }) c)
+  array-accepted ev e a c = told-done ps l r _ ((rw ev at e) ∙ sym (number-by dir _ n (length l))) (followed (drop n ps) (chained dir (take n ps) l)) a c

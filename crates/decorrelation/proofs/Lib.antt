@@ -1,9 +1,12 @@
+-- What the proofs of the functions and other crates cite.
 pub mod ByteLaws
 pub mod Lending
 pub mod Front
 pub mod Turns
 pub mod Answers
-pub mod Calls
-pub mod CheckCalls
-pub mod CheckedCall
+pub mod Ways
+pub mod TurnCalls
+pub mod TestCalls
+pub mod EntryCall
+pub mod Entries
 pub mod Theorems

@@ -1,39 +1,38 @@
 -- What holds of the two entries together. A recording, or a residual list, is a list of 32-bit numbers (`Fit`); passes are well-made when
 -- every term is valid, whatever their weights, deltas and histories hold. Assumes nothing.
 use mathlib.Core.Path.{_≡_, refl, sym, ap, _∙_}
-use mathlib.Core.Bool.{Bool, true}
+use mathlib.Core.Bool.{Bool, true, false, cond}
 use mathlib.Core.List.{List, _++_}
 use Prim.Native.Nat.{ℕ, zero, suc, _≤_}
-use borrow.Author.Tests.{le-ltb}
+use native.Mathlib.Omega.{arith}
+use borrow.Author.Tests.{le-ltb, ltb-false}
+use lib.Dec.{ltb}
 use lib.IntN.{ℤ}
 use lib.ListN.{length, take, drop, take-append-drop}
 use lib.Seq.{length-take-le}
+use Rattle.answers.specs.Guard.{unlessRefused}
+use Rattle.answers.specs.Limits.{maxElements, maxPasses}
 use Rattle.passes.specs.Run.{Fit, Chain, decorrelated, analysed}
 use Rattle.passes.specs.declared.DecorrPass.{DecorrPass}
 use Rattle.passes.proofs.RunInverse.{analysed-fit, analysed-length, decorrelated-length, decorrelated-analysed, analysed-decorrelated}
 use Rattle.passes.proofs.Unique.{residuals-unique}
 use Rattle.passes.proofs.Bounds.{AllBounded, decorrelated-bounded, analysed-bounded}
-use Rattle.decorrelation.specs.Lists.{allValid, decorrelationNumber, analysisNumber, numberBy, Answer, answerBy, chained, listed, followed, arrayAnswer, decorrelation, analysis}
+use Rattle.passes.specs.declared.Direction.{Direction}
+use Rattle.passes.specs.declared.Direction.the-variants.{Decorrelation, Analysis}
+use Rattle.decorrelation.specs.Lists.{allValid, listNumber, numberBy, Answer, done, kept, chained, listed, followed, arrayAnswer, decorrelation, analysis}
+use Rattle.decorrelation.proofs.Answers.{number-by}
 
 -- what both entries accept: at most 16 well-made passes, and at most 262,144 elements
 pub record Accepted (ps : List DecorrPass) (l : List ℤ) : Type 0 where
   pub well-made : allValid ps ≡ true
-  pub few : length ps ≤ 16
-  pub short : length l ≤ 262144
+  pub few : length ps ≤ maxPasses
+  pub short : length l ≤ maxElements
 
--- an answer with nothing refused
-abbrev pub done : Chain → Answer
-done c = record { refusal = 0; passes = c .passes; buffer = c .buffer }
-
--- decorrelation of what is accepted
-pub decorrelation-accepts : (ps : List DecorrPass) (l : List ℤ) → Accepted ps l → decorrelation ps l ≡ done (decorrelated ps l)
-unfolding decorrelation decorrelationNumber
-decorrelation-accepts ps l h = rw (le-ltb 262144 (length l) (h .short), le-ltb 16 (length ps) (h .few), h .well-made)
-
--- analysis of what is accepted
-pub analysis-accepts : (ps : List DecorrPass) (l : List ℤ) → Accepted ps l → analysis ps l ≡ done (analysed ps l)
-unfolding analysis analysisNumber
-analysis-accepts ps l h = rw (le-ltb 262144 (length l) (h .short), le-ltb 16 (length ps) (h .few), h .well-made)
+-- what is accepted is run
+pub listed-accepts : (dir : Direction) (ps : List DecorrPass) (l : List ℤ) → Accepted ps l → listed dir ps l ≡ done (chained dir ps l)
+unfolding listed listNumber
+listed-accepts dir ps l h =
+    rw (number-by dir (allValid ps) (length ps) (length l), le-ltb maxElements (length l) (h .short), le-ltb maxPasses (length ps) (h .few), h .well-made)
 
 module _ (ps : List DecorrPass) (l : List ℤ) (h : Accepted ps l) (fit : Fit l) where
   after-analysis : Accepted ps (analysed ps l .buffer)
@@ -45,21 +44,22 @@ module _ (ps : List DecorrPass) (l : List ℤ) (h : Accepted ps l) (fit : Fit l)
   -- analysis, then decorrelation, returns the recording, and leaves the passes that analysis left
   pub decorrelation-analysis : decorrelation ps (analysis ps l .buffer) ≡ record { refusal = 0; passes = analysis ps l .passes; buffer = l }
   decorrelation-analysis =
-      rw (analysis-accepts ps l h, decorrelation-accepts ps (analysed ps l .buffer) after-analysis) (ap done (decorrelated-analysed ps l fit))
+      rw (listed-accepts Analysis ps l h, listed-accepts Decorrelation ps (analysed ps l .buffer) after-analysis) (ap done (decorrelated-analysed ps l fit))
 
   -- decorrelation, then analysis, returns the residuals, and leaves the passes that decorrelation left
   pub analysis-decorrelation : analysis ps (decorrelation ps l .buffer) ≡ record { refusal = 0; passes = decorrelation ps l .passes; buffer = l }
   analysis-decorrelation =
-      rw (decorrelation-accepts ps l h, analysis-accepts ps (decorrelated ps l .buffer) after-decorrelation) (ap done (analysed-decorrelated ps l fit))
+      rw (listed-accepts Decorrelation ps l h, listed-accepts Analysis ps (decorrelated ps l .buffer) after-decorrelation) (ap done (analysed-decorrelated ps l fit))
 
-unique-by : (n : ℕ) (ps : List DecorrPass) (r s : List ℤ) → Fit r → Fit s → answerBy n (decorrelated ps r) ps r .buffer ≡ answerBy n (decorrelated ps s) ps s .buffer → r ≡ s
+unique-by : (n : ℕ) (ps : List DecorrPass) (r s : List ℤ) → Fit r → Fit s
+    → unlessRefused n (kept ps r) (done (decorrelated ps r)) .buffer ≡ unlessRefused n (kept ps s) (done (decorrelated ps s)) .buffer → r ≡ s
 unique-by zero ps r s hr hs e = residuals-unique ps r s hr hs e
 unique-by (suc n) ps r s hr hs e = e
 
 -- two residual lists of one length that decorrelate to one recording are equal, for any list of passes
 pub decorrelation-unique : (ps : List DecorrPass) (r s : List ℤ) → length r ≡ length s → Fit r → Fit s → decorrelation ps r .buffer ≡ decorrelation ps s .buffer → r ≡ s
-unfolding decorrelation
-decorrelation-unique ps r s same hr hs e = unique-by (decorrelationNumber (allValid ps) (length ps) (length s)) ps r s hr hs (rw same at e)
+unfolding listed
+decorrelation-unique ps r s same hr hs e = unique-by (listNumber (allValid ps) (length ps) (length s)) ps r s hr hs (rw same at e)
 
 -- the residuals of a recording: a list of its length that decorrelates to it, and every such list is this one
 pub record OnlyResiduals (ps : List DecorrPass) (x r : List ℤ) : Type 0 where
@@ -71,7 +71,7 @@ pub record OnlyResiduals (ps : List DecorrPass) (x r : List ℤ) : Type 0 where
 -- so exactly one exists, and analysis finds it
 pub analysis-finds : (ps : List DecorrPass) (x : List ℤ) → Accepted ps x → Fit x → OnlyResiduals ps x (analysis ps x .buffer)
 analysis-finds ps x h fit =
-    let found : analysis ps x ≡ done (analysed ps x) = analysis-accepts ps x h in
+    let found : analysis ps x ≡ done (analysed ps x) = listed-accepts Analysis ps x h in
     let back : decorrelation ps (analysis ps x .buffer) .buffer ≡ x = ap (λ (o : Answer). o .buffer) (decorrelation-analysis ps x h fit) in
     let len : length (analysis ps x .buffer) ≡ length x = rw found (analysed-length ps x) in
     let good : Fit (analysis ps x .buffer) = rw found (analysed-fit ps x fit) in
@@ -82,35 +82,72 @@ analysis-finds ps x h fit =
       only = λ s hs e d. decorrelation-unique ps s (analysis ps x .buffer) (e ∙ sym len) hs good (d ∙ sym back);
     }
 
-bounded-by : (n : ℕ) (c : Chain) (ps : List DecorrPass) (l : List ℤ) → AllBounded ps → AllBounded (c .passes) → AllBounded (answerBy n c ps l .passes)
+bounded-by : (n : ℕ) (c : Chain) (ps : List DecorrPass) (l : List ℤ) → AllBounded ps → AllBounded (c .passes) → AllBounded (unlessRefused n (kept ps l) (done c) .passes)
 bounded-by zero c ps l h k = k
 bounded-by (suc n) c ps l h k = h
 
 -- cross weights within 1024 of 0, with delta 0 to 7, stay there, through decorrelation and through analysis
 pub decorrelation-bounded : (ps : List DecorrPass) (l : List ℤ) → AllBounded ps → AllBounded (decorrelation ps l .passes)
-unfolding decorrelation
-decorrelation-bounded ps l h = bounded-by (decorrelationNumber (allValid ps) (length ps) (length l)) (decorrelated ps l) ps l h (decorrelated-bounded ps l h)
+unfolding listed
+decorrelation-bounded ps l h = bounded-by (listNumber (allValid ps) (length ps) (length l)) (decorrelated ps l) ps l h (decorrelated-bounded ps l h)
 
 -- the same through analysis
 pub analysis-bounded : (ps : List DecorrPass) (l : List ℤ) → AllBounded ps → AllBounded (analysis ps l .passes)
-unfolding analysis
-analysis-bounded ps l h = bounded-by (analysisNumber (allValid ps) (length ps) (length l)) (analysed ps l) ps l h (analysed-bounded ps l h)
+unfolding listed
+analysis-bounded ps l h = bounded-by (listNumber (allValid ps) (length ps) (length l)) (analysed ps l) ps l h (analysed-bounded ps l h)
 
 -- ---- the array form
 -- the passes of an answer, followed by those that are not run
 abbrev pub extended : List DecorrPass → Answer → Answer
 extended rest a = record { refusal = a .refusal; passes = a .passes ++ rest; buffer = a .buffer }
 
-extended-by : (k : ℕ) (c : Chain) (ps rest : List DecorrPass) (l : List ℤ) → answerBy k (followed rest c) (ps ++ rest) l ≡ extended rest (answerBy k c ps l)
+extended-by : (k : ℕ) (c : Chain) (ps rest : List DecorrPass) (l : List ℤ)
+    → unlessRefused k (kept (ps ++ rest) l) (done (followed rest c)) ≡ extended rest (unlessRefused k (kept ps l) (done c))
 extended-by zero c ps rest l = refl
 extended-by (suc k) c ps rest l = refl
 
 -- the first n passes of an array are answered as a list of n is, and those behind keep their values
-pub array-as-list : (back : Bool) (ps : List DecorrPass) (n : ℕ) (l : List ℤ) → n ≤ 16 → n ≤ length ps → arrayAnswer back ps n l ≡ extended (drop n ps) (listed back (take n ps) l)
+pub array-as-list : (dir : Direction) (ps : List DecorrPass) (n : ℕ) (l : List ℤ) → n ≤ length ps → arrayAnswer dir ps n l ≡ extended (drop n ps) (listed dir (take n ps) l)
 unfolding arrayAnswer listed
-array-as-list back ps n l h k =
+array-as-list dir ps n l k =
     let whole : take n ps ++ drop n ps ≡ ps = take-append-drop n ps in
-    let len : length (take n ps) ≡ n = length-take-le n ps k in
-    rw (le-ltb 16 n h, len)
-    (ap (λ qs. answerBy (numberBy back (allValid (take n ps)) n (length l)) (followed (drop n ps) (chained back (take n ps) l)) qs l) (sym whole)
-    ∙ extended-by (numberBy back (allValid (take n ps)) n (length l)) (chained back (take n ps) l) (take n ps) (drop n ps) l)
+    let number = numberBy dir (allValid (take n ps)) n (length l) in
+    rw (length-take-le n ps k)
+    (ap (λ qs. unlessRefused number (kept qs l) (done (followed (drop n ps) (chained dir (take n ps) l)))) (sym whole)
+    ∙ extended-by number (chained dir (take n ps) l) (take n ps) (drop n ps) l)
+
+-- what the array form accepts: at most 16 passes, at most 262,144 elements, and valid terms
+pub record ArrayAccepted (ps : List DecorrPass) (n : ℕ) (l : List ℤ) : Type 0 where
+  pub few : n ≤ maxPasses
+  pub size : length l ≤ maxElements
+  pub valid : allValid (take n ps) ≡ true
+
+-- then the first n passes are run
+pub array-runs : (dir : Direction) (ps : List DecorrPass) (n : ℕ) (l : List ℤ) → ArrayAccepted ps n l → arrayAnswer dir ps n l ≡ done (followed (drop n ps) (chained dir (take n ps) l))
+unfolding arrayAnswer listNumber
+array-runs dir ps n l h = rw (number-by dir (allValid (take n ps)) n (length l), le-ltb maxElements (length l) (h .size), le-ltb maxPasses n (h .few), h .valid)
+
+number-told : (k : ℕ) (ps : List DecorrPass) (l : List ℤ) (c : Chain) → unlessRefused k (kept ps l) (done c) .refusal ≡ k
+number-told zero ps l c = refl
+number-told (suc k) ps l c = refl
+
+no-refusal : (s t v : Bool) → _≡_ {A = ℕ} (cond s 5 (cond t 9 (cond v 0 7))) 0 → (s ≡ false) × (t ≡ false) × (v ≡ true)
+no-refusal true t v e = absurd (omega arith)
+no-refusal false true v e = absurd (omega arith)
+no-refusal false false true e = (refl, refl, refl)
+no-refusal false false false e = absurd (omega arith)
+
+-- a number that tells no refusal tells that all of it holds
+pub array-known : (ps : List DecorrPass) (n : ℕ) (l : List ℤ) → listNumber (allValid (take n ps)) n (length l) ≡ 0 → ArrayAccepted ps n l
+unfolding listNumber
+array-known ps n l e =
+    let t = no-refusal (ltb maxElements (length l)) (ltb maxPasses n) (allValid (take n ps)) e in
+    record { few = ltb-false maxPasses n (t .1); size = ltb-false maxElements (length l) (t .0); valid = t .2 }
+
+-- an answer without a refusal tells that it was accepted
+pub array-made : (dir : Direction) (ps : List DecorrPass) (n : ℕ) (l : List ℤ) → arrayAnswer dir ps n l .refusal ≡ 0 → ArrayAccepted ps n l
+unfolding arrayAnswer
+array-made dir ps n l e =
+    let v = allValid (take n ps) in
+    array-known ps n l
+    (sym (number-by dir v n (length l)) ∙ sym (number-told (numberBy dir v n (length l)) ps l (followed (drop n ps) (chained dir (take n ps) l))) ∙ e)

@@ -11,6 +11,8 @@ use lib.ListN.{length, take, drop, set, getD, length-set, drop-of-length-le}
 use lib.Seq.{drop-cons, take-length, drop-length, length-take-le, getD-take}
 use Rattle.passes.specs.Run.{Run, passed, Chain, decorrelated, analysed}
 use Rattle.passes.specs.declared.DecorrPass.{DecorrPass}
+use Rattle.passes.specs.declared.Direction.{Direction}
+use Rattle.passes.specs.declared.Direction.the-variants.{Decorrelation, Analysis}
 use Rattle.passes.proofs.RunInverse.{passed-length}
 use Rattle.passes.proofs.ListLaws.{before, behind, forth, forth-end, back as back-law}
 use Rattle.decorrelation.specs.Lists.{validPass, allValid, chained, placeOf}
@@ -41,65 +43,65 @@ module _ (P : List DecorrPass) where
   sound-end i f l = rw (← f .same, drop-of-length-le P l)
 
 -- ---- the loop that runs the passes: what i turns have done, joined to what is left, is the whole
-abbrev pending : Bool → ℕ → List DecorrPass → List ℤ → Chain
-pending true i ps cs = behind (drop (length ps - i) ps) (analysed (take (length ps - i) ps) cs)
-pending false i ps cs = before (take i ps) (decorrelated (drop i ps) cs)
+abbrev pending : Direction → ℕ → List DecorrPass → List ℤ → Chain
+pending Analysis i ps cs = behind (drop (length ps - i) ps) (analysed (take (length ps - i) ps) cs)
+pending Decorrelation i ps cs = before (take i ps) (decorrelated (drop i ps) cs)
 
-pub record Ran (back : Bool) (P : List DecorrPass) (B : List ℤ) (i : ℕ) (ps : List DecorrPass) (cs : List ℤ) : Type 0 where
+pub record Ran (dir : Direction) (P : List DecorrPass) (B : List ℤ) (i : ℕ) (ps : List DecorrPass) (cs : List ℤ) : Type 0 where
   pub count : i ≤ length P
   pub long : length ps ≡ length P
   pub wide : length cs ≡ length B
-  pub whole : pending back i ps cs ≡ chained back P B
+  pub whole : pending dir i ps cs ≡ chained dir P B
 
 -- the place of a turn lies in the list
-pub place-within : (back : Bool) (n i : ℕ) → i < n → placeOf back n i < n
-place-within true n i h = omega arith
-place-within false n i h = h
+pub place-within : (dir : Direction) (n i : ℕ) → i < n → placeOf dir n i < n
+place-within Analysis n i h = omega arith
+place-within Decorrelation n i h = h
 
-all-taken : (P : List DecorrPass) (B : List ℤ) → pending true 0 P B ≡ analysed P B
+all-taken : (P : List DecorrPass) (B : List ℤ) → pending Analysis 0 P B ≡ analysed P B
 all-taken P B =
     let e : length P - 0 ≡ length P = omega arith in
     rw (e, take-length, drop-length, append-nil)
 
-module _ (back : Bool) (P : List DecorrPass) (B : List ℤ) where
-  whole-start : (b : Bool) → pending b 0 P B ≡ chained b P B
-  whole-start true = all-taken P B
-  whole-start false = refl
+module _ (dir : Direction) (P : List DecorrPass) (B : List ℤ) where
+  whole-start : (b : Direction) → pending b 0 P B ≡ chained b P B
+  whole-start Analysis = all-taken P B
+  whole-start Decorrelation = refl
 
-  pub ran-start : Ran back P B 0 P B
-  ran-start = record { count = omega arith; long = refl; wide = refl; whole = whole-start back }
+  pub ran-start : Ran dir P B 0 P B
+  ran-start = record { count = omega arith; long = refl; wide = refl; whole = whole-start dir }
 
   -- a turn runs the pass at its place, and stores it
-  turned : (b : Bool) (i : ℕ) (ps : List DecorrPass) (cs : List ℤ) (r : Run) → i < length ps → r ≡ passed b (getD ps (placeOf b (length ps) i) none) cs
+  turned : (b : Direction) (i : ℕ) (ps : List DecorrPass) (cs : List ℤ) (r : Run) → i < length ps → r ≡ passed b (getD ps (placeOf b (length ps) i) none) cs
       → pending b (i + 1) (set ps (placeOf b (length ps) i) (r .pass)) (r .buffer) ≡ pending b i ps cs
-  turned true i ps cs r h e =
+  turned Analysis i ps cs r h e =
       let j : length ps - i ≡ suc (length ps - 1 - i) = omega arith in
       let k : length (set ps (length ps - 1 - i) (r .pass)) - (i + 1) ≡ length ps - 1 - i = simp length-set (omega arith) in
       rw (j, k) (sym (back-law (length ps - 1 - i) ps none cs r (omega arith) e))
-  turned false i ps cs r h e = rw (add-one i) (sym (forth i ps none cs r h e))
+  turned Decorrelation i ps cs r h e = rw (add-one i) (sym (forth i ps none cs r h e))
 
   -- one more pass has run
-  pub ran-step : (i : ℕ) (ps : List DecorrPass) (cs : List ℤ) (r : DecorrPass) (zs : List ℤ) → Ran back P B i ps cs → i < length P
-      → record { pass = r; buffer = zs } ≡ passed back (getD ps (placeOf back (length P) i) none) cs → Ran back P B (i + 1) (set ps (placeOf back (length P) i) r) zs
+  pub ran-step : (i : ℕ) (ps : List DecorrPass) (cs : List ℤ) (r : DecorrPass) (zs : List ℤ) → Ran dir P B i ps cs → i < length P
+      → record { pass = r; buffer = zs } ≡ passed dir (getD ps (placeOf dir (length P) i) none) cs → Ran dir P B (i + 1) (set ps (placeOf dir (length P) i) r) zs
   ran-step i ps cs r zs f l e =
       record {
         count = omega arith;
         long = length-set ps _ r ∙ f .long;
-        wide = ap (λ (o : Run). length (o .buffer)) e ∙ passed-length back _ cs ∙ f .wide;
-        whole = subst (λ n. pending back (i + 1) (set ps (placeOf back n i) r) zs ≡ chained back P B) (f .long)
-            (turned back i ps cs (record { pass = r; buffer = zs }) (omega (arith, f .long)) (rw (f .long) e) ∙ f .whole);
+        wide = ap (λ (o : Run). length (o .buffer)) e ∙ passed-length dir _ cs ∙ f .wide;
+        whole = subst (λ n. pending dir (i + 1) (set ps (placeOf dir n i) r) zs ≡ chained dir P B) (f .long)
+            (turned dir i ps cs (record { pass = r; buffer = zs }) (omega (arith, f .long)) (rw (f .long) e) ∙ f .whole);
       }
 
   -- no pass is left
-  ended : (b : Bool) (i : ℕ) (ps : List DecorrPass) (cs : List ℤ) → length ps ≤ i → record { passes = ps; buffer = cs } ≡ pending b i ps cs
-  ended true i ps cs h =
+  ended : (b : Direction) (i : ℕ) (ps : List DecorrPass) (cs : List ℤ) → length ps ≤ i → record { passes = ps; buffer = cs } ≡ pending b i ps cs
+  ended Analysis i ps cs h =
       let e : length ps - i ≡ 0 = omega arith in
       rw e
-  ended false i ps cs h = sym (forth-end ps i cs h)
+  ended Decorrelation i ps cs h = sym (forth-end ps i cs h)
 
   -- all passes have run
-  pub ran-end : (i : ℕ) (ps : List DecorrPass) (cs : List ℤ) → Ran back P B i ps cs → length P ≤ i → record { passes = ps; buffer = cs } ≡ chained back P B
-  ran-end i ps cs f l = ended back i ps cs (omega (arith, f .long)) ∙ f .whole
+  pub ran-end : (i : ℕ) (ps : List DecorrPass) (cs : List ℤ) → Ran dir P B i ps cs → length P ≤ i → record { passes = ps; buffer = cs } ≡ chained dir P B
+  ran-end i ps cs f l = ended dir i ps cs (omega (arith, f .long)) ∙ f .whole
 
 -- ---- the same over the first n passes of an array, where d stands for a pass where there is none
 module _ (n : ℕ) (ps : List DecorrPass) (d : DecorrPass) (few : n ≤ length ps) where

@@ -1,59 +1,62 @@
 -- The loop of terms -1 and -2: a turn of it is a step of the pass, and its start and end are the pass. Assumes nothing.
 use mathlib.Core.Path.{_≡_, refl}
-use mathlib.Core.Bool.{Bool, true, false}
+use mathlib.Core.Bool.{Bool, true, false, cond}
 use mathlib.Core.List.{List}
 use Prim.Native.Nat.{ℕ, _+_, _<_}
-use lib.IntN.{ℤ, pos}
-use lib.ListN.{length, getD, set, take, drop}
+use lib.IntN.{ℤ}
+use lib.ListN.{length, set}
 use mir.Syntax.{w32}
 use mir.Val.{SFits}
 use mir.ValLaws.{toZ-ofZ}
 use Rattle.wrapping.proofs.ReadBack.{reread}
-use Rattle.passes.specs.Step.{Stepped, step, unstep, advanced}
-use Rattle.passes.specs.Run.{Run, run, turn}
+use Rattle.passes.specs.Step.{Stepped, slot, step, unstep, advanced}
+use Rattle.passes.specs.Run.{turn}
 use Rattle.passes.specs.declared.DecorrPass.{DecorrPass}
-use Rattle.passes.proofs.LoopLaws.{joined, turn-raw}
-use Rattle.pass_runs.specs.Turns.{turned, eitherOf, crossTerm, lagAt, crossAt}
-use Rattle.pass_runs.specs.declared.Turned.{Turned}
+use Rattle.passes.specs.declared.Direction.{Direction}
+use Rattle.passes.specs.declared.Direction.the-variants.{Decorrelation, Analysis}
+use Rattle.pass_runs.specs.Turns.{turned, frameAt, frameStored, crossTerm, lagAt, crossAt}
+use Rattle.pass_runs.specs.declared.frames.Frame.{Frame}
+use Rattle.pass_runs.specs.declared.turns.Turned.{Turned}
+use Rattle.pass_runs.proofs.FrameLaws.{Done, FrameFits, TurnedFits, done-turn}
 use Rattle.pass_runs.proofs.TurnLaws.{head-back, head-set}
 
 -- a step, by the two channels: `f` exchanges them
-cross-step : (back f : Bool) (p : DecorrPass) (u v k : ℤ) (m : ℕ) (x y : ℤ)
-    → let a = turned back true u (p .delta) k (eitherOf f x y) in let b = turned back true v (p .delta) (a .sample) (eitherOf f y x) in
-    _≡_ {A = Stepped} (record { pass = crossAt f p (a .weight) (b .weight) (b .sample); a = eitherOf f (a .element) (b .element); b = eitherOf f (b .element) (a .element) }) (turn back (crossTerm f) (crossAt f p u v k) m x y)
+cross-step : (d : Direction) (f : Bool) (p : DecorrPass) (u v k : ℤ) (m : ℕ) (x y : ℤ)
+    → let a = turned d true u (p .delta) k (cond f y x) in let b = turned d true v (p .delta) (a .sample) (cond f x y) in
+    _≡_ {A = Stepped} (record { pass = crossAt f p (a .weight) (b .weight) (b .sample); a = cond f (b .element) (a .element); b = cond f (a .element) (b .element) })
+    (turn d (crossTerm f) (crossAt f p u v k) m x y)
 unfolding step unstep advanced
-cross-step true true p u v k m x y = refl
-cross-step true false p u v k m x y = refl
-cross-step false true p u v k m x y = refl
-cross-step false false p u v k m x y = refl
+cross-step Decorrelation true p u v k m x y = refl
+cross-step Decorrelation false p u v k m x y = refl
+cross-step Analysis true p u v k m x y = refl
+cross-step Analysis false p u v k m x y = refl
 
--- a turn of the loop
-pub cross-turn : (back f : Bool) (p : DecorrPass) (m i : ℕ) (l : List ℤ) (R : Run) (u v k : ℤ) {X Y C D : ℤ} (A B : Turned)
-    → joined (take i l) (run (turn back (crossTerm f)) (crossAt f p u v k) m (drop i l)) ≡ R
-    → X ≡ eitherOf f (reread (getD l i (pos 0))) (reread (getD l (i + 1) (pos 0))) → A ≡ turned back true u (reread (p .delta)) k (reread X)
-    → Y ≡ eitherOf f (reread (getD l (i + 1) (pos 0))) (reread (getD l i (pos 0))) → B ≡ turned back true v (reread (p .delta)) (reread (A .sample)) (reread Y)
-    → C ≡ eitherOf f (reread (A .element)) (reread (B .element)) → D ≡ eitherOf f (reread (B .element)) (reread (A .element))
-    → i + 1 < length l → SFits w32 (p .delta) → SFits w32 (getD l i (pos 0)) → SFits w32 (getD l (i + 1) (pos 0)) → SFits w32 X → SFits w32 Y → SFits w32 C → SFits w32 D
-    → SFits w32 (A .weight) → SFits w32 (A .element) → SFits w32 (A .sample) → SFits w32 (B .weight) → SFits w32 (B .element) → SFits w32 (B .sample)
-    → joined (take (i + 2) (set (set l i (reread C)) (i + 1) (reread D)))
-    (run (turn back (crossTerm f)) (crossAt f p (reread (A .weight)) (reread (B .weight)) (reread (B .sample))) (m + 1) (drop (i + 2) (set (set l i (reread C)) (i + 1) (reread D)))) ≡ R
-cross-turn back f p m i l R u v k {X} {Y} {C} {D} A B e ex ea ey eb ec ed h fd fx fy fX fY fC fD f1 f2 f3 f4 f5 f6 =
-    let eb′ : B ≡ turned back true v (p .delta) (A .sample) Y = rw (toZ-ofZ w32 _ fd, toZ-ofZ w32 _ f3, toZ-ofZ w32 Y fY) at eb in
-    let ea′ : A ≡ turned back true u (p .delta) k X = rw (toZ-ofZ w32 _ fd, toZ-ofZ w32 X fX) at ea in
-    let ec′ : C ≡ eitherOf f (A .element) (B .element) = rw (toZ-ofZ w32 _ f2, toZ-ofZ w32 _ f5) at ec in
-    let ed′ : D ≡ eitherOf f (B .element) (A .element) = rw (toZ-ofZ w32 _ f2, toZ-ofZ w32 _ f5) at ed in
-    let o : Stepped = record { pass = crossAt f p (A .weight) (B .weight) (B .sample); a = C; b = D } in
-    let eo : o ≡ turn back (crossTerm f) (crossAt f p u v k) m (reread (getD l i (pos 0))) (reread (getD l (i + 1) (pos 0)))
-    = rw (ec′, ed′, eb′, ea′, ex, ey) (cross-step back f p u v k m _ _) in
-    rw (toZ-ofZ w32 _ f1, toZ-ofZ w32 _ f4, toZ-ofZ w32 _ f6)
-    (turn-raw (turn back (crossTerm f)) (crossAt f p u v k) m i l o R e eo h fx fy fC fD)
+module _ (d : Direction) (f : Bool) (p : DecorrPass) (whole : List ℤ) where
+  -- a turn of the loop
+  pub cross-turn : (u v k : ℤ) {X Y C D : ℤ} {l after : List ℤ} {m i : ℕ} {r : Frame} (A B : Turned) → Done (turn d (crossTerm f)) p whole (crossAt f p u v k) l m i → i + 1 < length l
+      → r ≡ frameAt l i → X ≡ cond f (reread (r .b)) (reread (r .a)) → Y ≡ cond f (reread (r .a)) (reread (r .b))
+      → A ≡ turned d true u (reread (p .delta)) k (reread X) → B ≡ turned d true v (reread (p .delta)) (reread (A .sample)) (reread Y)
+      → C ≡ cond f (reread (B .element)) (reread (A .element)) → D ≡ cond f (reread (A .element)) (reread (B .element))
+      → after ≡ frameStored l i (reread C) (reread D)
+      → FrameFits r → SFits w32 X → SFits w32 Y → TurnedFits A → TurnedFits B → SFits w32 C → SFits w32 D
+      → Done (turn d (crossTerm f)) p whole (crossAt f p (reread (A .weight)) (reread (B .weight)) (reread (B .sample))) after (m + 1) (i + 2)
+  cross-turn u v k {X} {Y} {C} {D} {l} {after} {m} {i} {r} A B done h er ex ey ea eb ec ed es fr fX fY fa fb fC fD =
+      let eb′ : B ≡ turned d true v (p .delta) (A .sample) Y = rw (toZ-ofZ w32 _ (done .delta), toZ-ofZ w32 _ (fa .sample), toZ-ofZ w32 Y fY) at eb in
+      let ea′ : A ≡ turned d true u (p .delta) k X = rw (toZ-ofZ w32 _ (done .delta), toZ-ofZ w32 X fX) at ea in
+      let ec′ : C ≡ cond f (B .element) (A .element) = rw (toZ-ofZ w32 _ (fa .element), toZ-ofZ w32 _ (fb .element)) at ec in
+      let ed′ : D ≡ cond f (A .element) (B .element) = rw (toZ-ofZ w32 _ (fa .element), toZ-ofZ w32 _ (fb .element)) at ed in
+      let o : Stepped = record { pass = crossAt f p (A .weight) (B .weight) (B .sample); a = C; b = D } in
+      let eo : o ≡ turn d (crossTerm f) (crossAt f p u v k) m (slot l i) (slot l (i + 1)) =
+      rw (ec′, ed′, eb′, ea′, ex, ey, toZ-ofZ w32 _ (fr .a), toZ-ofZ w32 _ (fr .b), er) (cross-step d f p u v k m (slot l i) (slot l (i + 1))) in
+      rw (toZ-ofZ w32 _ (fa .weight), toZ-ofZ w32 _ (fb .weight), toZ-ofZ w32 _ (fb .sample))
+      (done-turn (turn d (crossTerm f)) p whole o done h eo (rw (toZ-ofZ w32 C fC, toZ-ofZ w32 D fD) at es))
 
 -- where the loop starts
 pub cross-start : (f : Bool) (p : DecorrPass) {U W K : ℤ}
-    → U ≡ eitherOf f (reread (p .«weight_a»)) (reread (p .«weight_b»)) → W ≡ eitherOf f (reread (p .«weight_b»)) (reread (p .«weight_a»))
-    → K ≡ eitherOf f (reread (getD (p .«history_a») 0 (pos 0))) (reread (getD (p .«history_b») 0 (pos 0)))
+    → U ≡ cond f (reread (p .«weight_b»)) (reread (p .«weight_a»)) → W ≡ cond f (reread (p .«weight_a»)) (reread (p .«weight_b»))
+    → K ≡ cond f (reread (slot (p .«history_b») 0)) (reread (slot (p .«history_a») 0))
     → 0 < length (p .«history_a») → 0 < length (p .«history_b»)
-    → SFits w32 (p .«weight_a») → SFits w32 (p .«weight_b») → SFits w32 (getD (p .«history_a») 0 (pos 0)) → SFits w32 (getD (p .«history_b») 0 (pos 0))
+    → SFits w32 (p .«weight_a») → SFits w32 (p .«weight_b») → SFits w32 (slot (p .«history_a») 0) → SFits w32 (slot (p .«history_b») 0)
     → SFits w32 U → SFits w32 W → SFits w32 K
     → crossAt f p (reread U) (reread W) (reread K) ≡ p
 cross-start true p {U} {W} {K} eu ev ek ha hb fa fb fc fd fu fv fk =
@@ -63,16 +66,12 @@ cross-start false p {U} {W} {K} eu ev ek ha hb fa fb fc fd fu fv fk =
 
 -- the pass that is put together behind the loop
 pub cross-end : (f : Bool) (p : DecorrPass) (u v k : ℤ) {U W A B : ℤ}
-    → A ≡ eitherOf f k (reread (getD (p .«history_a») 0 (pos 0))) → B ≡ eitherOf f (reread (getD (p .«history_b») 0 (pos 0))) k → U ≡ eitherOf f u v → W ≡ eitherOf f v u
+    → A ≡ cond f (reread (slot (p .«history_a») 0)) k → B ≡ cond f k (reread (slot (p .«history_b») 0)) → U ≡ cond f v u → W ≡ cond f u v
     → 0 < length (p .«history_a») → 0 < length (p .«history_b»)
-    → SFits w32 (getD (p .«history_a») 0 (pos 0)) → SFits w32 (getD (p .«history_b») 0 (pos 0))
+    → SFits w32 (slot (p .«history_a») 0) → SFits w32 (slot (p .«history_b») 0)
     → SFits w32 A → SFits w32 B → SFits w32 U → SFits w32 W
     → lagAt p (reread U) (reread W) (set (p .«history_a») 0 (reread A)) (set (p .«history_b») 0 (reread B)) ≡ crossAt f p u v k
 cross-end true p u v k {U} {W} {A} {B} ea eb eu ev ha hb fa fb f1 f2 f3 f4 =
     rw (toZ-ofZ w32 A f1, toZ-ofZ w32 B f2, toZ-ofZ w32 U f3, toZ-ofZ w32 W f4, ea, eb, eu, ev, toZ-ofZ w32 _ fa, head-set (p .«history_a») _ ha, head-back (p .«history_a») ha, head-set (p .«history_b») _ hb)
 cross-end false p u v k {U} {W} {A} {B} ea eb eu ev ha hb fa fb f1 f2 f3 f4 =
     rw (toZ-ofZ w32 A f1, toZ-ofZ w32 B f2, toZ-ofZ w32 U f3, toZ-ofZ w32 W f4, ea, eb, eu, ev, toZ-ofZ w32 _ fb, head-set (p .«history_b») _ hb, head-back (p .«history_b») hb, head-set (p .«history_a») _ ha)
-
--- what the loop leaves
-abbrev pub leaves : List ℤ → DecorrPass → Run
-leaves l p = record { pass = p; buffer = l }

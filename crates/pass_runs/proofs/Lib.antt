@@ -1,4 +1,6 @@
+-- What the proofs of the functions cite.
 pub mod TurnLaws
+pub mod FrameLaws
 pub mod LagLaws
 pub mod TwoLaws
 pub mod CrossLaws

@@ -2,21 +2,33 @@
 -- definition of a step stands in `passes`. Assumes nothing.
 use mathlib.Core.Bool.{Bool, true, false}
 use mathlib.Core.List.{List, _∷_}
+use Prim.Native.Nat.{ℕ, _+_}
 use lib.IntN.{ℤ}
-use lib.ListN.{drop}
+use lib.ListN.{set, drop}
 use Rattle.weights.specs.Weights.{sample, residual, source17, source18}
-use Rattle.passes.specs.Step.{weighed}
+use Rattle.passes.specs.Step.{slot, weighed}
 use Rattle.passes.specs.declared.DecorrPass.{DecorrPass}
+use Rattle.passes.specs.declared.Direction.{Direction}
+use Rattle.passes.specs.declared.Direction.the-variants.{Decorrelation, Analysis}
 use Rattle.passes.specs.declared.Term.{Term}
 use Rattle.passes.specs.declared.Term.the-variants.{Seventeen, Eighteen, MinusOne, MinusTwo}
-use Rattle.pass_runs.specs.declared.Turned.{Turned}
+use Rattle.pass_runs.specs.declared.frames.Frame.{Frame}
+use Rattle.pass_runs.specs.declared.turns.Turned.{Turned}
 
--- a channel with this weight and source, at the buffer's element x: analysis, or decorrelation
-abbrev pub turned : Bool → Bool → ℤ → ℤ → ℤ → ℤ → Turned
-turned true clip weight delta source x =
+-- the two elements of a buffer from i on
+abbrev pub frameAt : List ℤ → ℕ → Frame
+frameAt l i = record { a = slot l i; b = slot l (i + 1) }
+
+-- a buffer with other ones there
+abbrev pub frameStored : List ℤ → ℕ → ℤ → ℤ → List ℤ
+frameStored l i a b = set (set l i a) (i + 1) b
+
+-- a channel with this weight and source, at the buffer's element x; `clip` for the cross terms
+abbrev pub turned : Direction → Bool → ℤ → ℤ → ℤ → ℤ → Turned
+turned Analysis clip weight delta source x =
     let r = residual weight source x in
     record { weight = weighed clip weight delta source r; element = r; sample = x }
-turned false clip weight delta source x =
+turned Decorrelation clip weight delta source x =
     let s = sample weight source x in
     record { weight = weighed clip weight delta source x; element = s; sample = s }
 
@@ -34,11 +46,6 @@ twoSource false last before = source17 last before
 abbrev pub crossTerm : Bool → Term
 crossTerm true = MinusTwo
 crossTerm false = MinusOne
-
--- y where the test holds, else x
-abbrev pub eitherOf : Bool → ℤ → ℤ → ℤ
-eitherOf true x y = y
-eitherOf false x y = x
 
 -- a pass with the numbers that the loop of the fixed lags carries
 abbrev pub lagAt : DecorrPass → ℤ → ℤ → List ℤ → List ℤ → DecorrPass

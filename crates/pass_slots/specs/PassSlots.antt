@@ -1,13 +1,16 @@
--- A pass as 20 slots, a list of passes as 20 slots each, and what decorrelation and analysis then answer and leave in the lent lists, on refusal too.
--- Assumes nothing.
+-- A pass as 20 slots, a list of passes as 20 slots each: what pass making answers and lays into slots, and what decorrelation and
+-- analysis answer and leave in the lent lists, on refusal too. Assumes nothing.
 use Prim.Native.Nat.{ℕ, zero, suc, _/_, _%_}
 use mathlib.Core.Bool.{cond}
 use mathlib.Core.List.{List, [], _∷_, _++_}
 use lib.Dec.{eqb, leb}
 use lib.IntN.{ℤ, pos, negsuc}
 use lib.ListN.{length, getD, take, drop}
+use Rattle.answers.specs.Guard.{orElse, unlessRefused}
 use Rattle.passes.specs.declared.DecorrPass.{DecorrPass}
+use Rattle.passes.specs.Making.{makingRefusal, made}
 use Rattle.decorrelation.specs.Lists.{Answer}
+use Rattle.slots.specs.Slots.{slotRefusal}
 
 -- the term in a slot: a number outside 8 bits is read as 0, which is no valid term either
 abbrev pub slotTerm : ℤ → ℤ
@@ -40,6 +43,16 @@ abbrev pub listSlots : List DecorrPass → List ℤ
 listSlots [] = []
 listSlots (p ∷ ps) = slotsOf p ++ listSlots ps
 
+-- ---- pass making
+
+-- 6 before what pass making refuses
+abbrev pub passAnswer : ℤ → List ℤ → List ℤ → List ℤ → ℕ
+passAnswer term seedA seedB slots = orElse (slotRefusal 20 slots) (makingRefusal term seedA seedB)
+
+-- the pass that is made
+abbrev pub passValues : ℤ → ℤ → ℤ → ℤ → List ℤ → List ℤ → List ℤ
+passValues term delta weightA weightB seedA seedB = slotsOf (made term delta weightA weightB seedA seedB .pass)
+
 -- ---- decorrelation and analysis
 
 -- the number that each answers, and what its two lists then hold
@@ -48,21 +61,13 @@ pub record PassesLeft : Type 0 where
   pub passes : List ℤ
   pub buffer : List ℤ
 
-abbrev pub passesLeft : ℕ → List ℤ → List ℤ → PassesLeft
-passesLeft refusal passes buffer = record { refusal = refusal; passes = passes; buffer = buffer }
-
--- the slots of the passes where the list was accepted, and otherwise what they held
-abbrev pub slotsAfter : ℕ → List DecorrPass → List ℤ → List ℤ
-slotsAfter zero ps slots = listSlots ps
-slotsAfter (suc n) ps slots = slots
-
--- what an entry answers, its passes as slots
-abbrev pub toldSlots : List ℤ → Answer → PassesLeft
-toldSlots slots a = passesLeft (a .refusal) (slotsAfter (a .refusal) (a .passes) slots) (a .buffer)
+-- what an entry leaves, its passes as slots: on refusal the slots that there were
+abbrev pub leavePasses : List ℤ → Answer → PassesLeft
+leavePasses slots a = record { refusal = a .refusal; passes = unlessRefused (a .refusal) (λ n. slots) (listSlots (a .passes)); buffer = a .buffer }
 
 -- an entry over the passes of 20 slots each; other lengths are refused with 6, and both lists are as they were
 unfoldable pub passesCall : (List DecorrPass → List ℤ → Answer) → List ℤ → List ℤ → PassesLeft
 passesCall entry slots buffer =
     cond (eqb (length slots % 20) 0)
-    (toldSlots slots (entry (passesOf (length slots / 20) slots) buffer))
-    (passesLeft 6 slots buffer)
+    (leavePasses slots (entry (passesOf (length slots / 20) slots) buffer))
+    (record { refusal = 6; passes = slots; buffer = buffer })

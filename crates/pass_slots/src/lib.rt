@@ -1,21 +1,22 @@
-// Passes in lists of slots, 20 to a pass: what the C interface's callers hold. The passes of a list are taken into an array for a
-// call, since a list of numbers is no list of passes, and laid back where the call was accepted.
+// Passes in lists of slots, 20 to a pass: what the C interface's callers hold. The passes of a list are taken into an array
+// for a call, since a list of numbers is no list of passes, and laid back where the call was accepted.
 use answers::Outcome;
 use answers::Refusal;
+use answers::limits::MAX_PASSES;
 use answers::number;
 use answers::outcome_number;
 use decorrelation::DecorrPass;
-use decorrelation::ListAnswer;
-use decorrelation::decorrelate_array;
-use decorrelation::recorrelate_array;
+use decorrelation::Direction;
+use decorrelation::array_answer;
+use decorrelation::list_outcome;
 use slots::lay;
 ghost use mathlib.Core.Path.{_≡_};
 ghost use Prim.Native.Nat.{_*_, _≤_};
-ghost use lib.Dec.{ltb};
 ghost use lib.ListN.{length, take};
-ghost use Rattle.answers.specs.Numbers.{outcomeNumber};
-ghost use Rattle.decorrelation.specs.Lists.{pickNumber, listed, arrayAnswer};
-ghost use Rattle.pass_slots.specs.PassSlots.{slotTerm, passOf, slotsOf, passesOf, listSlots, passesLeft, passesCall};
+ghost use Rattle.answers.specs.Limits.{maxPasses};
+ghost use Rattle.decorrelation.specs.Lists.{listed};
+ghost use Rattle.slots.specs.Slots.{laidIf};
+ghost use Rattle.pass_slots.specs.PassSlots.{slotTerm, passOf, slotsOf, passesOf, listSlots, passAnswer, passValues, passesCall};
 
 // The term in a slot; 0, which is no valid one, for a number outside 8 bits.
 fn slot_term(slot: i32) -> i8
@@ -51,7 +52,7 @@ fn pass_in(slots: &[i32]) -> DecorrPass
 }
 
 // A pass as 20 slots hold it.
-pub fn pass_slots(p: DecorrPass) -> [i32; 20]
+fn pass_slots(p: DecorrPass) -> [i32; 20]
     ensures { λ r. ⌜ r ≡ slotsOf p ⌝ }
 {
     let term = p.term;
@@ -66,8 +67,8 @@ pub fn pass_slots(p: DecorrPass) -> [i32; 20]
 }
 
 // The first `count` passes of a list of slots, in an array.
-fn passes_in(slots: &[i32], count: usize) -> [DecorrPass; 16]
-    requires { ⌜ (count ≤ 16) × (count * 20 ≤ length (now slots)) ⌝ }
+fn passes_in(slots: &[i32], count: usize) -> [DecorrPass; MAX_PASSES]
+    requires { ⌜ (count ≤ maxPasses) × (count * 20 ≤ length (now slots)) ⌝ }
     ensures { λ r. ⌜ take count r ≡ passesOf count (now (slots .entry)) ⌝ }
 {
     let none = DecorrPass {
@@ -78,7 +79,7 @@ fn passes_in(slots: &[i32], count: usize) -> [DecorrPass; 16]
         history_a: [0i32; 8],
         history_b: [0i32; 8],
     };
-    let mut passes = [none; 16];
+    let mut passes = [none; MAX_PASSES];
     let mut i: usize = 0;
     while i < count {
         let at = i * 20;
@@ -90,8 +91,8 @@ fn passes_in(slots: &[i32], count: usize) -> [DecorrPass; 16]
 }
 
 // Lays the first `count` passes of an array into as many times 20 slots.
-fn lay_passes(passes: [DecorrPass; 16], count: usize, slots: &mut [i32])
-    requires { ⌜ (count ≤ 16) × (length (now slots) ≡ count * 20) ⌝ }
+fn lay_passes(passes: [DecorrPass; MAX_PASSES], count: usize, slots: &mut [i32])
+    requires { ⌜ (count ≤ maxPasses) × (length (now slots) ≡ count * 20) ⌝ }
     ensures { λ _. ⌜ now (slots .exit) ≡ listSlots (take count passes) ⌝ }
 {
     let mut i: usize = 0;
@@ -104,41 +105,56 @@ fn lay_passes(passes: [DecorrPass; 16], count: usize, slots: &mut [i32])
     }
 }
 
-// Analysis, where `back` is set, or decorrelation by the first `count` passes of an array.
-fn run_passes(back: bool, passes: [DecorrPass; 16], count: usize, buffer: &mut [i32]) -> ListAnswer
-    ensures { λ r. ⌜ record { refusal = outcomeNumber (r .outcome); passes = r .passes; buffer = now (buffer .exit) } ≡ arrayAnswer back passes count (now (buffer .entry)) ⌝ }
+// A pass made from its parts, into 20 slots. Refuses 6, then 7 and 8 as pass making does, with nothing written.
+pub fn make_pass(
+    term: i8,
+    delta: i32,
+    weight_a: i32,
+    weight_b: i32,
+    seed_a: &[i32],
+    seed_b: &[i32],
+    pass: &mut [i32],
+) -> u32
+    ensures answer { λ r. ⌜ r ≡ passAnswer term (now («seed_a» .entry)) (now («seed_b» .entry)) (now (pass .entry)) ⌝ }
+    ensures pass { λ r. ⌜
+        now (pass .exit)
+        ≡ laidIf r
+        (passValues term delta «weight_a» «weight_b» (now («seed_a» .entry)) (now («seed_b» .entry)))
+        (now (pass .entry))
+        ⌝ }
 {
-    if back {
-        recorrelate_array(passes, count, buffer)
-    } else {
-        decorrelate_array(passes, count, buffer)
+    if pass.len() < 20 {
+        return number(Refusal::ListLength);
     }
+    let answer = DecorrPass::new(term, delta, weight_a, weight_b, seed_a, seed_b);
+    let outcome = answer.outcome;
+    let made = answer.pass;
+    let Outcome::Accepted = outcome else {
+        return outcome_number(outcome);
+    };
+    let values = pass_slots(made);
+    lay(&values, 0, pass);
+    0
 }
 
-// What more than 16 passes, which the array has no room for, are refused with: a buffer that is too long comes first.
-fn too_many(elements: usize) -> u32
-    ensures { λ r. ⌜ r ≡ pickNumber (ltb 262144 elements) 5 9 ⌝ }
-{
-    if 262144 < elements {
-        number(Refusal::TooLarge)
-    } else {
-        number(Refusal::TooManyPasses)
-    }
-}
-
-// Analysis, where `back` is set, or decorrelation by passes of 20 slots each.
-pub fn run_slots(back: bool, passes: &mut [i32], buffer: &mut [i32]) -> u32
-    ensures { λ r. ⌜ passesLeft r (now (passes .exit)) (now (buffer .exit)) ≡ passesCall (listed back) (now (passes .entry)) (now (buffer .entry)) ⌝ }
+// Decorrelation or analysis by passes of 20 slots each, which then hold the passes after. Refuses 6 for a length that is no
+// multiple of 20, then as the entry does; both lists are then as they were.
+pub fn run_slots(direction: Direction, passes: &mut [i32], buffer: &mut [i32]) -> u32
+    ensures { λ r. ⌜
+        record { refusal = r; passes = now (passes .exit); buffer = now (buffer .exit) }
+        ≡ passesCall (listed direction) (now (passes .entry)) (now (buffer .entry))
+        ⌝ }
 {
     let slots = passes.len();
     if slots % 20 != 0 {
         return number(Refusal::ListLength);
     }
     let count = slots / 20;
-    if 16 < count {
-        return too_many(buffer.len());
+    // the array has no room for more, and they are refused whatever their terms
+    if MAX_PASSES < count {
+        return outcome_number(list_outcome(true, count, buffer.len()));
     }
-    let answer = run_passes(back, passes_in(passes, count), count, buffer);
+    let answer = array_answer(direction, passes_in(passes, count), count, buffer);
     let outcome = answer.outcome;
     let after = answer.passes;
     let Outcome::Accepted = outcome else {

@@ -1,6 +1,6 @@
 -- The laws of pass making: its answer by each of the code's returns. Assumes nothing.
 use mathlib.Core.Path.{_≡_, refl}
-use mathlib.Core.Bool.{Bool, true, false, not, _&&_}
+use mathlib.Core.Bool.{Bool, true, false, cond, not, _&&_}
 use mathlib.Core.List.{List}
 use Prim.Native.Nat.{ℕ, zero, suc, _≤_}
 use native.Mathlib.Omega.{arith}
@@ -12,14 +12,14 @@ use mir.Syntax.{w8, w32}
 use mir.Val.{SFits, toZ, ofZ}
 use mir.ValLaws.{toZ-ofZ}
 use Rattle.wrapping.proofs.ReadBack.{reread}
-use Rattle.passes.specs.Terms.{pickTerm, termOf, isValid, isCross, isLag}
-use Rattle.passes.specs.Making.{seedCount, ordered, padded, seeded, tooShort, pickAnswer, seedAnswer, makingRefusal, noPass, Made, made}
-use Rattle.passes.specs.declared.SeedAnswer.{SeedAnswer}
-use Rattle.passes.specs.declared.SeedAnswer.the-variants.{Enough, TooShort}
+use Rattle.passes.specs.Terms.{termOf, isValid, isCross, isLag}
+use Rattle.passes.specs.Making.{seedCount, ordered, padded, seeded, tooShort, seedLength, makingRefusal, noPass, Made, made}
+use Rattle.passes.specs.declared.SeedLength.{SeedLength}
+use Rattle.passes.specs.declared.SeedLength.the-variants.{Enough, TooShort}
 use Rattle.passes.specs.declared.Term.{Term}
 use Rattle.passes.specs.declared.Term.the-variants.{Lag, Seventeen, Eighteen, Invalid}
 
-positive : (n : ℕ) (a b c : Bool) → leb (suc n) 8 ≡ a → seedCount (pickTerm a (Lag (suc n)) (pickTerm b Seventeen (pickTerm c Eighteen Invalid))) ≤ 8
+positive : (n : ℕ) (a b c : Bool) → leb (suc n) 8 ≡ a → seedCount (cond a (Lag (suc n)) (cond b Seventeen (cond c Eighteen Invalid))) ≤ 8
 positive n true b c e = leb-true (suc n) 8 e
 positive n false true c e = omega arith
 positive n false false true e = omega arith
@@ -45,11 +45,11 @@ pub not-true : (b : Bool) → not b ≡ true → b ≡ false
 not-true true e = cc
 not-true false e = refl
 
-short-told : (b : Bool) → pickAnswer b TooShort Enough ≡ TooShort → b ≡ true
+short-told : (b : Bool) → cond b TooShort Enough ≡ TooShort → b ≡ true
 short-told true e = refl
 short-told false e = cc
 
-enough-told : (b : Bool) → pickAnswer b TooShort Enough ≡ Enough → b ≡ false
+enough-told : (b : Bool) → cond b TooShort Enough ≡ Enough → b ≡ false
 enough-told true e = cc
 enough-told false e = refl
 
@@ -67,28 +67,28 @@ module _ (term delta wa wb : ℤ) (sa sb : List ℤ) where
   made-invalid et ev e = let f : isValid (termOf term) ≡ false = cc in rw f
 
   -- an A seed that is too short
-  pub made-short-a : {t : Term} {v : Bool} {n : ℕ} {a : SeedAnswer} → Known term t v n → a ≡ seedAnswer false n (length sa) → a ≡ TooShort
+  pub made-short-a : {t : Term} {v : Bool} {n : ℕ} {a : SeedLength} → Known term t v n → a ≡ seedLength false n (length sa) → a ≡ TooShort
       → _≡_ {A = Made} (record { refusal = 8; pass = noPass }) (made term delta wa wb sa sb)
   unfolding made makingRefusal
   made-short-a k ea e =
       let f : isValid (termOf term) ≡ true = cc in
-      let g : seedAnswer false (seedCount (termOf term)) (length sa) ≡ TooShort = rw (← k .term-is, ← k .count-is, ← ea) e in
+      let g : seedLength false (seedCount (termOf term)) (length sa) ≡ TooShort = rw (← k .term-is, ← k .count-is, ← ea) e in
       rw (f, short-told (tooShort false (seedCount (termOf term)) (length sa)) g)
 
   -- a B seed that is too short
-  pub made-short-b : {t : Term} {v c : Bool} {n : ℕ} {a b : SeedAnswer} → Known term t v n → a ≡ seedAnswer false n (length sa) → a ≡ Enough
-      → c ≡ isCross t → b ≡ seedAnswer (c && ltb 0 (length sa)) n (length sb) → b ≡ TooShort
+  pub made-short-b : {t : Term} {v c : Bool} {n : ℕ} {a b : SeedLength} → Known term t v n → a ≡ seedLength false n (length sa) → a ≡ Enough
+      → c ≡ isCross t → b ≡ seedLength (c && ltb 0 (length sa)) n (length sb) → b ≡ TooShort
       → _≡_ {A = Made} (record { refusal = 8; pass = noPass }) (made term delta wa wb sa sb)
   unfolding made makingRefusal
   made-short-b k ea e ec eb j =
       let f : isValid (termOf term) ≡ true = cc in
-      let g : seedAnswer false (seedCount (termOf term)) (length sa) ≡ Enough = rw (← k .term-is, ← k .count-is, ← ea) e in
-      let h : seedAnswer (isCross (termOf term) && ltb 0 (length sa)) (seedCount (termOf term)) (length sb) ≡ TooShort = rw (← k .term-is, ← k .count-is, ← ec, ← eb) j in
+      let g : seedLength false (seedCount (termOf term)) (length sa) ≡ Enough = rw (← k .term-is, ← k .count-is, ← ea) e in
+      let h : seedLength (isCross (termOf term) && ltb 0 (length sa)) (seedCount (termOf term)) (length sb) ≡ TooShort = rw (← k .term-is, ← k .count-is, ← ec, ← eb) j in
       rw (f, enough-told (tooShort false (seedCount (termOf term)) (length sa)) g, short-told (tooShort (isCross (termOf term) && ltb 0 (length sa)) (seedCount (termOf term)) (length sb)) h)
 
   -- a pass that is made
-  pub made-accepted : {t : Term} {v c r : Bool} {n : ℕ} {a b : SeedAnswer} {ha hb : List ℤ} → Known term t v n → a ≡ seedAnswer false n (length sa) → a ≡ Enough
-      → c ≡ isCross t → b ≡ seedAnswer (c && ltb 0 (length sa)) n (length sb) → b ≡ Enough
+  pub made-accepted : {t : Term} {v c r : Bool} {n : ℕ} {a b : SeedLength} {ha hb : List ℤ} → Known term t v n → a ≡ seedLength false n (length sa) → a ≡ Enough
+      → c ≡ isCross t → b ≡ seedLength (c && ltb 0 (length sa)) n (length sb) → b ≡ Enough
       → r ≡ isLag t → ha ≡ padded (ordered r (take n sa)) → hb ≡ padded (ordered r (take n sb))
       → SFits w8 term → SFits w32 delta → SFits w32 wa → SFits w32 wb
       → _≡_ {A = Made}
@@ -97,6 +97,6 @@ module _ (term delta wa wb : ℤ) (sa sb : List ℤ) where
   unfolding made makingRefusal seeded
   made-accepted k ea e ec eb j er eha ehb ft fd fa fb =
       let f : isValid (termOf term) ≡ true = cc in
-      let g : seedAnswer false (seedCount (termOf term)) (length sa) ≡ Enough = rw (← k .term-is, ← k .count-is, ← ea) e in
-      let h : seedAnswer (isCross (termOf term) && ltb 0 (length sa)) (seedCount (termOf term)) (length sb) ≡ Enough = rw (← k .term-is, ← k .count-is, ← ec, ← eb) j in
+      let g : seedLength false (seedCount (termOf term)) (length sa) ≡ Enough = rw (← k .term-is, ← k .count-is, ← ea) e in
+      let h : seedLength (isCross (termOf term) && ltb 0 (length sa)) (seedCount (termOf term)) (length sb) ≡ Enough = rw (← k .term-is, ← k .count-is, ← ec, ← eb) j in
       rw (f, enough-told (tooShort false (seedCount (termOf term)) (length sa)) g, enough-told (tooShort (isCross (termOf term) && ltb 0 (length sa)) (seedCount (termOf term)) (length sb)) h, eha, ehb, er, k .count-is, k .term-is, toZ-ofZ w8 term ft, toZ-ofZ w32 delta fd, toZ-ofZ w32 wa fa, toZ-ofZ w32 wb fb)

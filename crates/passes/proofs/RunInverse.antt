@@ -1,7 +1,6 @@
 -- Analysis and decorrelation undo one another, a pass and a list of passes at a time, with equal pass states, whatever the
 -- passes hold (P12). Assumes nothing.
 use mathlib.Core.Path.{_≡_, refl, ap, _∙_}
-use mathlib.Core.Bool.{Bool, true, false}
 use mathlib.Core.List.{List, [], _∷_}
 use Prim.Native.Nat.{ℕ, suc}
 use lib.IntN.{ℤ}
@@ -10,6 +9,8 @@ use Rattle.passes.specs.Terms.{termOf}
 use Rattle.passes.specs.Step.{Stepped}
 use Rattle.passes.specs.Run.{Fit, run, turn, passed, decorrelated, analysed}
 use Rattle.passes.specs.declared.DecorrPass.{DecorrPass}
+use Rattle.passes.specs.declared.Direction.{Direction}
+use Rattle.passes.specs.declared.Direction.the-variants.{Decorrelation, Analysis}
 use Rattle.passes.specs.declared.Term.{Term}
 use Rattle.passes.proofs.StepInverse.{Undoes, Fitting, step-unstep, unstep-step, step-fits, unstep-fits}
 
@@ -31,54 +32,54 @@ run-length F p m [] = refl
 run-length F p m (x ∷ []) = refl
 run-length F p m (x ∷ (y ∷ l)) = ap (λ n. suc (suc n)) (run-length F (F p m x y .pass) (suc m) l)
 
-turn-fits : (analysis : Bool) (t : Term) → Fitting (turn analysis t)
+turn-fits : (d : Direction) (t : Term) → Fitting (turn d t)
 unfolding Fitting
-turn-fits true t p m x y = unstep-fits t p m x y
-turn-fits false t p m x y = step-fits t p m x y
+turn-fits Analysis t p m x y = unstep-fits t p m x y
+turn-fits Decorrelation t p m x y = step-fits t p m x y
 
 -- one direction of a pass undoes the other: the pass's term is the same at both ends
-pass-undone : (analysis other : Bool) → ((t : Term) → Undoes (turn analysis t) (turn other t)) → (p : DecorrPass) (l : List ℤ) → Fit l
-    → passed analysis p (passed other p l .buffer) ≡ record { pass = passed other p l .pass; buffer = l }
+pass-undone : (d other : Direction) → ((t : Term) → Undoes (turn d t) (turn other t)) → (p : DecorrPass) (l : List ℤ) → Fit l
+    → passed d p (passed other p l .buffer) ≡ record { pass = passed other p l .pass; buffer = l }
 unfolding passed
-pass-undone analysis other u p l h = run-undone (turn analysis (termOf (p .term))) (turn other (termOf (p .term))) (u (termOf (p .term))) p 0 l h
+pass-undone d other u p l h = run-undone (turn d (termOf (p .term))) (turn other (termOf (p .term))) (u (termOf (p .term))) p 0 l h
 
 -- a pass: analysis, then decorrelation
-pub decorrelates-back : (p : DecorrPass) (l : List ℤ) → Fit l → passed false p (passed true p l .buffer) ≡ record { pass = passed true p l .pass; buffer = l }
-decorrelates-back p l h = pass-undone false true step-unstep p l h
+pub decorrelates-back : (p : DecorrPass) (l : List ℤ) → Fit l → passed Decorrelation p (passed Analysis p l .buffer) ≡ record { pass = passed Analysis p l .pass; buffer = l }
+decorrelates-back p l h = pass-undone Decorrelation Analysis step-unstep p l h
 
 -- a pass: decorrelation, then analysis
-pub analyses-back : (p : DecorrPass) (l : List ℤ) → Fit l → passed true p (passed false p l .buffer) ≡ record { pass = passed false p l .pass; buffer = l }
-analyses-back p l h = pass-undone true false unstep-step p l h
+pub analyses-back : (p : DecorrPass) (l : List ℤ) → Fit l → passed Analysis p (passed Decorrelation p l .buffer) ≡ record { pass = passed Decorrelation p l .pass; buffer = l }
+analyses-back p l h = pass-undone Analysis Decorrelation unstep-step p l h
 
 -- a pass leaves 32-bit numbers
-pub passed-fit : (analysis : Bool) (p : DecorrPass) (l : List ℤ) → Fit l → Fit (passed analysis p l .buffer)
+pub passed-fit : (d : Direction) (p : DecorrPass) (l : List ℤ) → Fit l → Fit (passed d p l .buffer)
 unfolding passed
-passed-fit analysis p l h = run-fit (turn analysis (termOf (p .term))) (turn-fits analysis (termOf (p .term))) p 0 l h
+passed-fit d p l h = run-fit (turn d (termOf (p .term))) (turn-fits d (termOf (p .term))) p 0 l h
 
 -- a pass keeps the length
-pub passed-length : (analysis : Bool) (p : DecorrPass) (l : List ℤ) → length (passed analysis p l .buffer) ≡ length l
+pub passed-length : (d : Direction) (p : DecorrPass) (l : List ℤ) → length (passed d p l .buffer) ≡ length l
 unfolding passed
-passed-length analysis p l = run-length (turn analysis (termOf (p .term))) p 0 l
+passed-length d p l = run-length (turn d (termOf (p .term))) p 0 l
 
 -- ---- a list of passes
 pub decorrelated-fit : (ps : List DecorrPass) (l : List ℤ) → Fit l → Fit (decorrelated ps l .buffer)
 decorrelated-fit [] l h = h
-decorrelated-fit (p ∷ ps) l h = decorrelated-fit ps (passed false p l .buffer) (passed-fit false p l h)
+decorrelated-fit (p ∷ ps) l h = decorrelated-fit ps (passed Decorrelation p l .buffer) (passed-fit Decorrelation p l h)
 
 -- analysis leaves 32-bit numbers
 pub analysed-fit : (ps : List DecorrPass) (l : List ℤ) → Fit l → Fit (analysed ps l .buffer)
 analysed-fit [] l h = h
-analysed-fit (p ∷ ps) l h = passed-fit true p (analysed ps l .buffer) (analysed-fit ps l h)
+analysed-fit (p ∷ ps) l h = passed-fit Analysis p (analysed ps l .buffer) (analysed-fit ps l h)
 
 -- decorrelation keeps the length
 pub decorrelated-length : (ps : List DecorrPass) (l : List ℤ) → length (decorrelated ps l .buffer) ≡ length l
 decorrelated-length [] l = refl
-decorrelated-length (p ∷ ps) l = decorrelated-length ps (passed false p l .buffer) ∙ passed-length false p l
+decorrelated-length (p ∷ ps) l = decorrelated-length ps (passed Decorrelation p l .buffer) ∙ passed-length Decorrelation p l
 
 -- analysis keeps the length
 pub analysed-length : (ps : List DecorrPass) (l : List ℤ) → length (analysed ps l .buffer) ≡ length l
 analysed-length [] l = refl
-analysed-length (p ∷ ps) l = passed-length true p (analysed ps l .buffer) ∙ analysed-length ps l
+analysed-length (p ∷ ps) l = passed-length Analysis p (analysed ps l .buffer) ∙ analysed-length ps l
 
 -- decorrelating what analysis left returns the recording, and leaves the passes that analysis left
 pub decorrelated-analysed : (ps : List DecorrPass) (l : List ℤ) → Fit l → decorrelated ps (analysed ps l .buffer) ≡ record { passes = analysed ps l .passes; buffer = l }
@@ -88,4 +89,4 @@ decorrelated-analysed (p ∷ ps) l h = rw (decorrelates-back p (analysed ps l .b
 -- analysing what decorrelation left returns the residuals, and leaves the passes that decorrelation left
 pub analysed-decorrelated : (ps : List DecorrPass) (l : List ℤ) → Fit l → analysed ps (decorrelated ps l .buffer) ≡ record { passes = decorrelated ps l .passes; buffer = l }
 analysed-decorrelated [] l h = refl
-analysed-decorrelated (p ∷ ps) l h = rw (analysed-decorrelated ps (passed false p l .buffer) (passed-fit false p l h), analyses-back p l h)
+analysed-decorrelated (p ∷ ps) l h = rw (analysed-decorrelated ps (passed Decorrelation p l .buffer) (passed-fit Decorrelation p l h), analyses-back p l h)

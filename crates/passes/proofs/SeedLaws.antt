@@ -1,6 +1,6 @@
 -- The laws of seeds: what stands in each slot of a seeded history, and what an answer about a seed tells. Assumes nothing.
 use mathlib.Core.Path.{_≡_, refl, sym, ap, _∙_}
-use mathlib.Core.Bool.{Bool, true, false, _&&_, _||_}
+use mathlib.Core.Bool.{Bool, true, false, cond, _&&_, _||_}
 use mathlib.Core.List.{List, [], _∷_, _++_, reverse, reverse-append}
 use Prim.Native.Nat.{ℕ, zero, suc, _+_, _-_, _<_, _≤_}
 use native.Mathlib.Omega.{arith}
@@ -10,9 +10,9 @@ use lib.Dec.{ltb}
 use lib.IntN.{ℤ, pos}
 use lib.ListN.{length, getD, set, take, replicate, length-append, length-replicate, length-reverse, length-take, List·getD-append}
 use lib.Seq.{take-suc, take-all, take-suc-set, getD-take}
-use Rattle.passes.specs.Making.{ordered, padded, pickAnswer, seedAnswer}
-use Rattle.passes.specs.declared.SeedAnswer.{SeedAnswer}
-use Rattle.passes.specs.declared.SeedAnswer.the-variants.{Enough, TooShort}
+use Rattle.passes.specs.Making.{ordered, padded, seedLength}
+use Rattle.passes.specs.declared.SeedLength.{SeedLength}
+use Rattle.passes.specs.declared.SeedLength.the-variants.{Enough, TooShort}
 
 zeros : (k j : ℕ) → getD (replicate k (pos 0)) j (pos 0) ≡ pos 0
 zeros zero j = refl
@@ -75,12 +75,12 @@ slot-filled history placed j x h k e t = rw (add-one j, take-suc-set history j x
 pub all-filled : (history placed : List ℤ) (j : ℕ) → length history ≤ j → length placed ≤ j → take j history ≡ take j placed → history ≡ placed
 all-filled history placed j h k e = sym (take-all j history h) ∙ e ∙ take-all j placed k
 
-enough-cases : (needed some less : Bool) → pickAnswer ((needed || some) && less) TooShort Enough ≡ Enough → some ≡ true → less ≡ false
+enough-cases : (needed some less : Bool) → cond ((needed || some) && less) TooShort Enough ≡ Enough → some ≡ true → less ≡ false
 enough-cases needed some false e f = refl
 enough-cases true true true e f = cc
 enough-cases false true true e f = cc
 enough-cases needed false true e f = cc
 
 -- a seed that has enough, and is not empty, has what the term takes
-pub enough-long : (needed : Bool) (count len : ℕ) {a : SeedAnswer} → a ≡ seedAnswer needed count len → a ≡ Enough → 0 < len → count ≤ len
+pub enough-long : (needed : Bool) (count len : ℕ) {a : SeedLength} → a ≡ seedLength needed count len → a ≡ Enough → 0 < len → count ≤ len
 enough-long needed count len ea e h = ltb-false len count (enough-cases needed (ltb 0 len) (ltb len count) (sym ea ∙ e) (lt-ltb 0 len h))

@@ -1,7 +1,6 @@
 -- Every recording has exactly one residual list under given passes, and analysis finds it (D3.1, D3.2, D3.3). The passes are any,
 -- whatever their weights, deltas and histories hold. Assumes nothing.
 use mathlib.Core.Path.{_≡_, sym, ap, _∙_}
-use mathlib.Core.Bool.{true, false}
 use mathlib.Core.List.{List}
 use Prim.Native.Nat.{ℕ}
 use lib.IntN.{ℤ}
@@ -10,6 +9,7 @@ use mir.Val.{SFits}
 use Rattle.passes.specs.Step.{Stepped, Pair, step, unstep}
 use Rattle.passes.specs.Run.{Fit, Run, passed, Chain, decorrelated, analysed}
 use Rattle.passes.specs.declared.DecorrPass.{DecorrPass}
+use Rattle.passes.specs.declared.Direction.the-variants.{Decorrelation, Analysis}
 use Rattle.passes.specs.declared.Term.{Term}
 use Rattle.passes.proofs.StepInverse.{Undoes, unstep-step}
 use Rattle.passes.proofs.RunInverse.{analysed-fit, analyses-back, analysed-decorrelated, decorrelated-analysed}
@@ -25,9 +25,9 @@ step-unique t p m x y u v hx hy hu hv e =
     sym (ap pairOf (unstep-step t p m x y hx hy)) ∙ ap (λ (s : Pair). pairOf (unstep t p m (s .a) (s .b))) e ∙ ap pairOf (unstep-step t p m u v hu hv)
 
 -- a pass: two residual lists with the same samples are equal
-pub passed-unique : (p : DecorrPass) (r s : List ℤ) → Fit r → Fit s → passed false p r .buffer ≡ passed false p s .buffer → r ≡ s
+pub passed-unique : (p : DecorrPass) (r s : List ℤ) → Fit r → Fit s → passed Decorrelation p r .buffer ≡ passed Decorrelation p s .buffer → r ≡ s
 passed-unique p r s hr hs e =
-    sym (ap (λ (o : Run). o .buffer) (analyses-back p r hr)) ∙ ap (λ (l : List ℤ). passed true p l .buffer) e ∙ ap (λ (o : Run). o .buffer) (analyses-back p s hs)
+    sym (ap (λ (o : Run). o .buffer) (analyses-back p r hr)) ∙ ap (λ (l : List ℤ). passed Analysis p l .buffer) e ∙ ap (λ (o : Run). o .buffer) (analyses-back p s hs)
 
 -- a list of passes: two residual lists that decorrelate to one recording are equal
 pub residuals-unique : (ps : List DecorrPass) (r s : List ℤ) → Fit r → Fit s → decorrelated ps r .buffer ≡ decorrelated ps s .buffer → r ≡ s

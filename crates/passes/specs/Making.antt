@@ -1,14 +1,15 @@
 -- Document 01, "Passes": the making of a pass from its seeds, and why it is refused. Assumes nothing.
-use mathlib.Core.Bool.{Bool, true, false, _&&_, _||_}
+use mathlib.Core.Bool.{Bool, true, false, cond, _&&_, _||_}
 use mathlib.Core.List.{List, _++_, reverse}
-use Prim.Native.Nat.{ℕ, zero, suc, _-_}
+use Prim.Native.Nat.{ℕ, _-_}
 use lib.Dec.{ltb}
 use lib.IntN.{ℤ, pos}
 use lib.ListN.{length, take, replicate}
+use Rattle.answers.specs.Guard.{unlessRefused}
 use Rattle.passes.specs.Terms.{termOf, isValid, isCross, isLag}
 use Rattle.passes.specs.declared.DecorrPass.{DecorrPass}
-use Rattle.passes.specs.declared.SeedAnswer.{SeedAnswer}
-use Rattle.passes.specs.declared.SeedAnswer.the-variants.{Enough, TooShort}
+use Rattle.passes.specs.declared.SeedLength.{SeedLength}
+use Rattle.passes.specs.declared.SeedLength.the-variants.{Enough, TooShort}
 use Rattle.passes.specs.declared.Term.{Term}
 use Rattle.passes.specs.declared.Term.the-variants.{Lag, Seventeen, Eighteen, MinusOne, MinusTwo, MinusThree, Invalid}
 
@@ -40,19 +41,9 @@ seeded t seed = padded (ordered (isLag t) (take (seedCount t) seed))
 abbrev pub tooShort : Bool → ℕ → ℕ → Bool
 tooShort needed count len = (needed || ltb 0 len) && ltb len count
 
--- x where the test holds, else y
-abbrev pub pickAnswer : Bool → SeedAnswer → SeedAnswer → SeedAnswer
-pickAnswer true x y = x
-pickAnswer false x y = y
-
 -- whether a seed has enough
-abbrev pub seedAnswer : Bool → ℕ → ℕ → SeedAnswer
-seedAnswer needed count len = pickAnswer (tooShort needed count len) TooShort Enough
-
--- x where the test holds, else y
-abbrev pub pickNumber : Bool → ℕ → ℕ → ℕ
-pickNumber true x y = x
-pickNumber false x y = y
+abbrev pub seedLength : Bool → ℕ → ℕ → SeedLength
+seedLength needed count len = cond (tooShort needed count len) TooShort Enough
 
 -- "Pass making: 7, term; 8, A seed too short, then B" (X4)
 unfoldable pub makingRefusal : ℤ → List ℤ → List ℤ → ℕ
@@ -60,7 +51,7 @@ makingRefusal term seedA seedB =
     let t = termOf term in
     let count = seedCount t in
     let a = length seedA in
-    pickNumber (isValid t) (pickNumber (tooShort false count a) 8 (pickNumber (tooShort (isCross t && ltb 0 a) count (length seedB)) 8 0)) 7
+    cond (isValid t) (cond (tooShort false count a) 8 (cond (tooShort (isCross t && ltb 0 a) count (length seedB)) 8 0)) 7
 
 -- "no pass results": all zero
 abbrev pub noPass : DecorrPass
@@ -79,20 +70,18 @@ pub record Made : Type 0 where
   pub refusal : ℕ
   pub pass : DecorrPass
 
--- by the refusal
-abbrev pub madeBy : ℕ → DecorrPass → Made
-madeBy zero p = record { refusal = 0; pass = p }
-madeBy (suc n) p = record { refusal = suc n; pass = noPass }
-
 -- the making of a pass
 unfoldable pub made : ℤ → ℤ → ℤ → ℤ → List ℤ → List ℤ → Made
 made term delta weightA weightB seedA seedB =
-    madeBy (makingRefusal term seedA seedB)
+    unlessRefused (makingRefusal term seedA seedB) (λ n. record { refusal = n; pass = noPass })
     (record {
-      term = term;
-      delta = delta;
-      «weight_a» = weightA;
-      «weight_b» = weightB;
-      «history_a» = seeded (termOf term) seedA;
-      «history_b» = seeded (termOf term) seedB;
+      refusal = 0;
+      pass = record {
+        term = term;
+        delta = delta;
+        «weight_a» = weightA;
+        «weight_b» = weightB;
+        «history_a» = seeded (termOf term) seedA;
+        «history_b» = seeded (termOf term) seedB;
+      };
     })

@@ -1,5 +1,4 @@
 -- Document 01, "Passes": a pass over a whole buffer, and a list of passes, one after the other. Assumes nothing.
-use mathlib.Core.Bool.{Bool, true, false}
 use mathlib.Core.List.{List, [], _∷_}
 use Prim.Native.Nat.{ℕ, suc}
 use lib.IntN.{ℤ}
@@ -8,6 +7,8 @@ use mir.Val.{SFits}
 use Rattle.passes.specs.Terms.{termOf}
 use Rattle.passes.specs.Step.{Stepped, step, unstep}
 use Rattle.passes.specs.declared.DecorrPass.{DecorrPass}
+use Rattle.passes.specs.declared.Direction.{Direction}
+use Rattle.passes.specs.declared.Direction.the-variants.{Decorrelation, Analysis}
 use Rattle.passes.specs.declared.Term.{Term}
 
 -- document 01, "The words of demand 3" (M1): a list of 32-bit numbers, as a recording or a residual list is
@@ -29,14 +30,14 @@ run f p m (x ∷ (y ∷ l)) =
     let r = run f (o .pass) (suc m) l in
     record { pass = r .pass; buffer = o .a ∷ (o .b ∷ r .buffer) }
 
--- a step of analysis, or of decorrelation
-abbrev pub turn : Bool → Term → DecorrPass → ℕ → ℤ → ℤ → Stepped
-turn true t p m x y = unstep t p m x y
-turn false t p m x y = step t p m x y
+-- a step in either direction
+abbrev pub turn : Direction → Term → DecorrPass → ℕ → ℤ → ℤ → Stepped
+turn Decorrelation t p m x y = step t p m x y
+turn Analysis t p m x y = unstep t p m x y
 
--- a pass over a buffer, in analysis or in decorrelation: "the index restarts at 0 in each call" (P8)
-unfoldable pub passed : Bool → DecorrPass → List ℤ → Run
-passed analysis p l = run (turn analysis (termOf (p .term))) p 0 l
+-- a pass over a buffer in either direction: "the index restarts at 0 in each call" (P8)
+unfoldable pub passed : Direction → DecorrPass → List ℤ → Run
+passed direction p l = run (turn direction (termOf (p .term))) p 0 l
 
 -- what a list of passes leaves
 pub record Chain : Type 0 where
@@ -47,7 +48,7 @@ pub record Chain : Type 0 where
 abbrev pub decorrelated : List DecorrPass → List ℤ → Chain
 decorrelated [] l = record { passes = []; buffer = l }
 decorrelated (p ∷ ps) l =
-    let r = passed false p l in
+    let r = passed Decorrelation p l in
     let c = decorrelated ps (r .buffer) in
     record { passes = r .pass ∷ c .passes; buffer = c .buffer }
 
@@ -56,5 +57,5 @@ abbrev pub analysed : List DecorrPass → List ℤ → Chain
 analysed [] l = record { passes = []; buffer = l }
 analysed (p ∷ ps) l =
     let c = analysed ps l in
-    let r = passed true p (c .buffer) in
+    let r = passed Analysis p (c .buffer) in
     record { passes = r .pass ∷ c .passes; buffer = r .buffer }

@@ -1,21 +1,16 @@
 -- Document 01, "Passes": the valid terms, and which are cross terms. Assumes nothing.
-use mathlib.Core.Bool.{Bool, true, false}
+use mathlib.Core.Bool.{Bool, true, false, cond}
 use Prim.Native.Nat.{zero, suc}
 use lib.Dec.{leb, eqb}
 use lib.IntN.{ℤ, pos, negsuc}
 use Rattle.passes.specs.declared.Term.{Term}
 use Rattle.passes.specs.declared.Term.the-variants.{Lag, Seventeen, Eighteen, MinusOne, MinusTwo, MinusThree, Invalid}
 
--- x where the test holds, else y
-abbrev pub pickTerm : Bool → Term → Term → Term
-pickTerm true x y = x
-pickTerm false x y = y
-
 -- "Valid terms: 1 to 8, 17, 18, -1, -2, -3" (P3)
 unfoldable pub termOf : ℤ → Term
 termOf (pos zero) = Invalid
 termOf (pos (suc n)) =
-    pickTerm (leb (suc n) 8) (Lag (suc n)) (pickTerm (eqb (suc n) 17) Seventeen (pickTerm (eqb (suc n) 18) Eighteen Invalid))
+    cond (leb (suc n) 8) (Lag (suc n)) (cond (eqb (suc n) 17) Seventeen (cond (eqb (suc n) 18) Eighteen Invalid))
 termOf (negsuc zero) = MinusOne
 termOf (negsuc (suc zero)) = MinusTwo
 termOf (negsuc (suc (suc zero))) = MinusThree

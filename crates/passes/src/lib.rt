@@ -7,7 +7,7 @@ ghost use lib.ListN.{length, take, getD};
 ghost use Rattle.answers.specs.Numbers.{outcomeNumber};
 ghost use Rattle.answers.specs.declared.Outcome.{Outcome};
 ghost use Rattle.passes.specs.Terms.{termOf, isValid, isCross, isLag};
-ghost use Rattle.passes.specs.Making.{seedCount, ordered, padded, seedAnswer, noPass, made};
+ghost use Rattle.passes.specs.Making.{seedCount, ordered, padded, seedLength, noPass, made};
 use answers::Outcome;
 use answers::Refusal;
 
@@ -19,6 +19,14 @@ pub struct DecorrPass {
     pub weight_b: i32,
     pub history_a: [i32; 8],
     pub history_b: [i32; 8],
+}
+
+// Which way passes are run.
+pub enum Direction {
+    // Residuals to samples, the first pass first.
+    Decorrelation,
+    // Samples to residuals, the last pass first.
+    Analysis,
 }
 
 // What a term's number stands for: a fixed lag of 1 to 8 frames, or one of the five others.
@@ -33,7 +41,7 @@ pub enum Term {
 }
 
 // Whether a seed has the samples that a term takes.
-pub enum SeedAnswer {
+pub enum SeedLength {
     Enough,
     TooShort,
 }
@@ -127,13 +135,13 @@ fn seed_count(t: Term) -> usize
 }
 
 // Whether a seed of `len` samples has the `count` that its term takes; an empty one that is not needed has.
-fn seed_answer(needed: bool, count: usize, len: usize) -> SeedAnswer
-    ensures { λ r. ⌜ r ≡ seedAnswer needed count len ⌝ }
+fn seed_length(needed: bool, count: usize, len: usize) -> SeedLength
+    ensures { λ r. ⌜ r ≡ seedLength needed count len ⌝ }
 {
     if (needed | (0 < len)) & (len < count) {
-        SeedAnswer::TooShort
+        SeedLength::TooShort
     } else {
-        SeedAnswer::Enough
+        SeedLength::Enough
     }
 }
 
@@ -202,11 +210,11 @@ impl DecorrPass {
             return refused(Refusal::InvalidTerm);
         }
         let count = seed_count(t);
-        let SeedAnswer::Enough = seed_answer(false, count, seed_a.len()) else {
+        let SeedLength::Enough = seed_length(false, count, seed_a.len()) else {
             return refused(Refusal::SeedTooShort);
         };
         let paired = is_cross(t) & (0 < seed_a.len());
-        let SeedAnswer::Enough = seed_answer(paired, count, seed_b.len()) else {
+        let SeedLength::Enough = seed_length(paired, count, seed_b.len()) else {
             return refused(Refusal::SeedTooShort);
         };
         let reversed = is_lag(t);

@@ -5,37 +5,36 @@ use mathlib.Core.Bool.{true}
 use mathlib.Core.List.{List, _++_}
 use Prim.Native.Nat.{ℕ, _*_, _≤_}
 use native.Mathlib.Omega.{arith}
-use borrow.Author.Tests.{le-ltb}
 use lib.IntN.{ℤ}
 use lib.ListN.{length}
-use Rattle.answers.specs.Limits.{maxFrames, maxPayloadBytes, bytesPerFrame, maxElements, maxPasses}
+use Rattle.answers.specs.Limits.{maxFrames, maxPayloadBytes, bytesPerFrame, maxElements}
 use Rattle.entropy.specs.Seed.{acceptsEntropy}
 use Rattle.samples.specs.View.{ReadTold, readEntry}
 use Rattle.passes.specs.declared.DecorrPass.{DecorrPass}
 use Rattle.passes.specs.Run.{Chain, decorrelated, analysed}
 use Rattle.passes.proofs.RunInverse.{analysed-fit, analysed-length, decorrelated-analysed}
 use Rattle.passes.proofs.Unique.{residuals-unique}
-use Rattle.decorrelation.specs.Lists.{Answer, decorrelationNumber, analysisNumber, decorrelation, analysis}
+use Rattle.passes.specs.declared.Direction.the-variants.{Decorrelation, Analysis}
+use Rattle.decorrelation.specs.Lists.{Answer, done, decorrelation, analysis}
+use Rattle.decorrelation.proofs.Theorems.{Accepted, listed-accepts}
 use Rattle.word_bits.specs.Residuals.{spanned}
 use Rattle.packing.specs.Entry.{PackTold, packedFrom, tellPacking, packEntry, packedBytes}
 use Rattle.packing.proofs.EntryLaws.{packed-is}
 use Rattle.roundtrip.proofs.ReadTrips.{read-what-was-packed}
 use Rattle.roundtrip.specs.Demand.{Recording, WellMade, Demand3, Writable, writtenBytes, NoTwoAlike}
 
--- what decorrelation and analysis leave of well-made passes
-abbrev run : Chain → Answer
-run c = record { refusal = 0; passes = c .passes; buffer = c .buffer }
-
 module _ (ps : List DecorrPass) (l : List ℤ) (w : WellMade ps) (h : length l ≤ maxElements) where
-  -- decorrelation accepts them, and runs them
-  decorrelation-is : decorrelation ps l ≡ run (decorrelated ps l)
-  unfolding decorrelation decorrelationNumber
-  decorrelation-is = rw (le-ltb maxElements (length l) h, le-ltb maxPasses (length ps) (w .at-most-16), w .terms-valid)
+  -- both entries accept well-made passes
+  accepted : Accepted ps l
+  accepted = record { well-made = w .terms-valid; few = w .at-most-16; short = h }
+
+  -- decorrelation runs them
+  decorrelation-is : decorrelation ps l ≡ done (decorrelated ps l)
+  decorrelation-is = listed-accepts Decorrelation ps l accepted
 
   -- and so does analysis
-  analysis-is : analysis ps l ≡ run (analysed ps l)
-  unfolding analysis analysisNumber
-  analysis-is = rw (le-ltb maxElements (length l) h, le-ltb maxPasses (length ps) (w .at-most-16), w .terms-valid)
+  analysis-is : analysis ps l ≡ done (analysed ps l)
+  analysis-is = listed-accepts Analysis ps l accepted
 
 module _ (frames : ℕ) (passes : List DecorrPass) (recording : List ℤ) (few : frames ≤ maxFrames) (w : WellMade passes) (x : Recording frames recording) where
   -- the residuals that analysis leaves, and what decorrelation makes of them
@@ -51,7 +50,7 @@ module _ (frames : ℕ) (passes : List DecorrPass) (recording : List ℤ) (few :
   found-is = record { two-per-frame = analysed-length passes recording ∙ x .two-per-frame; samples-fit = analysed-fit passes recording (x .samples-fit) }
 
   -- analysis leaves them
-  pub analysed-is : analysis passes recording ≡ run (analysed passes recording)
+  pub analysed-is : analysis passes recording ≡ done (analysed passes recording)
   analysed-is = analysis-is passes recording w (size recording (x .two-per-frame))
 
   -- and decorrelating them returns the recording
@@ -60,7 +59,7 @@ module _ (frames : ℕ) (passes : List DecorrPass) (recording : List ℤ) (few :
 
   -- as the entry answers
   pub decorrelated-is : decorrelation passes found ≡ record { refusal = 0; passes = analysed passes recording .passes; buffer = recording }
-  decorrelated-is = decorrelation-is passes found w (size found (found-is .two-per-frame)) ∙ ap run back
+  decorrelated-is = decorrelation-is passes found w (size found (found-is .two-per-frame)) ∙ ap done back
 
   -- no other list does
   only : (other : List ℤ) → Recording frames other → decorrelation passes other .buffer ≡ recording → other ≡ found

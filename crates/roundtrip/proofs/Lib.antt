@@ -3,6 +3,5 @@ pub mod ListLaws
 pub mod FieldTrips
 pub mod WordTrips
 pub mod ReadTrips
-pub mod ArrayLaws
 pub mod TripLaws
 pub mod DemandLaws

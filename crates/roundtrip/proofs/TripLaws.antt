@@ -20,6 +20,8 @@ use Rattle.samples.specs.declared.ReadAnswer.{ReadAnswer}
 use Rattle.passes.specs.declared.DecorrPass.{DecorrPass}
 use Rattle.passes.specs.Run.{Fit, Chain, decorrelated}
 use Rattle.passes.proofs.RunInverse.{analysed-length, decorrelated-analysed}
+use Rattle.passes.specs.declared.Direction.the-variants.{Decorrelation, Analysis}
+use Rattle.decorrelation.proofs.Theorems.{ArrayAccepted, array-known, array-runs}
 use Rattle.decorrelation.specs.Lists.{Answer, allValid, analysisNumber, arrayAnswer}
 use Rattle.packing.specs.Entry.{PackTold, viewPacking, refusalBeforeSpan, spanRefusal, packEntry, packedBytes}
 use Rattle.packing.specs.declared.PackAnswer.{PackAnswer}
@@ -27,7 +29,6 @@ use Rattle.packing.proofs.EntryLaws.{refusal-is, pack-refused, span-decides, pa
 use Rattle.packing.proofs.RefusalLaws.{Ready, ready}
 use Rattle.roundtrip.specs.declared.TripAnswer.{TripAnswer}
 use Rattle.roundtrip.specs.Trip.{TripTold, viewTrip, refuseTrip, tellTrip, earlyRefusal, tripRefusal, found, tripEntry, cameBack, Refuses, SameIs}
-use Rattle.roundtrip.proofs.ArrayLaws.{Made, made, array-runs}
 use Rattle.roundtrip.proofs.ReadTrips.{read-what-was-packed}
 
 -- ---- the early tests
@@ -44,7 +45,7 @@ second-decides o r m later s e t = let z : m ≡ 0 = sym e ∙ ap outcomeNumber 
 
 -- analysis and packing before the span accept
 pub record Early (ps : List DecorrPass) (n : ℕ) (x : List ℤ) (entropy buffer : List ℕ) : Type 0 where
-  pub passes-made : Made ps n x
+  pub passes-made : ArrayAccepted ps n x
   pub lent : Ready (length x) entropy (length x / 2) (length buffer)
 
 -- so it is where no refusal is known early
@@ -54,7 +55,7 @@ early ps n x entropy buffer e = go (analysisNumber (allValid (take n ps)) n (len
   where
     go : (m : ℕ) → analysisNumber (allValid (take n ps)) n (length x) ≡ m → orElse m (refusalBeforeSpan (length x) entropy (length x / 2) (length buffer)) ≡ 0
         → Early ps n x entropy buffer
-    go zero a e = record { passes-made = made ps n x a; lent = ready (length x) entropy (length x / 2) (length buffer) e }
+    go zero a e = record { passes-made = array-known ps n x a; lent = ready (length x) entropy (length x / 2) (length buffer) e }
     go (suc m) a e = absurd (omega arith)
 
 -- ---- where the packed bytes end
@@ -118,20 +119,20 @@ module _ (ps : List DecorrPass) (n : ℕ) (x : List ℤ) (entropy : List ℕ) (s
     is : v ≡ found ps n x
     size : length v ≡ length x
     lent : Ready (length v) entropy (length x / 2) (length buffer)
-    passes-made : Made ps n x
+    passes-made : ArrayAccepted ps n x
 
   -- so it is after analysis
-  found-is : (copied : List ℤ) (aps : List DecorrPass) (v : List ℤ) (m : ℕ) → copied ≡ x → record { refusal = m; passes = aps; buffer = v } ≡ arrayAnswer true ps n copied
+  found-is : (copied : List ℤ) (aps : List DecorrPass) (v : List ℤ) (m : ℕ) → copied ≡ x → record { refusal = m; passes = aps; buffer = v } ≡ arrayAnswer Analysis ps n copied
       → earlyRefusal ps n (length x) entropy (length buffer) ≡ 0 → Found v
   found-is copied aps v m c e h =
       let a = early ps n x entropy buffer h in
-      let is : v ≡ found ps n x = ap (λ (a : Answer). a .buffer) (e ∙ ap (arrayAnswer true ps n) c ∙ array-runs true ps n x (a .passes-made)) in
+      let is : v ≡ found ps n x = ap (λ (a : Answer). a .buffer) (e ∙ ap (arrayAnswer Analysis ps n) c ∙ array-runs Analysis ps n x (a .passes-made)) in
       let size : length v ≡ length x = ap length is ∙ analysed-length (take n ps) x in
       record { is = is; size = size; lent = rw size (a .lent); passes-made = a .passes-made }
 
   -- 10: a residual outside the span
   pub trip-span : (copied : List ℤ) (aps : List DecorrPass) (v : List ℤ) (m : ℕ) (after : List ℕ) (w : PackAnswer) (q : Refusal) → length scratch ≡ length x → copied ≡ x
-      → record { refusal = m; passes = aps; buffer = v } ≡ arrayAnswer true ps n copied → earlyRefusal ps n (length x) entropy (length buffer) ≡ 0
+      → record { refusal = m; passes = aps; buffer = v } ≡ arrayAnswer Analysis ps n copied → earlyRefusal ps n (length x) entropy (length buffer) ≡ 0
       → viewPacking w after ≡ packEntry v entropy (length x / 2) buffer → w .outcome ≡ Outcome.Refused q
       → Refuses (w .outcome) r → viewTrip r v after ≡ tripEntry ps n x entropy scratch buffer
   unfolding later
@@ -152,10 +153,10 @@ module _ (ps : List DecorrPass) (n : ℕ) (x : List ℤ) (entropy : List ℕ) (s
   -- the recording is back
   pub trip-back : Fit x → (copied : List ℤ) (aps sps : List DecorrPass) (v list y : List ℤ) (after payload : List ℕ) (m : ℕ) (z : Outcome) (w : PackAnswer) (d : ReadAnswer) (q : Bool)
       → length scratch ≡ length x → copied ≡ x
-      → record { refusal = m; passes = aps; buffer = v } ≡ arrayAnswer true ps n copied → earlyRefusal ps n (length x) entropy (length buffer) ≡ 0
+      → record { refusal = m; passes = aps; buffer = v } ≡ arrayAnswer Analysis ps n copied → earlyRefusal ps n (length x) entropy (length buffer) ≡ 0
       → viewPacking w after ≡ packEntry v entropy (length x / 2) buffer → w .outcome ≡ Outcome.Accepted
       → viewReading d list ≡ readEntry entropy payload (length x / 2) v → payload ≡ take ((w .bits + 7) / 8) after
-      → record { refusal = outcomeNumber z; passes = sps; buffer = y } ≡ arrayAnswer false ps n list → SameIs x y q
+      → record { refusal = outcomeNumber z; passes = sps; buffer = y } ≡ arrayAnswer Decorrelation ps n list → SameIs x y q
       → r .outcome ≡ Outcome.Accepted → r .bits ≡ w .bits → r .same ≡ cameBack (d .outcome) z (d .bits) (w .bits) q
       → viewTrip r y after ≡ tripEntry ps n x entropy scratch buffer
   unfolding later
@@ -171,7 +172,7 @@ module _ (ps : List DecorrPass) (n : ℕ) (x : List ℤ) (entropy : List ℕ) (s
       let R = a ∙ ap (λ (t : List ℕ). readEntry entropy t f₀ v) pb ∙ read-what-was-packed v entropy f₀ buffer [] v P limit (acc .before .list-is) in
       let M = w₀ .passes-made in
       let size : length v ≤ maxElements = omega (arith, w₀ .size, M .size) in
-      let D = f ∙ ap (λ (t : ReadTold). arrayAnswer false ps n (t .list)) R ∙ array-runs false ps n v (record { few = M .few; size = size; valid = M .valid }) in
+      let D = f ∙ ap (λ (t : ReadTold). arrayAnswer Decorrelation ps n (t .list)) R ∙ array-runs Decorrelation ps n v (record { few = M .few; size = size; valid = M .valid }) in
       let back : y ≡ x =
       ap (λ (t : Answer). t .buffer) D ∙ ap (λ (t : List ℤ). decorrelated (take n ps) t .buffer) (w₀ .is) ∙ ap (λ (t : Chain). t .buffer) (decorrelated-analysed (take n ps) x fit) in
       let used : d .bits ≡ w .bits = ap (λ (t : ReadTold). t .bits) R ∙ sym B in

@@ -1,6 +1,5 @@
 -- Document 01, "Proved cases (*) and others": the starred cases, group by group (C11).
 -- Assumes nothing.
-use mathlib.Core.Bool.{false}
 use mathlib.Core.List.{List, [], _∷_}
 use lib.IntN.{pos}
 use Rattle.logpack.specs.LogWord.{logWord}
@@ -8,6 +7,7 @@ use Rattle.medians.specs.Adaptation.{up, down}
 use Rattle.weights.specs.Weights.{predict, updated, updatedClip}
 use Rattle.passes.specs.Making.{Made, made}
 use Rattle.passes.specs.Run.{Run, passed}
+use Rattle.passes.specs.declared.Direction.the-variants.{Decorrelation}
 use Rattle.wvpair_text.specs.Starred.{firstInput, firstText, secondInput, secondText}
 use Rattle.wvpair_text.specs.Text.{wvpairText}
 use Rattle.starred.specs.Row.{Row, _gives_, minus}
@@ -54,7 +54,7 @@ pass18 = made (pos 18) (pos 2) (pos 1024) (pos 1024) (pos 10 ∷ pos 4 ∷ []) (
 
 -- "residuals 1, -1"
 abbrev pub run18 : Run
-run18 = passed false (pass18 .pass) (pos 1 ∷ minus 1 ∷ [])
+run18 = passed Decorrelation (pass18 .pass) (pos 1 ∷ minus 1 ∷ [])
 
 -- ": samples 14, 1; weights 1026, 1022" (C5)
 abbrev pub term18 : List Row

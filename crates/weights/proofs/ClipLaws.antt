@@ -1,15 +1,14 @@
 -- A cross weight within 1024 of 0 stays there, where delta is 0 to 7 (P9). Assumes nothing.
 use mathlib.Core.Path.{_≡_, refl}
-use mathlib.Core.Bool.{Bool, true, false, not}
 use Prim.Native.Nat.{ℕ, zero, suc, _+_, _<_, _≤_}
 use native.Mathlib.Omega.{arith}
-use lib.Dec.{T, ltb, nltb→le}
+use lib.Dec.{ltb, nltb→le}
 use lib.IntN.{ℤ, pos, negsuc, negℤ, natAbs, _+ℤ_, _-ℤ_, +ℤ-comm}
 use mir.Syntax.{w32}
 use mir.Val.{SFits}
 use Rattle.wrapping.specs.Wrap.{wrap32}
-use Rattle.wrapping.proofs.WrapLaws.{sub-cases, wrap-id}
-use Rattle.weights.specs.Weights.{pick, atMost1024, Way, wayOf, movedClip, updatedClip}
+use Rattle.wrapping.proofs.WrapLaws.{cond-cases, sub-cases, wrap-id}
+use Rattle.weights.specs.Weights.{atMost1024, Way, wayOf, movedClip, updatedClip}
 
 -- sizes of negations and sums
 abs-neg : (z : ℤ) → natAbs (negℤ z) ≡ natAbs z
@@ -33,14 +32,10 @@ Low : ℤ → Type 0
 Low (pos n) = Unit {0}
 Low (negsuc n) = n < 1024
 
-pick-cases : (c : Bool) (x y : ℤ) (P : ℤ → Type 0) → (T c → P x) → (T (not c) → P y) → P (pick c x y)
-pick-cases true x y P f g = f tt
-pick-cases false x y P f g = g tt
-
 -- cut at 1024, a number that is not below -1024 is within 1024 of 0
 atMost1024-abs : (z : ℤ) → Low z → natAbs (atMost1024 z) ≤ 1024
 unfolding Low atMost1024
-atMost1024-abs (pos n) h = pick-cases (ltb 1024 n) (pos 1024) (pos n) (λ z. natAbs z ≤ 1024) (λ t. omega arith) (λ t. nltb→le 1024 n t)
+atMost1024-abs (pos n) h = cond-cases (ltb 1024 n) (pos 1024) (pos n) (λ z. natAbs z ≤ 1024) (λ t. omega arith) (λ t. nltb→le 1024 n t)
 atMost1024-abs (negsuc n) h = h
 
 -- a weight in bounds that grows is not below -1024

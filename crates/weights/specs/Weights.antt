@@ -1,6 +1,6 @@
 -- Document 01, "Passes": the prediction, the sample, and what a step makes of a weight. Numbers are whole numbers of any
 -- size; what is kept to 32 bits says so. Assumes nothing.
-use mathlib.Core.Bool.{Bool, true, false}
+use mathlib.Core.Bool.{cond}
 use Prim.Native.Nat.{zero, suc}
 use lib.IntN.{ℤ, pos, negsuc, negℤ, _+ℤ_, _-ℤ_, _*ℤ_}
 use lib.Signed.{ltZ}
@@ -48,14 +48,9 @@ moved Way.still weight delta = weight
 moved Way.up weight delta = wrap32 (weight +ℤ delta)
 moved Way.down weight delta = wrap32 (weight -ℤ delta)
 
--- x where the test holds, else y
-abbrev pub pick : Bool → ℤ → ℤ → ℤ
-pick true x y = x
-pick false x y = y
-
 -- x, and 1024 where x is above it
 unfoldable pub atMost1024 : ℤ → ℤ
-atMost1024 x = pick (ltZ (pos 1024) x) (pos 1024) x
+atMost1024 x = cond (ltZ (pos 1024) x) (pos 1024) x
 
 -- a cross weight: it is cut at 1024 where it grows, and its negation is where it falls (P9). For weights and deltas of any
 -- size this is not a cut to -1024 and 1024

@@ -56,7 +56,7 @@ same-length c = search needs
 returns : tie.Need-returns
 returns c =
     let s = c .before .before .before .before .before .before .before .before in
-    passed-by (s .args .analysis) (s .args .start) (s .args .buffer .now) (Lag _) (c .before .before .before .before .before .before .term-of .ensures) (c .before .before .before .before .t .given .1) (c .before .run-lag .ensures) (search (needs, s .good .1 .0))
+    passed-by (s .args .direction) (s .args .start) (s .args .buffer .now) (Lag _) (c .before .before .before .before .before .before .term-of .ensures) (c .before .before .before .before .t .given .1) (c .before .run-lag .ensures) (search (needs, s .good .1 .0))
 
 same-length-2 : tie.Need-same-length-2
 same-length-2 c = search needs
@@ -64,7 +64,7 @@ same-length-2 c = search needs
 returns-2 : tie.Need-returns-2
 returns-2 c =
     let s = c .before .before .before .before .before .before .before in
-    passed-by (s .args .analysis) (s .args .start) (s .args .buffer .now) Seventeen (c .before .before .before .before .before .term-of .ensures) (c .before .before .before .enum-told .given .1) (c .before .run-two .ensures) (search (needs, s .good .1 .0))
+    passed-by (s .args .direction) (s .args .start) (s .args .buffer .now) Seventeen (c .before .before .before .before .before .term-of .ensures) (c .before .before .before .enum-told .given .1) (c .before .run-two .ensures) (search (needs, s .good .1 .0))
 
 same-length-3 : tie.Need-same-length-3
 same-length-3 c = search needs
@@ -72,7 +72,7 @@ same-length-3 c = search needs
 returns-3 : tie.Need-returns-3
 returns-3 c =
     let s = c .before .before .before .before .before .before .before in
-    passed-by (s .args .analysis) (s .args .start) (s .args .buffer .now) Eighteen (c .before .before .before .before .before .term-of .ensures) (c .before .before .before .enum-told2 .given .1) (c .before .run-two2 .ensures) (search (needs, s .good .1 .0))
+    passed-by (s .args .direction) (s .args .start) (s .args .buffer .now) Eighteen (c .before .before .before .before .before .term-of .ensures) (c .before .before .before .enum-told2 .given .1) (c .before .run-two2 .ensures) (search (needs, s .good .1 .0))
 
 same-length-4 : tie.Need-same-length-4
 same-length-4 c = search needs
@@ -80,7 +80,7 @@ same-length-4 c = search needs
 returns-4 : tie.Need-returns-4
 returns-4 c =
     let s = c .before .before .before .before .before .before .before in
-    passed-by (s .args .analysis) (s .args .start) (s .args .buffer .now) MinusOne (c .before .before .before .before .before .term-of .ensures) (c .before .before .before .enum-told3 .given .1) (c .before .run-cross .ensures) (search (needs, s .good .1 .0))
+    passed-by (s .args .direction) (s .args .start) (s .args .buffer .now) MinusOne (c .before .before .before .before .before .term-of .ensures) (c .before .before .before .enum-told3 .given .1) (c .before .run-cross .ensures) (search (needs, s .good .1 .0))
 
 same-length-5 : tie.Need-same-length-5
 same-length-5 c = search needs
@@ -88,7 +88,7 @@ same-length-5 c = search needs
 returns-5 : tie.Need-returns-5
 returns-5 c =
     let s = c .before .before .before .before .before .before .before in
-    passed-by (s .args .analysis) (s .args .start) (s .args .buffer .now) MinusTwo (c .before .before .before .before .before .term-of .ensures) (c .before .before .before .enum-told4 .given .1) (c .before .run-cross2 .ensures) (search (needs, s .good .1 .0))
+    passed-by (s .args .direction) (s .args .start) (s .args .buffer .now) MinusTwo (c .before .before .before .before .before .term-of .ensures) (c .before .before .before .enum-told4 .given .1) (c .before .run-cross2 .ensures) (search (needs, s .good .1 .0))
 
 same-length-6 : tie.Need-same-length-6
 same-length-6 c = search needs
@@ -96,7 +96,7 @@ same-length-6 c = search needs
 returns-6 : tie.Need-returns-6
 returns-6 c =
     let s = c .before .before .before .before .before .before .before in
-    passed-by (s .args .analysis) (s .args .start) (s .args .buffer .now) MinusThree (c .before .before .before .before .before .term-of .ensures) (c .before .before .before .enum-told5 .given .1) (c .before .run-swap .ensures) (search (needs, s .good .1 .0))
+    passed-by (s .args .direction) (s .args .start) (s .args .buffer .now) MinusThree (c .before .before .before .before .before .term-of .ensures) (c .before .before .before .enum-told5 .given .1) (c .before .run-swap .ensures) (search (needs, s .good .1 .0))
 
 same-length-7 : tie.Need-same-length-7
 same-length-7 c = search needs
@@ -104,7 +104,7 @@ same-length-7 c = search needs
 returns-7 : tie.Need-returns-7
 returns-7 c =
     let s = c .before .before .before .before .before .before .before in
-    passed-by (s .args .analysis) (s .args .start) (s .args .buffer .now) Invalid (c .before .before .before .before .before .term-of .ensures) (c .before .before .before .enum-told6 .given .1) (c .before .run-lag2 .ensures ∙ invalid-run (s .args .analysis) (s .args .start) 0 (s .args .buffer .now)) (search (needs, s .good .1 .0))
+    passed-by (s .args .direction) (s .args .start) (s .args .buffer .now) Invalid (c .before .before .before .before .before .term-of .ensures) (c .before .before .before .enum-told6 .given .1) (c .before .run-lag2 .ensures ∙ invalid-run (s .args .direction) (s .args .start) 0 (s .args .buffer .now)) (search (needs, s .good .1 .0))
 
 pub run-pass-spec : {M : Type 1} → statement M
 run-pass-spec =

@@ -8,7 +8,7 @@ use lib.ListN.{length, replicate}
 use mir.Syntax.{w8, w32}
 use mir.Val.{toZ, ofZ}
 use mir.ValLaws.{toZ-ofZ}
-use Rattle.logpack.proofs.Negation.{again}
+use Rattle.wrapping.proofs.ReadBack.{reread}
 use Rattle.slots.proofs.SlotLaws.{wider, laid-length}
 use Rattle.pass_slots.proofs.PassSlotLaws.{twenty}
 use borrow.Author.Needs.{needs}
@@ -57,7 +57,7 @@ lay-requires-3 c κs =
 returns : tie.Need-returns
 returns c =
     let p = c .before .before .before .before .before .before .before .before .before .before .before .before .before .before .before .before .args .p in
-    let head = again (toZ w8 (ofZ w8 (p .term))) ∷ again (p .delta) ∷ again (p .«weight_a») ∷ again (p .«weight_b») ∷ [] in
+    let head = reread (toZ w8 (ofZ w8 (p .term))) ∷ reread (p .delta) ∷ reread (p .«weight_a») ∷ reread (p .«weight_b») ∷ [] in
     twenty p head (replicate 20 (pos 0)) _ _ _ (c .before .before .before .before .before .before .before .before .before .lay .ensures) (c .before .before .before .before .before .lay2 .ensures) (c .before .lay3 .ensures) refl (search needs) (search needs)
     (rw (toZ-ofZ w8 (p .term) (search needs), toZ-ofZ w32 (p .term) (wider (search needs)), toZ-ofZ w32 (p .delta) (search needs), toZ-ofZ w32 (p .«weight_a») (search needs), toZ-ofZ w32 (p .«weight_b») (search needs)))
 

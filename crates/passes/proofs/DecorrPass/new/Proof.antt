@@ -29,8 +29,8 @@ returns c =
 seed-count-requires : tie.Need-seed-count-requires
 seed-count-requires c κs = search needs
 
-seed-answer-requires : tie.Need-seed-answer-requires
-seed-answer-requires c κs = search needs
+seed-length-requires : tie.Need-seed-length-requires
+seed-length-requires c κs = search needs
 
 enum-told : tie.Need-enum-told
 enum-told c = search needs
@@ -48,13 +48,13 @@ returns-2 c =
     let k : Known (a .term) (c .before .before .before .before .before .before .before .term-of .result) (c .before .before .before .before .before .before .is-valid .result) (c .before .before .before .before .seed-count .result) =
     record { term-is = rw (toZ-ofZ w8 _ (s .fits .term)) at (c .before .before .before .before .before .before .before .term-of .ensures); valid-is = c .before .before .before .before .before .before .is-valid .ensures; valid = not-false _ (c .before .before .before .before .before .if1 .left); count-is = c .before .before .before .before .seed-count .ensures } in
     rw (c .refused2 .ensures)
-    (made-short-a (a .term) (a .delta) (a .weight-a) (a .weight-b) (a .seed-a .now) (a .seed-b .now) k (c .before .before .before .seed-answer .ensures) (c .before .enum-told2 .given .1))
+    (made-short-a (a .term) (a .delta) (a .weight-a) (a .weight-b) (a .seed-a .now) (a .seed-b .now) k (c .before .before .before .seed-length .ensures) (c .before .enum-told2 .given .1))
 
 is-cross-requires : tie.Need-is-cross-requires
 is-cross-requires c κs = search needs
 
-seed-answer-requires-2 : tie.Need-seed-answer-requires-2
-seed-answer-requires-2 c κs = search needs
+seed-length-requires-2 : tie.Need-seed-length-requires-2
+seed-length-requires-2 c κs = search needs
 
 enum-told-3 : tie.Need-enum-told-3
 enum-told-3 c = search needs
@@ -72,7 +72,7 @@ returns-3 c =
     let k : Known (a .term) (c .before .before .before .before .before .before .before .before .before .before .before .term-of .result) (c .before .before .before .before .before .before .before .before .before .before .is-valid .result) (c .before .before .before .before .before .before .before .before .seed-count .result) =
     record { term-is = rw (toZ-ofZ w8 _ (s .fits .term)) at (c .before .before .before .before .before .before .before .before .before .before .before .term-of .ensures); valid-is = c .before .before .before .before .before .before .before .before .before .before .is-valid .ensures; valid = not-false _ (c .before .before .before .before .before .before .before .before .before .if1 .left); count-is = c .before .before .before .before .before .before .before .before .seed-count .ensures } in
     rw (c .refused3 .ensures)
-    (made-short-b (a .term) (a .delta) (a .weight-a) (a .weight-b) (a .seed-a .now) (a .seed-b .now) k (c .before .before .before .before .before .before .before .seed-answer .ensures) (c .before .before .before .before .before .enum-told .given .1) (c .before .before .before .before .is-cross .ensures) (c .before .before .before .seed-answer2 .ensures) (c .before .enum-told4 .given .1))
+    (made-short-b (a .term) (a .delta) (a .weight-a) (a .weight-b) (a .seed-a .now) (a .seed-b .now) k (c .before .before .before .before .before .before .before .seed-length .ensures) (c .before .before .before .before .before .enum-told .given .1) (c .before .before .before .before .is-cross .ensures) (c .before .before .before .seed-length2 .ensures) (c .before .enum-told4 .given .1))
 
 is-lag-requires : tie.Need-is-lag-requires
 is-lag-requires c κs = search needs
@@ -81,13 +81,13 @@ seed-history-requires : tie.Need-seed-history-requires
 seed-history-requires c κs =
     let s = c .before .before .before .before .before .before .before .before .before .before .before .before in
     let small : c .before .before .before .before .before .before .before .before .seed-count .result ≤ 8 = rw (c .before .before .before .before .before .before .before .before .seed-count .ensures, c .before .before .before .before .before .before .before .before .before .before .before .term-of .ensures) (count-small _) in
-    (small, enough-long false (c .before .before .before .before .before .before .before .before .seed-count .result) (length (s .args .seed-a .now)) (c .before .before .before .before .before .before .before .seed-answer .ensures) (c .before .before .before .before .before .enum-told .given .1))
+    (small, enough-long false (c .before .before .before .before .before .before .before .before .seed-count .result) (length (s .args .seed-a .now)) (c .before .before .before .before .before .before .before .seed-length .ensures) (c .before .before .before .before .before .enum-told .given .1))
 
 seed-history-requires-2 : tie.Need-seed-history-requires-2
 seed-history-requires-2 c κs =
     let s = c .before .before .before .before .before .before .before .before .before .before .before .before .before in
     let small : c .before .before .before .before .before .before .before .before .before .seed-count .result ≤ 8 = rw (c .before .before .before .before .before .before .before .before .before .seed-count .ensures, c .before .before .before .before .before .before .before .before .before .before .before .before .term-of .ensures) (count-small _) in
-    (small, enough-long (c .before .before .before .before .before .is-cross .result && ltb 0 (length (s .args .seed-a .now))) (c .before .before .before .before .before .before .before .before .before .seed-count .result) (length (s .args .seed-b .now)) (c .before .before .before .before .seed-answer2 .ensures) (c .before .before .enum-told3 .given .1))
+    (small, enough-long (c .before .before .before .before .before .is-cross .result && ltb 0 (length (s .args .seed-a .now))) (c .before .before .before .before .before .before .before .before .before .seed-count .result) (length (s .args .seed-b .now)) (c .before .before .before .before .seed-length2 .ensures) (c .before .before .enum-told3 .given .1))
 
 returns-4 : tie.Need-returns-4
 returns-4 c =
@@ -96,7 +96,7 @@ returns-4 c =
     let f = s .fits in
     let k : Known (a .term) (c .before .before .before .before .before .before .before .before .before .before .before .before .before .term-of .result) (c .before .before .before .before .before .before .before .before .before .before .before .before .is-valid .result) (c .before .before .before .before .before .before .before .before .before .before .seed-count .result) =
     record { term-is = rw (toZ-ofZ w8 _ (s .fits .term)) at (c .before .before .before .before .before .before .before .before .before .before .before .before .before .term-of .ensures); valid-is = c .before .before .before .before .before .before .before .before .before .before .before .before .is-valid .ensures; valid = not-false _ (c .before .before .before .before .before .before .before .before .before .before .before .if1 .left); count-is = c .before .before .before .before .before .before .before .before .before .before .seed-count .ensures } in
-    made-accepted (a .term) (a .delta) (a .weight-a) (a .weight-b) (a .seed-a .now) (a .seed-b .now) k (c .before .before .before .before .before .before .before .before .before .seed-answer .ensures) (c .before .before .before .before .before .before .before .enum-told .given .1) (c .before .before .before .before .before .before .is-cross .ensures) (c .before .before .before .before .before .seed-answer2 .ensures) (c .before .before .before .enum-told3 .given .1)
+    made-accepted (a .term) (a .delta) (a .weight-a) (a .weight-b) (a .seed-a .now) (a .seed-b .now) k (c .before .before .before .before .before .before .before .before .before .seed-length .ensures) (c .before .before .before .before .before .before .before .enum-told .given .1) (c .before .before .before .before .before .before .is-cross .ensures) (c .before .before .before .before .before .seed-length2 .ensures) (c .before .before .before .enum-told3 .given .1)
     (c .before .before .is-lag .ensures) (c .before .seed-history .ensures) (c .seed-history2 .ensures) (f .term) (f .delta) (f .weight-a) (f .weight-b)
 
 pub new-spec : {M : Type 1} → statement M
@@ -108,13 +108,13 @@ new-spec =
     refused-requires
     returns
     seed-count-requires
-    seed-answer-requires
+    seed-length-requires
     enum-told
     enum-told-2
     refused-requires-2
     returns-2
     is-cross-requires
-    seed-answer-requires-2
+    seed-length-requires-2
     enum-told-3
     enum-told-4
     refused-requires-3

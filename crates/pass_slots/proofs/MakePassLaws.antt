@@ -1,0 +1,56 @@
+-- The three answers of `make_pass`.
+-- Assumes nothing.
+use mathlib.Core.Path.{_≡_, refl, ap, _∙_}
+use mathlib.Core.Bool.{false}
+use mathlib.Core.List.{List}
+use Prim.Native.Nat.{ℕ, zero, suc, _≤_, _<_}
+use lib.Dec.{eqb}
+use lib.IntN.{ℤ}
+use lib.ListN.{length}
+use borrow.Author.Tests.{lt-ltb, le-ltb}
+use Rattle.answers.specs.Guard.{unlessRefused}
+use Rattle.answers.specs.declared.Outcome.{Outcome}
+use Rattle.answers.specs.declared.Refusal.{Refusal}
+use Rattle.answers.specs.Numbers.{outcomeNumber}
+use Rattle.answers.proofs.NumberLaws.{number-positive}
+use Rattle.passes.specs.Making.{makingRefusal, Made, noPass, made}
+use Rattle.passes.specs.declared.DecorrPass.{DecorrPass}
+use Rattle.slots.specs.Slots.{laid, laidAt, laidIf}
+use Rattle.slots.proofs.SlotLaws.{refused, laid-first}
+use Rattle.pass_slots.specs.PassSlots.{slotsOf, passAnswer, passValues}
+
+-- pass making tells the number that it is given
+by-refusal : (n : ℕ) (p : DecorrPass) → unlessRefused {A = Made} n (λ k. record { refusal = k; pass = noPass }) (record { refusal = 0; pass = p }) .refusal ≡ n
+by-refusal zero p = refl
+by-refusal (suc n) p = refl
+
+module _ (term delta weightA weightB : ℤ) (seedA seedB slots : List ℤ) where
+  -- what `make_pass` answers, and leaves in the list of slots
+  abbrev pub Passed : ℕ → List ℤ → Type 0
+  Passed r after = (r ≡ passAnswer term seedA seedB slots) × (after ≡ laidIf r (passValues term delta weightA weightB seedA seedB) slots)
+
+  -- the number that making tells is its refusal
+  made-refusal : made term delta weightA weightB seedA seedB .refusal ≡ makingRefusal term seedA seedB
+  unfolding made
+  made-refusal = by-refusal (makingRefusal term seedA seedB) _
+
+  -- too few slots
+  pub pass-short : (r : ℕ) → r ≡ 6 → length slots < 20 → Passed r slots
+  pass-short r e h = rw (lt-ltb (length slots) 20 h, e) (refl, refl)
+
+  module _ (o : Outcome) (p : DecorrPass) (told : record { refusal = outcomeNumber o; pass = p } ≡ made term delta weightA weightB seedA seedB) (enough : 20 ≤ length slots) where
+    number-is : outcomeNumber o ≡ makingRefusal term seedA seedB
+    number-is = ap (λ (m : Made). m .refusal) told ∙ made-refusal
+
+    -- a pass that is refused
+    pub pass-refused : (r : ℕ) (x : Refusal) → r ≡ outcomeNumber o → o ≡ Outcome.Refused x → Passed r slots
+    pass-refused r x e f =
+        let z : eqb r 0 ≡ false = refused (outcomeNumber o) r (rw f (number-positive x)) e in
+        rw (le-ltb (length slots) 20 enough, z) (e ∙ number-is, refl)
+
+    -- one that is made
+    pub pass-made : (values after : List ℤ) → o ≡ Outcome.Accepted → values ≡ slotsOf p → after ≡ laidAt 0 values slots → Passed 0 after
+    pass-made values after f g h =
+        let n : 0 ≡ makingRefusal term seedA seedB = rw f at number-is in
+        let v : values ≡ passValues term delta weightA weightB seedA seedB = g ∙ ap (λ (m : Made). slotsOf (m .pass)) told in
+        rw (le-ltb (length slots) 20 enough) (n, h ∙ laid-first values slots ∙ ap (λ (l : List ℤ). laid l slots) v)
