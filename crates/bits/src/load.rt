@@ -1,28 +1,16 @@
 // Bytes of a payload as one number, the first byte lowest. The compiler makes `eight` a single
 // load, so a field costs one, except in the last seven bytes of the payload.
+use wrapping::casts::u8_to_u64;
 ghost use mathlib.Core.Path.{_≡_};
 ghost use Prim.Native.Nat.{_+_, _≤_};
 ghost use lib.ListN.{length, take, drop};
 ghost use Rattle.bits.specs.Bits.{bitsOf, num};
 
-// A byte as a 32-bit number.
-pub fn wide(x: u8) -> u32
-    ensures { λ r. ⌜ r ≡ x ⌝ }
-{
-    x as u32
-}
-
-fn wide64(x: u8) -> u64
-    ensures { λ r. ⌜ r ≡ x ⌝ }
-{
-    x as u64
-}
-
 fn two(s: &[u8], i: usize) -> u64
     requires { ⌜ i + 2 ≤ length (now s) ⌝ }
     ensures { λ r. ⌜ r ≡ num (bitsOf (take 2 (drop i (now (s .entry))))) ⌝ }
 {
-    wide64(s[i]) + (wide64(s[i + 1]) << 8)
+    u8_to_u64(s[i]) + (u8_to_u64(s[i + 1]) << 8)
 }
 
 fn four(s: &[u8], i: usize) -> u64
@@ -51,7 +39,7 @@ pub fn window(s: &[u8], i: usize) -> u64
     let mut w: u64 = 0;
     let mut j: usize = 0;
     while j < n {
-        w = w + (wide64(s[i + j]) << (8 * j));
+        w = w + (u8_to_u64(s[i + j]) << (8 * j));
         j = j + 1;
     }
     w

@@ -10,8 +10,8 @@ ghost use Rattle.answers.specs.Limits.{maxPayloadBytes};
 ghost use Rattle.bits.specs.Bits.{bitsOf};
 ghost use Rattle.bits.specs.Fields.{getBits, unary};
 use crate::Field;
-use crate::load::wide;
 use crate::load::window;
+use wrapping::casts::u8_to_u32;
 
 // The bit at `at`, as a field of one bit.
 pub fn get_bit(s: &[u8], at: usize) -> Field
@@ -21,7 +21,7 @@ pub fn get_bit(s: &[u8], at: usize) -> Field
     if at / 8 >= s.len() {
         return Field::Truncated;
     }
-    Field::Value(wide((s[at / 8] >> (at % 8)) % 2), at + 1)
+    Field::Value(u8_to_u32((s[at / 8] >> (at % 8)) % 2), at + 1)
 }
 
 // The number of `count` bits at `at`, low bit first. No bits are found at every place.

@@ -8,7 +8,7 @@ ghost use lib.ListN.{length};
 ghost use Rattle.bits.specs.Bits.{low};
 ghost use Rattle.bits.specs.Fields.{unaryField};
 ghost use Rattle.bits.specs.Laid.{put};
-use crate::load::wide;
+use wrapping::casts::u8_to_u32;
 
 fn least(a: u32, b: u32) -> u32
     ensures { λ r. ⌜ r ≡ min a b ⌝ }
@@ -21,7 +21,7 @@ fn join(c: u8, k: u32, v: u32, m: u32) -> u8
     requires { ⌜ k + m ≤ 8 ⌝ }
     ensures { λ r. ⌜ r ≡ c % 2 ^ k + v % 2 ^ m * 2 ^ k ⌝ }
 {
-    let old = wide(c) % (1 << k);
+    let old = u8_to_u32(c) % (1 << k);
     let x = v % (1 << m);
     (old + (x << k)) as u8
 }

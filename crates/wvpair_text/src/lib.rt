@@ -17,6 +17,7 @@ use answers::Outcome;
 use answers::Refusal;
 use answers::outcome_number;
 use samples::reading::decode_packed_samples_stereo_from_entropy;
+use wrapping::casts::u8_to_usize;
 
 mod decimal;
 mod limits;
@@ -31,19 +32,12 @@ pub struct TextAnswer {
     pub length: usize,
 }
 
-// A byte as a count.
-fn wide(x: u8) -> usize
-    ensures { λ r. ⌜ (r ≡ x) × (r ≤ 255) ⌝ }
-{
-    x as usize
-}
-
 // The frame count of an input that has one.
 fn frame_count(input: &[u8]) -> usize
     requires { ⌜ headBytes ≤ length (now input) ⌝ }
     ensures { λ r. ⌜ r ≡ frameCount (now (input .entry)) ⌝ }
 {
-    wide(input[12]) + 256 * wide(input[13])
+    u8_to_usize(input[12]) + 256 * u8_to_usize(input[13])
 }
 
 // Room for the samples of the most frames, all 0.

@@ -26,16 +26,16 @@ returns c = c .eight .ensures
 loop-holds : tie.Need-loop-holds Inv-loop μ-loop
 loop-holds c = (omega arith, omega arith, refl, nothing (drop (c .before .before .args .i) (now (c .before .before .args .s))))
 
-turn : (c : tie.After-wide64 Inv-loop μ-loop) →
+turn : (c : tie.After-u8-to-u64 Inv-loop μ-loop) →
     let a = c .before .before .before .before .before .before .args in
     let l = c .before .before .before .loop in
-    More (now (a .s)) (a .i) (l .j) (l .w) (c .wide64 .result)
+    More (now (a .s)) (a .i) (l .j) (l .w) (c .u8-to-u64 .result)
 turn c =
     let start : tie.Start Inv-loop μ-loop = search needs in
     let at-loop : tie.At-loop Inv-loop μ-loop = search needs in
     let a = start .args in
     let l = at-loop .loop in
-    let e = c .wide64 .ensures in
+    let e = c .u8-to-u64 .ensures in
     more (now (a .s)) (a .i) (l .j) (l .w) _ (omega arith) (omega arith) (l .inv .3) e (omega (arith, e, c .before .shared-slice-known2 .given (a .i + l .j)))
 
 add-w : tie.Need-add-w Inv-loop μ-loop

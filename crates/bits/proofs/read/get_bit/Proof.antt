@@ -21,7 +21,7 @@ returns-2 : tie.Need-returns-2
 returns-2 c =
     let start : tie.Start = search needs in
     let a = start .args in
-    rw (c .wide .ensures) (sym (bit-read (now (a .s)) (a .at) (omega arith)))
+    rw (c .u8-to-u32 .ensures) (sym (bit-read (now (a .s)) (a .at) (omega arith)))
 
 pub get-bit-spec : {M : Type 1} → statement M
 get-bit-spec =

@@ -11,12 +11,12 @@ use Rattle.bits.proofs.write.join.Statement.{statement}
 use Rattle.bits.proofs.write.join.Tie as tie
 
 -- the byte that is worked out is the one that is meant
-same : (c : tie.After-wide) →
+same : (c : tie.After-u8-to-u32) →
     let a = c .before .args in
-    c .wide .result % (1 * 2 ^ a .k % 2 ^ 32) + a .v % (1 * 2 ^ a .m % 2 ^ 32) * 2 ^ a .k % 2 ^ 32 ≡ a .c % 2 ^ a .k + a .v % 2 ^ a .m * 2 ^ a .k
+    c .u8-to-u32 .result % (1 * 2 ^ a .k % 2 ^ 32) + a .v % (1 * 2 ^ a .m % 2 ^ 32) * 2 ^ a .k % 2 ^ 32 ≡ a .c % 2 ^ a .k + a .v % 2 ^ a .m * 2 ^ a .k
 same c =
     let a = c .before .args in
-    rw (c .wide .ensures, shl-one (a .k) 32 (omega arith), shl-one (a .m) 32 (omega arith), shl-exact (a .m) (a .k) 32 (mod-lt (a .v) (pow-pos (a .m))) (omega arith))
+    rw (c .u8-to-u32 .ensures, shl-one (a .k) 32 (omega arith), shl-one (a .m) 32 (omega arith), shl-exact (a .m) (a .k) 32 (mod-lt (a .v) (pow-pos (a .m))) (omega arith))
 
 rem-old : tie.Need-rem-old
 rem-old c = let k = c .before .args .k in omega (arith, shl-one k 32 (omega arith), pow-pos k)
