@@ -7,7 +7,7 @@ use Prim.Native.Nat.{ℕ, _*_, _≤_}
 use native.Mathlib.Omega.{arith}
 use lib.IntN.{ℤ}
 use lib.ListN.{length}
-use Rattle.answers.specs.Limits.{maxFrames, maxPayloadBytes, bytesPerFrame, maxElements, maxPasses}
+use Rattle.answers.specs.Limits.{maxFrames, maxPayloadBytes, bytesPerFrame, maxElements}
 use Rattle.entropy.specs.Seed.{acceptsEntropy}
 use Rattle.samples.specs.View.{ReadTold, readEntry}
 use Rattle.passes.specs.declared.DecorrPass.{DecorrPass}

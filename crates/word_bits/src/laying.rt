@@ -6,12 +6,7 @@ ghost use Prim.Native.Nat.{_+_, _*_, _^_, _≤_, _<_};
 ghost use lib.ListN.{length};
 ghost use Rattle.bits.specs.Bits.{low};
 ghost use Rattle.bits.specs.Laid.{put};
-
-fn wide(x: u8) -> u64
-    ensures { λ r. ⌜ r ≡ x ⌝ }
-{
-    x as u64
-}
+use wrapping::casts::u8_to_u64;
 
 // The `count` bits of `value`, from `at` on.
 pub fn lay(out: &mut [u8], at: usize, value: u64, count: usize)
@@ -20,7 +15,7 @@ pub fn lay(out: &mut [u8], at: usize, value: u64, count: usize)
     ensures { λ _. ⌜ now (out .exit) ≡ put (now (out .entry)) at (low count value) ⌝ }
 {
     let end = at + count;
-    let mut left = wide(out[0]) % (1 << at) + (value << at);
+    let mut left = u8_to_u64(out[0]) % (1 << at) + (value << at);
     let mut i: usize = 0;
     while 8 * i < end {
         out[i] = (left % 256) as u8;

@@ -17,12 +17,12 @@ abbrev μ-loop : tie.MeasureT-loop
 μ-loop out₀ at value count end left₀ i₀ out left i = end - 8 * i
 
 -- what the code joins before the loop
-joins : (c : tie.After-wide Inv-loop μ-loop) → let a = c .before .before .before .args in
-    Begun (now (a .out)) (a .at) (a .count) (a .value) (c .wide .result % (1 * 2 ^ a .at % 2 ^ 64) + a .value * 2 ^ a .at % 2 ^ 64)
+joins : (c : tie.After-u8-to-u64 Inv-loop μ-loop) → let a = c .before .before .before .args in
+    Begun (now (a .out)) (a .at) (a .count) (a .value) (c .u8-to-u64 .result % (1 * 2 ^ a .at % 2 ^ 64) + a .value * 2 ^ a .at % 2 ^ 64)
 joins c =
     let start : tie.Start Inv-loop μ-loop = search needs in
     let a = start .args in
-    rw (c .wide .ensures) (begun (now (a .out)) (a .at) (a .count) (a .value) (omega arith) (omega arith) (start .pre .1) (omega arith) (omega arith))
+    rw (c .u8-to-u64 .ensures) (begun (now (a .out)) (a .at) (a .count) (a .value) (omega arith) (omega arith) (start .pre .1) (omega arith) (omega arith))
 
 rem-left : tie.Need-rem-left Inv-loop μ-loop
 rem-left c =
