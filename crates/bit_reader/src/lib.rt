@@ -34,7 +34,9 @@ impl<'a> BitReader<'a> {
 
     // The number of the next `count` bits; the Rust's `get_bit` is that of one bit.
     pub fn get_bits(self, count: u32) -> BitAnswer
-        ensures { λ r. ⌜ told r ≡ bitsRead (now (self .entry .payload)) (self .entry .place) count ⌝ }
+        ensures { λ r. ⌜
+            told r ≡ bitsRead (now (self .entry .payload)) (self .entry .place) count
+            ⌝ }
     {
         checked_get_bits(self.payload, self.place, count)
     }

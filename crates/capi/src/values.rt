@@ -8,7 +8,9 @@ ghost use Rattle.value_slots.specs.Values.{logWordValues, termByteValues, weigh
 #[no_mangle]
 pub extern "C" fn wv_log_word(word: i16, value: &mut [i32]) -> u32
     ensures answer { λ r. ⌜ r ≡ slotRefusal 1 (now (value .entry)) ⌝ }
-    ensures value { λ r. ⌜ now (value .exit) ≡ leaveValues r (logWordValues word) (now (value .entry)) ⌝ }
+    ensures value { λ r. ⌜
+        now (value .exit) ≡ leaveValues r (logWordValues word) (now (value .entry))
+        ⌝ }
 {
     value_slots::log_word(word, value)
 }
@@ -17,7 +19,9 @@ pub extern "C" fn wv_log_word(word: i16, value: &mut [i32]) -> u32
 #[no_mangle]
 pub extern "C" fn wv_term_byte(byte: u8, out: &mut [i32]) -> u32
     ensures answer { λ r. ⌜ r ≡ slotRefusal 2 (now (out .entry)) ⌝ }
-    ensures out { λ r. ⌜ now (out .exit) ≡ leaveValues r (termByteValues byte) (now (out .entry)) ⌝ }
+    ensures out { λ r. ⌜
+        now (out .exit) ≡ leaveValues r (termByteValues byte) (now (out .entry))
+        ⌝ }
 {
     value_slots::term_byte(byte, out)
 }
@@ -26,7 +30,9 @@ pub extern "C" fn wv_term_byte(byte: u8, out: &mut [i32]) -> u32
 #[no_mangle]
 pub extern "C" fn wv_weight_byte(byte: u8, out: &mut [i32]) -> u32
     ensures answer { λ r. ⌜ r ≡ slotRefusal 1 (now (out .entry)) ⌝ }
-    ensures out { λ r. ⌜ now (out .exit) ≡ leaveValues r (weightByteValues byte) (now (out .entry)) ⌝ }
+    ensures out { λ r. ⌜
+        now (out .exit) ≡ leaveValues r (weightByteValues byte) (now (out .entry))
+        ⌝ }
 {
     value_slots::weight_byte(byte, out)
 }
@@ -35,7 +41,10 @@ pub extern "C" fn wv_weight_byte(byte: u8, out: &mut [i32]) -> u32
 #[no_mangle]
 pub extern "C" fn wv_entropy(entropy: &[u8], medians: &mut [i32]) -> u32
     ensures answer { λ r. ⌜ r ≡ entropyAnswer (now (entropy .entry)) (now (medians .entry)) ⌝ }
-    ensures medians { λ r. ⌜ now (medians .exit) ≡ leaveValues r (entropyValues (now (entropy .entry))) (now (medians .entry)) ⌝ }
+    ensures medians { λ r. ⌜
+        now (medians .exit)
+        ≡ leaveValues r (entropyValues (now (entropy .entry))) (now (medians .entry))
+        ⌝ }
 {
     value_slots::entropy_medians(entropy, medians)
 }

@@ -1,5 +1,5 @@
-// Packing for a caller that holds what it is told in a list of slots. As in reading, what it answers
-// is laid into its slots on refusal too; only a list with too few slots is left alone.
+// Packing for a caller that holds what it is told in a list of slots. As in reading, what it
+// answers is laid into its slots on refusal too; only a list with too few slots is left alone.
 use answers::Refusal;
 use answers::number;
 use answers::outcome_number;

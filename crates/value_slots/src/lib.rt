@@ -12,7 +12,9 @@ ghost use Rattle.value_slots.specs.Values.{logWordValues, termByteValues
 // `wv_log_word`: the value of a log word, into 1 slot. Refuses 6.
 pub fn log_word(word: i16, value: &mut [i32]) -> u32
     ensures answer { λ r. ⌜ r ≡ slotRefusal 1 (now (value .entry)) ⌝ }
-    ensures value { λ r. ⌜ now (value .exit) ≡ leaveValues r (logWordValues word) (now (value .entry)) ⌝ }
+    ensures value { λ r. ⌜
+        now (value .exit) ≡ leaveValues r (logWordValues word) (now (value .entry))
+        ⌝ }
 {
     if value.len() < 1 {
         return number(Refusal::ListLength);
@@ -25,7 +27,9 @@ pub fn log_word(word: i16, value: &mut [i32]) -> u32
 // `wv_term_byte`: the term and the delta of a term byte, into 2 slots. Refuses 6.
 pub fn term_byte(byte: u8, out: &mut [i32]) -> u32
     ensures answer { λ r. ⌜ r ≡ slotRefusal 2 (now (out .entry)) ⌝ }
-    ensures out { λ r. ⌜ now (out .exit) ≡ leaveValues r (termByteValues byte) (now (out .entry)) ⌝ }
+    ensures out { λ r. ⌜
+        now (out .exit) ≡ leaveValues r (termByteValues byte) (now (out .entry))
+        ⌝ }
 {
     if out.len() < 2 {
         return number(Refusal::ListLength);
@@ -41,7 +45,9 @@ pub fn term_byte(byte: u8, out: &mut [i32]) -> u32
 // `wv_weight_byte`: the weight of a weight byte, into 1 slot. Refuses 6.
 pub fn weight_byte(byte: u8, out: &mut [i32]) -> u32
     ensures answer { λ r. ⌜ r ≡ slotRefusal 1 (now (out .entry)) ⌝ }
-    ensures out { λ r. ⌜ now (out .exit) ≡ leaveValues r (weightByteValues byte) (now (out .entry)) ⌝ }
+    ensures out { λ r. ⌜
+        now (out .exit) ≡ leaveValues r (weightByteValues byte) (now (out .entry))
+        ⌝ }
 {
     if out.len() < 1 {
         return number(Refusal::ListLength);
@@ -55,7 +61,10 @@ pub fn weight_byte(byte: u8, out: &mut [i32]) -> u32
 // then 1.
 pub fn entropy_medians(entropy: &[u8], medians: &mut [i32]) -> u32
     ensures answer { λ r. ⌜ r ≡ entropyAnswer (now (entropy .entry)) (now (medians .entry)) ⌝ }
-    ensures medians { λ r. ⌜ now (medians .exit) ≡ leaveValues r (entropyValues (now (entropy .entry))) (now (medians .entry)) ⌝ }
+    ensures medians { λ r. ⌜
+        now (medians .exit)
+        ≡ leaveValues r (entropyValues (now (entropy .entry))) (now (medians .entry))
+        ⌝ }
 {
     if medians.len() < 6 {
         return number(Refusal::ListLength);

@@ -24,7 +24,9 @@ ghost use Rattle.word_slots.specs.WordSlots.{pairSlots, countSlots, slot
 // Lays both sets of medians into 6 slots from a place on.
 fn lay_medians(medians: [AdaptiveMedians; 2], at: usize, slots: &mut [u32])
     requires { ⌜ at + 6 ≤ length (now slots) ⌝ }
-    ensures { λ _. ⌜ now (slots .exit) ≡ overlay (now (slots .entry)) at (pairSlots (pairOf medians)) ⌝ }
+    ensures { λ _. ⌜
+        now (slots .exit) ≡ overlay (now (slots .entry)) at (pairSlots (pairOf medians))
+        ⌝ }
 {
     let left = medians[0];
     let right = medians[1];
@@ -38,7 +40,10 @@ fn lay_medians(medians: [AdaptiveMedians; 2], at: usize, slots: &mut [u32])
 pub fn lay_counts(bits: usize, medians: [AdaptiveMedians; 2], slots: &mut [u32])
     requires bits { ⌜ bits < 4294967296 ⌝ }
     requires room { ⌜ 7 ≤ length (now slots) ⌝ }
-    ensures { λ _. ⌜ now (slots .exit) ≡ overlay (now (slots .entry)) 0 (countSlots bits (pairOf medians)) ⌝ }
+    ensures { λ _. ⌜
+        now (slots .exit)
+        ≡ overlay (now (slots .entry)) 0 (countSlots bits (pairOf medians))
+        ⌝ }
 {
     let first = [bits as u32];
     lay_words(&first, 0, slots);
@@ -78,7 +83,10 @@ fn state_in(slots: &[u32]) -> StereoDecodeState
 fn lay_state(place: usize, state: StereoDecodeState, slots: &mut [u32])
     requires place { ⌜ place < 4294967296 ⌝ }
     requires room { ⌜ 13 ≤ length (now slots) ⌝ }
-    ensures { λ _. ⌜ now (slots .exit) ≡ overlay (now (slots .entry)) 0 (stateSlots place (stateOf state)) ⌝ }
+    ensures { λ _. ⌜
+        now (slots .exit)
+        ≡ overlay (now (slots .entry)) 0 (stateSlots place (stateOf state))
+        ⌝ }
 {
     let medians = state.medians;
     let last_zero = flag_slot(state.last_zero);

@@ -52,7 +52,9 @@ fn print_reading(input: &[u8], frames: usize, out: &mut [u8]) -> usize
     requires input { ⌜ (headBytes ≤ length (now input)) × (length (now input) ≤ largestInput) ⌝ }
     requires frames { ⌜ (frames ≡ frameCount (now input)) × (frames ≤ mostFrames) ⌝ }
     requires room { ⌜ largestText ≤ length (now out) ⌝ }
-    ensures { λ r. ⌜ TextPut (now (out .entry)) (now (out .exit)) 0 r (printed (readingOf (now (input .entry)))) ⌝ }
+    ensures { λ r. ⌜
+        TextPut (now (out .entry)) (now (out .exit)) 0 r (printed (readingOf (now (input .entry))))
+        ⌝ }
 {
     let mut samples = silence();
     let n = 2 * frames;
@@ -75,7 +77,9 @@ fn print_reading(input: &[u8], frames: usize, out: &mut [u8]) -> usize
 // Lays what is printed of any input into a buffer that holds the largest text.
 fn print_input(input: &[u8], out: &mut [u8]) -> usize
     requires { ⌜ largestText ≤ length (now out) ⌝ }
-    ensures { λ r. ⌜ TextPut (now (out .entry)) (now (out .exit)) 0 r (wvpairText (now (input .entry))) ⌝ }
+    ensures { λ r. ⌜
+        TextPut (now (out .entry)) (now (out .exit)) 0 r (wvpairText (now (input .entry)))
+        ⌝ }
 {
     if input.len() < HEAD_BYTES {
         return put_end(out, 0, 1, 0);

@@ -25,7 +25,9 @@ fn put_text(out: &mut [u8], at: usize, text: &[u8]) -> usize
 // Lays the line of one frame: at most 24 bytes.
 fn put_line(out: &mut [u8], at: usize, left: i32, right: i32) -> usize
     requires { ⌜ at + 24 ≤ length (now out) ⌝ }
-    ensures text { λ r. ⌜ TextPut (now (out .entry)) (now (out .exit)) at r (frameLine left right) ⌝ }
+    ensures text { λ r. ⌜
+        TextPut (now (out .entry)) (now (out .exit)) at r (frameLine left right)
+        ⌝ }
     ensures short { λ r. ⌜ r ≤ at + 24 ⌝ }
 {
     let space = put_signed(out, at, left);
@@ -37,7 +39,9 @@ fn put_line(out: &mut [u8], at: usize, left: i32, right: i32) -> usize
 // Lays a line for each whole frame of `samples`: at most 12 bytes a sample.
 fn put_lines(out: &mut [u8], at: usize, samples: &[i32]) -> usize
     requires { ⌜ at + 12 * length (now samples) ≤ length (now out) ⌝ }
-    ensures text { λ r. ⌜ TextPut (now (out .entry)) (now (out .exit)) at r (frameLines (now (samples .entry))) ⌝ }
+    ensures text { λ r. ⌜
+        TextPut (now (out .entry)) (now (out .exit)) at r (frameLines (now (samples .entry)))
+        ⌝ }
     ensures short { λ r. ⌜ r ≤ at + 12 * length (now (samples .entry)) ⌝ }
 {
     let mut place = at;
@@ -64,7 +68,9 @@ pub(crate) fn put_end(out: &mut [u8], at: usize, refusal: u32, bits: usize) -> u
 // Lays what is printed of a reading at the start of `out`.
 pub(crate) fn put_report(out: &mut [u8], samples: &[i32], refusal: u32, bits: usize) -> usize
     requires { ⌜ 12 * length (now samples) + length (endLine refusal bits) ≤ length (now out) ⌝ }
-    ensures { λ r. ⌜ TextPut (now (out .entry)) (now (out .exit)) 0 r (report (now (samples .entry)) refusal bits) ⌝ }
+    ensures { λ r. ⌜
+        TextPut (now (out .entry)) (now (out .exit)) 0 r (report (now (samples .entry)) refusal bits)
+        ⌝ }
 {
     let last = put_lines(out, 0, samples);
     put_end(out, last, refusal, bits)

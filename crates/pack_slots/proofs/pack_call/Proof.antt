@@ -1,4 +1,5 @@
--- `pack_slots::pack_call` meets its contract: too few slots, or what packing told, whose bits fit 32 bits.
+-- `pack_slots::pack_call` meets its contract: too few slots, or what packing told, whose bits fit
+-- 32 bits.
 -- Assumes nothing.
 use native.Mathlib.Omega.{arith}
 use Rattle.pack_slots.proofs.PackSlotLaws.{pack-short, pack-fits, pack-laid}
