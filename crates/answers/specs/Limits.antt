@@ -1,4 +1,5 @@
--- Document 01, "Why each operation says no": how large an input may be. Code has the same numbers, with their reasons, in src/limits.rt.
+-- Document 01, "Why each operation says no": how large an input may be. Code has the same numbers,
+-- with their reasons, in src/limits.rt.
 -- Assumes nothing.
 use Prim.Native.Nat.{ℕ}
 

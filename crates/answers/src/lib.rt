@@ -1,5 +1,6 @@
-// Implements document 01, "Why each operation says no": one enum for its numbers, and what an entry answers.
-// Every entry answers with an `Outcome`; none refuses for a reason that is not listed here.
+// Implements document 01, "Why each operation says no": one enum for its numbers, and what an entry
+// answers. Every entry answers with an `Outcome`; none refuses for a reason that is not listed
+// here.
 ghost use mathlib.Core.Path.{_≡_};
 ghost use Rattle.answers.specs.Numbers.{numberOf, outcomeNumber};
 

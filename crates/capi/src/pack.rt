@@ -1,5 +1,5 @@
-// Packing. As in reading, what it answers is laid into its slots on refusal too; only a list with too
-// few slots is left alone.
+// Packing. As in reading, what it answers is laid into its slots on refusal too; only a list with
+// too few slots is left alone.
 ghost use mathlib.Core.Path.{_≡_};
 ghost use Rattle.pack_slots.specs.PackSlots.{packCall};
 

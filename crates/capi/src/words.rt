@@ -1,12 +1,12 @@
-// Reading, and one word for a caller that holds the state in a list of slots. Unlike the values, what
-// these two answer is laid into its slots on refusal too; only lists with too few slots are left
-// alone.
+// Reading, and one word for a caller that holds the state in a list of slots. Unlike the values,
+// what these two answer is laid into its slots on refusal too; only lists with too few slots are
+// left alone.
 ghost use mathlib.Core.Path.{_≡_};
 ghost use Rattle.word_slots.specs.Calls.{readCall, wordCall};
 
 // The samples of `frames` frames into `samples`, left then right; bits used, left medians, right
-// medians and samples written into 8 slots of `answer`. Refuses 6 for `answer`, with nothing written;
-// then, with `answer` written, 5, 6, 1, 2, and 3 or 4 in a word.
+// medians and samples written into 8 slots of `answer`. Refuses 6 for `answer`, with nothing
+// written; then, with `answer` written, 5, 6, 1, 2, and 3 or 4 in a word.
 #[no_mangle]
 pub extern "C" fn wv_read(
     entropy: &[u8],
@@ -23,9 +23,9 @@ pub extern "C" fn wv_read(
     word_slots::calls::read_call(entropy, payload, frames, samples, answer)
 }
 
-// The word at a place of the payload, in the state that the 13 slots of `state` hold; its sample into
-// 1 slot, its report into 2. Refuses 6 for the slots, with nothing written; then 5, 12, 3 or 4, with
-// sample 0, no report, and `state` as it was.
+// The word at a place of the payload, in the state that the 13 slots of `state` hold; its sample
+// into 1 slot, its report into 2. Refuses 6 for the slots, with nothing written; then 5, 12, 3 or
+// 4, with sample 0, no report, and `state` as it was.
 #[no_mangle]
 pub extern "C" fn wv_word(
     payload: &[u8],

@@ -58,7 +58,9 @@ fn run_array(
 // What analysis by the first `count` passes of an array says of a buffer of that many elements, as
 // `recorrelate_array` answers: 5, 9 and 7. Runs no pass.
 pub fn analysis_refusal(passes: [DecorrPass; MAX_PASSES], count: usize, elements: usize) -> Outcome
-    ensures { λ r. ⌜ outcomeNumber r ≡ analysisNumber (allValid (take count passes)) count elements ⌝ }
+    ensures { λ r.
+        ⌜ outcomeNumber r
+        ≡ analysisNumber (allValid (take count passes)) count elements ⌝ }
 {
     if MAX_PASSES < count {
         return list_outcome(true, count, elements);

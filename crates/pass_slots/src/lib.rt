@@ -117,7 +117,9 @@ pub fn make_pass(
     seed_b: &[i32],
     pass: &mut [i32],
 ) -> u32
-    ensures answer { λ r. ⌜ r ≡ passAnswer term (now («seed_a» .entry)) (now («seed_b» .entry)) (now (pass .entry)) ⌝ }
+    ensures answer { λ r.
+        ⌜ r
+        ≡ passAnswer term (now («seed_a» .entry)) (now («seed_b» .entry)) (now (pass .entry)) ⌝ }
     ensures pass { λ r. ⌜
         now (pass .exit)
         ≡ leaveValues r

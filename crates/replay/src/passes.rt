@@ -63,7 +63,8 @@ fn run_parts(
     run(analyse, &mut passes[..count], &mut buffer[..length])
 }
 
-// Whether a list of up to four passes over up to 24 numbers, as a record of 848 bytes holds them, is run as stored.
+// Whether a list of up to four passes over up to 24 numbers, as a record of 848 bytes holds them,
+// is run as stored.
 pub fn passes_agree(record: &[u8]) -> bool {
     if record.len() < 848 {
         return false;

@@ -77,7 +77,9 @@ fn early_refusal(
     entropy: &[u8],
     room: usize,
 ) -> Outcome
-    ensures { λ r. ⌜ outcomeNumber r ≡ earlyRefusal passes count elements (now (entropy .entry)) room ⌝ }
+    ensures { λ r.
+        ⌜ outcomeNumber r
+        ≡ earlyRefusal passes count elements (now (entropy .entry)) room ⌝ }
 {
     let outcome = analysis_refusal(passes, count, elements);
     let Outcome::Accepted = outcome else {

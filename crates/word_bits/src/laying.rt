@@ -10,7 +10,10 @@ use wrapping::casts::u8_to_u64;
 
 // The `count` bits of `value`, from `at` on.
 pub fn lay(out: &mut [u8], at: usize, value: u64, count: usize)
-    requires room { ⌜ (at ≤ 8) × (0 < count) × (count ≤ 56) × (at + count ≤ 8 * length (now out)) ⌝ }
+    requires room { ⌜ (at ≤ 8)
+        × (0 < count)
+        × (count ≤ 56)
+        × (at + count ≤ 8 * length (now out)) ⌝ }
     requires value { ⌜ value < 2 ^ count ⌝ }
     ensures { λ _. ⌜ now (out .exit) ≡ put (now (out .entry)) at (low count value) ⌝ }
 {

@@ -64,7 +64,10 @@ fn prefix_of(count: u32, last_one: bool, more: bool) -> u32
 
 // The bits of a word behind its prefix, if it has one. The place after them.
 fn put_coded(out: &mut [u8], at: usize, bare: bool, prefix: u32, coded: Gathered) -> usize
-    requires room { ⌜ (at ≤ 8) × (at + 110 ≤ 8 * length (now out)) × (0 < coded .count) × (coded .count ≤ 29) ⌝ }
+    requires room { ⌜ (at ≤ 8)
+        × (at + 110 ≤ 8 * length (now out))
+        × (0 < coded .count)
+        × (coded .count ≤ 29) ⌝ }
     requires value { ⌜ coded .value < 2 ^ coded .count ⌝ }
     ensures { λ r. ⌜ PutIs (now (out .entry)) (now (out .exit)) at
         (cond bare
