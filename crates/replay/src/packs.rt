@@ -3,6 +3,7 @@ use crate::numbers::holds;
 use crate::numbers::holds_bytes;
 use crate::numbers::load_signed;
 use crate::numbers::number_at;
+use answers::limits::BYTES_PER_FRAME;
 
 // Packs up to eight frames: two residuals and 28 lent bytes a frame.
 fn pack(
@@ -22,7 +23,7 @@ fn pack(
         return 0;
     }
     let count = 2 * frames;
-    let room = 28 * frames;
+    let room = BYTES_PER_FRAME * frames;
     capi::wv_pack(
         &residuals[..count],
         entropy,
