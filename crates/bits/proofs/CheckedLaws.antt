@@ -7,22 +7,22 @@ use borrow.Author.Tests.{lt-ltb, le-ltb, le-leb, lt-leb}
 use lib.ListN.{length}
 use Rattle.answers.specs.Limits.{maxPayloadBytes}
 use Rattle.bits.specs.Bits.{low}
-use Rattle.bits.specs.Checked.{kept, written}
+use Rattle.bits.specs.Checked.{refuseWriting, written}
 use Rattle.bits.specs.Laid.{put}
 
 module _ (buf : List ℕ) (p v count : ℕ) where
   -- the buffer is over the limit
-  pub written-large : maxPayloadBytes < length buf → written buf p v count ≡ kept 5 buf
+  pub written-large : maxPayloadBytes < length buf → written buf p v count ≡ refuseWriting 5 buf
   unfolding written
   written-large h = rw (lt-ltb maxPayloadBytes (length buf) h)
 
   -- the field is over 32 bits
-  pub written-wide : length buf ≤ maxPayloadBytes → 32 < count → written buf p v count ≡ kept 5 buf
+  pub written-wide : length buf ≤ maxPayloadBytes → 32 < count → written buf p v count ≡ refuseWriting 5 buf
   unfolding written
   written-wide h w = rw (le-ltb maxPayloadBytes (length buf) h, lt-ltb 32 count w)
 
   -- the buffer ends before the field does
-  pub written-short : length buf ≤ maxPayloadBytes → count ≤ 32 → 8 * length buf < p + count → written buf p v count ≡ kept 11 buf
+  pub written-short : length buf ≤ maxPayloadBytes → count ≤ 32 → 8 * length buf < p + count → written buf p v count ≡ refuseWriting 11 buf
   unfolding written
   written-short h w r = rw (le-ltb maxPayloadBytes (length buf) h, le-ltb 32 count w, lt-leb (p + count) (8 * length buf) r)
 

@@ -51,12 +51,12 @@ pub record Written : Type 0 where
   pub buffer : List ℕ
 
 -- a refusal: the buffer keeps its bytes
-abbrev pub kept : ℕ → List ℕ → Written
-kept number buf = record { answer = number ∷ []; buffer = buf }
+abbrev pub refuseWriting : ℕ → List ℕ → Written
+refuseWriting number buf = record { answer = number ∷ []; buffer = buf }
 
 -- the count low bits of v, laid into the buffer from p on
 unfoldable pub written : List ℕ → ℕ → ℕ → ℕ → Written
 written buf p v count =
-    cond (ltb maxPayloadBytes (length buf)) (kept 5 buf) (
-    cond (ltb 32 count) (kept 5 buf) (
-    cond (leb (p + count) (8 * length buf)) (record { answer = 0 ∷ (p + count) ∷ []; buffer = put buf p (low count v) }) (kept 11 buf)))
+    cond (ltb maxPayloadBytes (length buf)) (refuseWriting 5 buf) (
+    cond (ltb 32 count) (refuseWriting 5 buf) (
+    cond (leb (p + count) (8 * length buf)) (record { answer = 0 ∷ (p + count) ∷ []; buffer = put buf p (low count v) }) (refuseWriting 11 buf)))

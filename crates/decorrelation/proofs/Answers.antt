@@ -18,7 +18,7 @@ use Rattle.passes.specs.Run.{Chain}
 use Rattle.passes.specs.declared.DecorrPass.{DecorrPass}
 use Rattle.passes.specs.declared.Direction.{Direction}
 use Rattle.passes.specs.declared.Direction.the-variants.{Decorrelation, Analysis}
-use Rattle.decorrelation.specs.Lists.{allValid, listNumber, numberBy, Answer, done, kept, chained, listed, acceptedBy, followed, arrayAnswer}
+use Rattle.decorrelation.specs.Lists.{allValid, listNumber, numberBy, Answer, done, refuseList, chained, listed, acceptedBy, followed, arrayAnswer}
 
 -- both directions refuse the same lists
 pub number-by : (dir : Direction) (v : Bool) (n m : ℕ) → numberBy dir v n m ≡ listNumber v n m
@@ -36,12 +36,12 @@ accepted-zero (Outcome.Refused x) a = cc
 module _ (ps : List DecorrPass) (l : List ℤ) (r : Outcome) (n : ℕ) (e : outcomeNumber r ≡ n) (c : Chain) where
   -- an accepted list answers what its run left
   told-done : {zs : List DecorrPass} {cs : List ℤ} → acceptedBy r ≡ true → record { passes = zs; buffer = cs } ≡ c
-      → record { refusal = outcomeNumber r; passes = zs; buffer = cs } ≡ unlessRefused n (kept ps l) (done c)
+      → record { refusal = outcomeNumber r; passes = zs; buffer = cs } ≡ unlessRefused n (refuseList ps l) (done c)
   told-done a f = let z : outcomeNumber r ≡ 0 = accepted-zero r a in rw (← e, z) (ap done f)
 
   -- a refused list answers what it was given
-  told-kept : acceptedBy r ≡ false → record { refusal = outcomeNumber r; passes = ps; buffer = l } ≡ unlessRefused n (kept ps l) (done c)
-  told-kept a = rw (← e) (sym (guard-refused (outcomeNumber r) (kept ps l) (done c) (refused-positive r a)))
+  told-kept : acceptedBy r ≡ false → record { refusal = outcomeNumber r; passes = ps; buffer = l } ≡ unlessRefused n (refuseList ps l) (done c)
+  told-kept a = rw (← e) (sym (guard-refused (outcomeNumber r) (refuseList ps l) (done c) (refused-positive r a)))
 
 module _ (dir : Direction) (ps : List DecorrPass) (l : List ℤ) where
   number-of : (r : Outcome) → outcomeNumber r ≡ listNumber (allValid ps) (length ps) (length l) → outcomeNumber r ≡ numberBy dir (allValid ps) (length ps) (length l)

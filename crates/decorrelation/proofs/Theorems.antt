@@ -20,7 +20,7 @@ use Rattle.passes.proofs.Unique.{residuals-unique}
 use Rattle.passes.proofs.Bounds.{AllBounded, decorrelated-bounded, analysed-bounded}
 use Rattle.passes.specs.declared.Direction.{Direction}
 use Rattle.passes.specs.declared.Direction.the-variants.{Decorrelation, Analysis}
-use Rattle.decorrelation.specs.Lists.{allValid, listNumber, numberBy, Answer, done, kept, chained, listed, followed, arrayAnswer, decorrelation, analysis}
+use Rattle.decorrelation.specs.Lists.{allValid, listNumber, numberBy, Answer, done, refuseList, chained, listed, followed, arrayAnswer, decorrelation, analysis}
 use Rattle.decorrelation.proofs.Answers.{number-by}
 
 -- what both entries accept: at most 16 well-made passes, and at most 262,144 elements
@@ -54,7 +54,7 @@ module _ (ps : List DecorrPass) (l : List ℤ) (h : Accepted ps l) (fit : Fit l)
       rw (listed-accepts Decorrelation ps l h, listed-accepts Analysis ps (decorrelated ps l .buffer) after-decorrelation) (ap done (analysed-decorrelated ps l fit))
 
 unique-by : (n : ℕ) (ps : List DecorrPass) (r s : List ℤ) → Fit r → Fit s
-    → unlessRefused n (kept ps r) (done (decorrelated ps r)) .buffer ≡ unlessRefused n (kept ps s) (done (decorrelated ps s)) .buffer → r ≡ s
+    → unlessRefused n (refuseList ps r) (done (decorrelated ps r)) .buffer ≡ unlessRefused n (refuseList ps s) (done (decorrelated ps s)) .buffer → r ≡ s
 unique-by zero ps r s hr hs e = residuals-unique ps r s hr hs e
 unique-by (suc n) ps r s hr hs e = e
 
@@ -86,7 +86,7 @@ analysis-finds ps x h fit =
       only = λ s hs e d. decorrelation-unique ps s (analysis ps x .buffer) (e ∙ sym len) hs good (d ∙ sym back);
     }
 
-bounded-by : (n : ℕ) (c : Chain) (ps : List DecorrPass) (l : List ℤ) → AllBounded ps → AllBounded (c .passes) → AllBounded (unlessRefused n (kept ps l) (done c) .passes)
+bounded-by : (n : ℕ) (c : Chain) (ps : List DecorrPass) (l : List ℤ) → AllBounded ps → AllBounded (c .passes) → AllBounded (unlessRefused n (refuseList ps l) (done c) .passes)
 bounded-by zero c ps l h k = k
 bounded-by (suc n) c ps l h k = h
 
@@ -107,7 +107,7 @@ abbrev pub extended : List DecorrPass → Answer → Answer
 extended rest a = record { refusal = a .refusal; passes = a .passes ++ rest; buffer = a .buffer }
 
 extended-by : (k : ℕ) (c : Chain) (ps rest : List DecorrPass) (l : List ℤ)
-    → unlessRefused k (kept (ps ++ rest) l) (done (followed rest c)) ≡ extended rest (unlessRefused k (kept ps l) (done c))
+    → unlessRefused k (refuseList (ps ++ rest) l) (done (followed rest c)) ≡ extended rest (unlessRefused k (refuseList ps l) (done c))
 extended-by zero c ps rest l = refl
 extended-by (suc k) c ps rest l = refl
 
@@ -118,7 +118,7 @@ array-as-list dir ps n l k =
     let whole : take n ps ++ drop n ps ≡ ps = take-append-drop n ps in
     let number = numberBy dir (allValid (take n ps)) n (length l) in
     rw (length-take-le n ps k)
-    (ap (λ qs. unlessRefused number (kept qs l) (done (followed (drop n ps) (chained dir (take n ps) l)))) (sym whole)
+    (ap (λ qs. unlessRefused number (refuseList qs l) (done (followed (drop n ps) (chained dir (take n ps) l)))) (sym whole)
     ∙ extended-by number (chained dir (take n ps) l) (take n ps) (drop n ps) l)
 
 -- what the array form accepts: at most 16 passes, at most 262,144 elements, and valid terms

@@ -48,8 +48,8 @@ abbrev pub done : Chain → Answer
 done c = record { refusal = 0; passes = c .passes; buffer = c .buffer }
 
 -- on refusal "passes and buffer keep their values" (X5)
-abbrev pub kept : List DecorrPass → List ℤ → ℕ → Answer
-kept ps l n = record { refusal = n; passes = ps; buffer = l }
+abbrev pub refuseList : List DecorrPass → List ℤ → ℕ → Answer
+refuseList ps l n = record { refusal = n; passes = ps; buffer = l }
 
 -- a list of passes, run
 abbrev pub chained : Direction → List DecorrPass → List ℤ → Chain
@@ -63,7 +63,7 @@ numberBy Analysis valid passes elements = analysisNumber valid passes elements
 
 -- a buffer by a list of passes, in either direction
 unfoldable pub listed : Direction → List DecorrPass → List ℤ → Answer
-listed d ps l = unlessRefused (numberBy d (allValid ps) (length ps) (length l)) (kept ps l) (done (chained d ps l))
+listed d ps l = unlessRefused (numberBy d (allValid ps) (length ps) (length l)) (refuseList ps l) (done (chained d ps l))
 
 -- decorrelation of a buffer by a list of passes
 abbrev pub decorrelation : List DecorrPass → List ℤ → Answer
@@ -81,7 +81,7 @@ followed rest c = record { passes = c .passes ++ rest; buffer = c .buffer }
 -- refused by their number
 unfoldable pub arrayAnswer : Direction → List DecorrPass → ℕ → List ℤ → Answer
 arrayAnswer d ps n l =
-    unlessRefused (numberBy d (allValid (take n ps)) n (length l)) (kept ps l) (done (followed (drop n ps) (chained d (take n ps) l)))
+    unlessRefused (numberBy d (allValid (take n ps)) n (length l)) (refuseList ps l) (done (followed (drop n ps) (chained d (take n ps) l)))
 
 -- ---- how the code goes about it
 

@@ -26,7 +26,7 @@ use Rattle.word_state.specs.State.{start}
 use Rattle.word_bits.specs.Residuals.{spanned}
 use Rattle.packing.specs.Packing.{packed}
 use Rattle.packing.specs.Entry.{PackTold, viewPacking, packedFrom, tellPacking, refusePacking, refusalBeforeSpan, spanRefusal, packRefusal, packEntry, packedBytes}
-use Rattle.packing.specs.View.{PackedIs, Refuses}
+use Rattle.packing.specs.View.{PackedIs, PackRefuses}
 use Rattle.packing.specs.declared.PackAnswer.{PackAnswer}
 use Rattle.packing.specs.declared.writing.Packed.{Packed}
 use Rattle.packing.proofs.InStepLaws.{start-inv}
@@ -124,7 +124,7 @@ module _ (residuals : List ℤ) (entropy : List ℕ) (frames : ℕ) (buffer : Li
 
 module _ (residuals : List ℤ) (entropy : List ℕ) (frames : ℕ) (buffer : List ℕ) (r : PackAnswer) where
   -- a refusal with the number that the definition tells
-  refuses : (o : Outcome) → 0 < outcomeNumber o → packRefusal residuals entropy frames buffer ≡ outcomeNumber o → Refuses o r
+  refuses : (o : Outcome) → 0 < outcomeNumber o → packRefusal residuals entropy frames buffer ≡ outcomeNumber o → PackRefuses o r
       → viewPacking r buffer ≡ packEntry residuals entropy frames buffer
   unfolding packEntry
   refuses o p e t =
@@ -132,14 +132,14 @@ module _ (residuals : List ℤ) (entropy : List ℕ) (frames : ℕ) (buffer : Li
 
   -- 5, 6, 1, 2 and 11
   pub refuses-before : (o : Outcome) (x : Refusal) → o ≡ Outcome.Refused x → outcomeNumber o ≡ refusalBeforeSpan (length residuals) entropy frames (length buffer)
-      → Refuses o r → viewPacking r buffer ≡ packEntry residuals entropy frames buffer
+      → PackRefuses o r → viewPacking r buffer ≡ packEntry residuals entropy frames buffer
   unfolding packRefusal
   refuses-before o x q e t =
       let p : 0 < outcomeNumber o = rw q (number-positive x) in
       refuses o p (rw (← e) (refused-first (outcomeNumber o) (spanRefusal residuals) p)) t
 
   -- 10: a residual outside the span
-  pub refuses-span : Ready (length residuals) entropy frames (length buffer) → spanned residuals ≡ false → Refuses (Outcome.Refused Refusal.ResidualOutOfSpan) r
+  pub refuses-span : Ready (length residuals) entropy frames (length buffer) → spanned residuals ≡ false → PackRefuses (Outcome.Refused Refusal.ResidualOutOfSpan) r
       → viewPacking r buffer ≡ packEntry residuals entropy frames buffer
   refuses-span b s t =
       refuses (Outcome.Refused Refusal.ResidualOutOfSpan) (omega arith) (span-decides residuals entropy frames buffer b ∙ rw s) t

@@ -65,7 +65,7 @@ pub record PackedIs (before after : List ℕ) (seeds : MedianPair) (vs : List �
       ≡ record { left = packed (start (seeds .left) (seeds .right)) vs .next .left; right = packed (start (seeds .left) (seeds .right)) vs .next .right }
 
 -- what the entry hands back on refusal
-pub record Refuses (o : Outcome) (r : PackAnswer) : Type 0 where
+pub record PackRefuses (o : Outcome) (r : PackAnswer) : Type 0 where
   pub outcome-is : r .outcome ≡ o
   pub no-bits : r .bits ≡ 0
   pub no-medians : pairOf (r .medians) ≡ zeroPair

@@ -10,7 +10,7 @@ ghost use Rattle.entropy.specs.Medians.{pairOf, Small};
 ghost use Rattle.word_bits.specs.Residuals.{spanned};
 ghost use Rattle.answers.specs.Numbers.{outcomeNumber};
 ghost use Rattle.packing.specs.Entry.{viewPacking, refusalBeforeSpan, packEntry};
-ghost use Rattle.packing.specs.View.{PackedIs, Refuses};
+ghost use Rattle.packing.specs.View.{PackedIs, PackRefuses};
 use crate::PackAnswer;
 use crate::turn::put_turn;
 use answers::Outcome;
@@ -97,7 +97,7 @@ pub fn refusal_before_span(elements: usize, entropy: &[u8], frames: usize, room:
 
 // A refusal: bits and medians 0.
 fn refused(outcome: Outcome) -> PackAnswer
-    ensures { λ r. ⌜ Refuses outcome r ⌝ }
+    ensures { λ r. ⌜ PackRefuses outcome r ⌝ }
 {
     let none = AdaptiveMedians { values: [0, 0, 0] };
     PackAnswer {

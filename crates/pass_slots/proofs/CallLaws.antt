@@ -20,7 +20,7 @@ use Rattle.passes.specs.Run.{passed, Chain, decorrelated, analysed}
 use Rattle.passes.specs.declared.DecorrPass.{DecorrPass}
 use Rattle.passes.specs.declared.Direction.{Direction}
 use Rattle.passes.specs.declared.Direction.the-variants.{Decorrelation, Analysis}
-use Rattle.decorrelation.specs.Lists.{allValid, listNumber, numberBy, Answer, done, kept, chained, listed, arrayAnswer}
+use Rattle.decorrelation.specs.Lists.{allValid, listNumber, numberBy, Answer, done, refuseList, chained, listed, arrayAnswer}
 use Rattle.decorrelation.proofs.Answers.{number-by, many-number, many-positive}
 use Rattle.decorrelation.proofs.Theorems.{extended, array-as-list}
 use Rattle.pass_slots.specs.PassSlots.{passesOf, listSlots, PassesLeft, leavePasses, passesCall}
@@ -40,7 +40,7 @@ chained-count : (dir : Direction) (ps : List DecorrPass) (l : List ℤ) → leng
 chained-count Decorrelation ps l = decorrelated-count ps l
 chained-count Analysis ps l = analysed-count ps l
 
-count-by : (k : ℕ) (c : Chain) (ps : List DecorrPass) (l : List ℤ) → length (c .passes) ≡ length ps → length (unlessRefused k (kept ps l) (done c) .passes) ≡ length ps
+count-by : (k : ℕ) (c : Chain) (ps : List DecorrPass) (l : List ℤ) → length (c .passes) ≡ length ps → length (unlessRefused k (refuseList ps l) (done c) .passes) ≡ length ps
 count-by zero c ps l h = h
 count-by (suc k) c ps l h = refl
 
@@ -52,7 +52,7 @@ listed-count dir ps l = count-by (numberBy dir (allValid ps) (length ps) (length
 
 -- a refusal leaves the slots
 refused-left : (k : ℕ) (c : Chain) (slots : List ℤ) (qs : List DecorrPass) (l : List ℤ) → 0 < k
-    → _≡_ {A = PassesLeft} (record { refusal = k; passes = slots; buffer = l }) (leavePasses slots (unlessRefused k (kept qs l) (done c)))
+    → _≡_ {A = PassesLeft} (record { refusal = k; passes = slots; buffer = l }) (leavePasses slots (unlessRefused k (refuseList qs l) (done c)))
 refused-left zero c slots qs l h = absurd (omega arith)
 refused-left (suc k) c slots qs l h = refl
 

@@ -28,7 +28,7 @@ use Rattle.packing.specs.declared.PackAnswer.{PackAnswer}
 use Rattle.packing.proofs.EntryLaws.{refusal-is, pack-refused, span-decides, packing-accepted, bytes-few, bits-within, bits-few}
 use Rattle.packing.proofs.RefusalLaws.{Ready, ready}
 use Rattle.roundtrip.specs.declared.TripAnswer.{TripAnswer}
-use Rattle.roundtrip.specs.Trip.{TripTold, viewTrip, refuseTrip, tellTrip, earlyRefusal, tripRefusal, found, tripEntry, cameBack, Refuses, SameIs}
+use Rattle.roundtrip.specs.Trip.{TripTold, viewTrip, refuseTrip, tellTrip, earlyRefusal, tripRefusal, found, tripEntry, cameBack, TripRefuses, SameIs}
 use Rattle.roundtrip.proofs.ReadTrips.{read-what-was-packed}
 
 -- ---- the early tests
@@ -81,7 +81,7 @@ told-is : (n n′ b b′ : ℕ) (s s′ : Bool) (l l′ : List ℤ) (y y′ : Li
 told-is n n′ b b′ s s′ l l′ y y′ p q r t u = rw (p, q, r, t, u)
 
 -- a refusal of the number that is told
-refuses : (r : TripAnswer) (o : Outcome) (l : List ℤ) (y : List ℕ) → Refuses o r → viewTrip r l y ≡ refuseTrip l y (outcomeNumber o)
+refuses : (r : TripAnswer) (o : Outcome) (l : List ℤ) (y : List ℕ) → TripRefuses o r → viewTrip r l y ≡ refuseTrip l y (outcomeNumber o)
 refuses r o l y t = told-is (outcomeNumber (r .outcome)) (outcomeNumber o) (r .bits) 0 (r .same) false l l y y (ap outcomeNumber (t .outcome-is)) (t .no-bits) (t .not-same) refl refl
 
 module _ (ps : List DecorrPass) (n : ℕ) (x : List ℤ) (entropy : List ℕ) (scratch : List ℤ) (buffer : List ℕ) (r : TripAnswer) where
@@ -91,19 +91,19 @@ module _ (ps : List DecorrPass) (n : ℕ) (x : List ℤ) (entropy : List ℕ) (s
       unlessRefused (spanRefusal (found ps n x)) (refuseTrip (found ps n x) buffer) (tellTrip x (packEntry (found ps n x) entropy (length x / 2) buffer))
 
   -- a refusal that is known before anything is written
-  known : (o : Outcome) → 0 < outcomeNumber o → tripRefusal ps n x entropy scratch buffer ≡ outcomeNumber o → Refuses o r
+  known : (o : Outcome) → 0 < outcomeNumber o → tripRefusal ps n x entropy scratch buffer ≡ outcomeNumber o → TripRefuses o r
       → viewTrip r scratch buffer ≡ tripEntry ps n x entropy scratch buffer
   unfolding tripEntry later
   known o p e t = refuses r o scratch buffer t ∙ sym (guard-refused (outcomeNumber o) (refuseTrip scratch buffer) later p) ∙ rw e
 
   -- 6: a scratch list of another length
-  pub trip-length : (length scratch ≡ length x → ⊥) → Refuses (Outcome.Refused Refusal.ListLength) r → viewTrip r scratch buffer ≡ tripEntry ps n x entropy scratch buffer
+  pub trip-length : (length scratch ≡ length x → ⊥) → TripRefuses (Outcome.Refused Refusal.ListLength) r → viewTrip r scratch buffer ≡ tripEntry ps n x entropy scratch buffer
   unfolding tripRefusal
   trip-length h t = known (Outcome.Refused Refusal.ListLength) (omega arith) (rw (ne-eqb (length scratch) (length x) h)) t
 
   -- what analysis refuses, and packing before the span
   pub trip-early : (o : Outcome) (q : Refusal) → length scratch ≡ length x → outcomeNumber o ≡ earlyRefusal ps n (length x) entropy (length buffer) → o ≡ Outcome.Refused q
-      → Refuses o r → viewTrip r scratch buffer ≡ tripEntry ps n x entropy scratch buffer
+      → TripRefuses o r → viewTrip r scratch buffer ≡ tripEntry ps n x entropy scratch buffer
   unfolding tripRefusal
   trip-early o q h e s t =
       let p : 0 < outcomeNumber o = rw s (number-positive q) in
@@ -134,7 +134,7 @@ module _ (ps : List DecorrPass) (n : ℕ) (x : List ℤ) (entropy : List ℕ) (s
   pub trip-span : (copied : List ℤ) (aps : List DecorrPass) (v : List ℤ) (m : ℕ) (after : List ℕ) (w : PackAnswer) (q : Refusal) → length scratch ≡ length x → copied ≡ x
       → record { refusal = m; passes = aps; buffer = v } ≡ arrayAnswer Analysis ps n copied → earlyRefusal ps n (length x) entropy (length buffer) ≡ 0
       → viewPacking w after ≡ packEntry v entropy (length x / 2) buffer → w .outcome ≡ Outcome.Refused q
-      → Refuses (w .outcome) r → viewTrip r v after ≡ tripEntry ps n x entropy scratch buffer
+      → TripRefuses (w .outcome) r → viewTrip r v after ≡ tripEntry ps n x entropy scratch buffer
   unfolding later
   trip-span copied aps v m after w q h c e g k u t =
       let f = found-is copied aps v m c e g in

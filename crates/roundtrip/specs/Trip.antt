@@ -67,7 +67,7 @@ cameBack read decorrelated used written equal =
     eqb (outcomeNumber read) 0 && eqb (outcomeNumber decorrelated) 0 && eqb used written && equal
 
 -- what the entry hands back on refusal
-pub record Refuses (o : Outcome) (r : TripAnswer) : Type 0 where
+pub record TripRefuses (o : Outcome) (r : TripAnswer) : Type 0 where
   pub outcome-is : r .outcome ≡ o
   pub no-bits : r .bits ≡ 0
   pub not-same : r .same ≡ false

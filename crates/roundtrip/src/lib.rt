@@ -5,7 +5,7 @@ ghost use mathlib.Core.Path.{_≡_};
 ghost use mathlib.Core.Bool.{false};
 ghost use lib.ListN.{length};
 ghost use Rattle.answers.specs.Numbers.{outcomeNumber};
-ghost use Rattle.roundtrip.specs.Trip.{viewTrip, earlyRefusal, tripEntry, cameBack, Refuses, SameIs, CopyIs};
+ghost use Rattle.roundtrip.specs.Trip.{viewTrip, earlyRefusal, tripEntry, cameBack, TripRefuses, SameIs, CopyIs};
 use answers::Outcome;
 use answers::Refusal;
 use answers::outcome_number;
@@ -90,7 +90,7 @@ fn early_refusal(
 
 // A refusal: bits 0, nothing compared.
 fn refused(outcome: Outcome) -> TripAnswer
-    ensures { λ r. ⌜ Refuses outcome r ⌝ }
+    ensures { λ r. ⌜ TripRefuses outcome r ⌝ }
 {
     TripAnswer {
         outcome: outcome,

@@ -19,7 +19,7 @@ use Rattle.entropy.specs.Medians.{MedianPair}
 use Rattle.entropy.specs.Seed.{seedRefusal, seedMedians}
 use Rattle.word_state.specs.State.{start}
 use Rattle.samples.specs.Reading.{reading}
-use Rattle.samples.specs.View.{ReadTold, tellReading, readRefusal, notRead, readEntry}
+use Rattle.samples.specs.View.{ReadTold, tellReading, readRefusal, refuseReading, readEntry}
 
 module _ (entropy payload : List ℕ) (frames : ℕ) (list : List ℤ) where
   -- the three tests before the entropy payload
@@ -44,9 +44,9 @@ module _ (entropy payload : List ℕ) (frames : ℕ) (list : List ℤ) where
 
   -- a refusal before any word
   pub not-read : (told : ReadTold) (x : Outcome) (y : Refusal) → x ≡ Outcome.Refused y → outcomeNumber x ≡ readRefusal entropy payload frames list
-      → told ≡ notRead list (outcomeNumber x) → told ≡ readEntry entropy payload frames list
+      → told ≡ refuseReading list (outcomeNumber x) → told ≡ readEntry entropy payload frames list
   unfolding readEntry
-  not-read told x y e n a = rw (← n) (a ∙ sym (guard-refused (outcomeNumber x) (notRead list) _ (rw e (number-positive y))))
+  not-read told x y e n a = rw (← n) (a ∙ sym (guard-refused (outcomeNumber x) (refuseReading list) _ (rw e (number-positive y))))
 
   -- the words
   pub all-read : (told : ReadTold) (seeds : MedianPair) → 0 ≡ readRefusal entropy payload frames list → seeds ≡ seedMedians entropy → length list ≡ 2 * frames

@@ -20,7 +20,7 @@ use Rattle.entropy.proofs.SeedBounds.{cond-le, seed-le}
 use Rattle.overlay.proofs.OverlayLaws.{overlay-take}
 use Rattle.word_state.specs.State.{State, start}
 use Rattle.samples.specs.Reading.{reading}
-use Rattle.samples.specs.View.{ReadTold, viewReading, tellReading, readRefusal, notRead, readEntry}
+use Rattle.samples.specs.View.{ReadTold, viewReading, tellReading, readRefusal, refuseReading, readEntry}
 use Rattle.samples.specs.declared.ReadAnswer.{ReadAnswer}
 use Rattle.samples.proofs.WordBounds.{small-reading}
 use Rattle.samples.proofs.LocalLaws.{reading-inside}
@@ -62,7 +62,7 @@ module _ (entropy payload : List ℕ) (frames : ℕ) (list : List ℤ) where
       first = start (seedMedians entropy .left) (seedMedians entropy .right)
 
       go : (c : ℕ) → readRefusal entropy payload frames list ≡ c
-          → SmallTold (length payload) frames (unlessRefused c (notRead list) (tellReading list (reading (bitsOf payload) (2 * frames) 0 first)))
+          → SmallTold (length payload) frames (unlessRefused c (refuseReading list) (tellReading list (reading (bitsOf payload) (2 * frames) 0 first)))
       go zero e =
           let l = limits e in
           let s = small-reading (bitsOf payload) (2 * frames) 0 first in

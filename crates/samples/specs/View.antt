@@ -90,12 +90,12 @@ readRefusal entropy payload frames list =
     cond (ltb maxFrames frames || ltb maxPayloadBytes (length payload)) 5 (cond (eqb (length list) (2 * frames)) (seedRefusal entropy) 6)
 
 -- document 01 (R6): "One that comes before any word is tried tells 0 for bits and medians"
-abbrev pub notRead : List ℤ → ℕ → ReadTold
-notRead list refusal = record { refusal = refusal; bits = 0; medians = zeroPair; written = 0; list = list }
+abbrev pub refuseReading : List ℤ → ℕ → ReadTold
+refuseReading list refusal = record { refusal = refusal; bits = 0; medians = zeroPair; written = 0; list = list }
 
 -- document 01, "Reading, from the entry down" (R1 to R6): 2 times frames words from the seed
 -- medians on
 unfoldable pub readEntry : List ℕ → List ℕ → ℕ → List ℤ → ReadTold
 readEntry entropy payload frames list =
-    unlessRefused (readRefusal entropy payload frames list) (notRead list)
+    unlessRefused (readRefusal entropy payload frames list) (refuseReading list)
     (tellReading list (reading (bitsOf payload) (2 * frames) 0 (start (seedMedians entropy .left) (seedMedians entropy .right))))

@@ -15,7 +15,7 @@ ghost use Rattle.entropy.specs.Medians.{pairOf};
 ghost use Rattle.word_state.specs.State.{start};
 ghost use Rattle.samples.specs.Reading.{reading};
 ghost use Rattle.samples.specs.Parts.{ZerosIs};
-ghost use Rattle.samples.specs.View.{viewReading, tellReading, notRead, readEntry};
+ghost use Rattle.samples.specs.View.{viewReading, tellReading, refuseReading, readEntry};
 use crate::ReadAnswer;
 use crate::coded::Coded;
 use crate::coded::read_word;
@@ -133,7 +133,7 @@ fn decode_packed_samples_stereo(
 // The answer of a reading that ended before any word.
 fn not_read(outcome: Outcome) -> ReadAnswer
     ensures { λ r.
-        ⌜ ((list : List ℤ) → viewReading r list ≡ notRead list (outcomeNumber outcome)) ⌝ }
+        ⌜ ((list : List ℤ) → viewReading r list ≡ refuseReading list (outcomeNumber outcome)) ⌝ }
 {
     let none = AdaptiveMedians { values: [0, 0, 0] };
     ReadAnswer {
