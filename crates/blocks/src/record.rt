@@ -3,8 +3,8 @@ use answers::Outcome;
 use answers::Refusal;
 use answers::outcome_number;
 use decorrelation::DecorrPass;
-use decorrelation::decode_term_byte;
-use decorrelation::expand_weight_byte;
+use pass_bytes::decode_term_byte;
+use pass_bytes::expand_weight_byte;
 use logpack::expand_log_word;
 use passes::PassAnswer;
 

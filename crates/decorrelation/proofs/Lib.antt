@@ -1,5 +1,4 @@
 -- What the proofs of the functions and other crates cite.
-pub mod ByteLaws
 pub mod Lending
 pub mod Front
 pub mod Turns

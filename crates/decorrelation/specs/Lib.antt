@@ -1,2 +1,1 @@
-pub mod PassBytes
 pub mod Lists

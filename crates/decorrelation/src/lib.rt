@@ -1,7 +1,6 @@
-// Implements document 01, "Passes": the term byte and the weight byte, and decorrelation and
-// analysis by a list of passes, lent or held in an array.
+// Implements document 01, "Passes": decorrelation and analysis by a list of passes, lent or held in
+// an array.
 mod arrays;
-mod bytes;
 mod lists;
 
 pub use crate::arrays::ListAnswer;
@@ -9,9 +8,6 @@ pub use crate::arrays::analysis_refusal;
 pub use crate::arrays::array_answer;
 pub use crate::arrays::decorrelate_array;
 pub use crate::arrays::recorrelate_array;
-pub use crate::bytes::TermDelta;
-pub use crate::bytes::decode_term_byte;
-pub use crate::bytes::expand_weight_byte;
 pub use crate::lists::decorrelate_stereo;
 pub use crate::lists::list_outcome;
 pub use crate::lists::recorrelate_stereo;

@@ -7,7 +7,7 @@ use lib.IntN.{ℤ}
 use Rattle.logpack.specs.LogWord.{logWord}
 use Rattle.entropy.specs.Entropy.{entropyInfo, entropyRefusal}
 use Rattle.answers.specs.Guard.{orElse}
-use Rattle.decorrelation.specs.PassBytes.{termOfByte, deltaOfByte, weightOfByte}
+use Rattle.pass_bytes.specs.PassBytes.{termOfByte, deltaOfByte, weightOfByte}
 use Rattle.slots.specs.Slots.{slotRefusal}
 
 -- `wv_log_word`: the value of the word

@@ -34,7 +34,7 @@ pub fn term_byte(byte: u8, out: &mut [i32]) -> u32
     if out.len() < 2 {
         return number(Refusal::ListLength);
     }
-    let decoded = decorrelation::decode_term_byte(byte);
+    let decoded = pass_bytes::decode_term_byte(byte);
     let term = decoded.term;
     let delta = decoded.delta;
     let values = [term as i32, delta];
@@ -52,7 +52,7 @@ pub fn weight_byte(byte: u8, out: &mut [i32]) -> u32
     if out.len() < 1 {
         return number(Refusal::ListLength);
     }
-    let values = [decorrelation::expand_weight_byte(byte)];
+    let values = [pass_bytes::expand_weight_byte(byte)];
     lay(&values, 0, out);
     0
 }

@@ -1,6 +1,6 @@
-// The term byte and the weight byte.
+// Implements document 01, "Passes": the term byte and the weight byte.
 ghost use mathlib.Core.Path.{_≡_};
-ghost use Rattle.decorrelation.specs.PassBytes.{termOfByte, deltaOfByte, weightOfByte};
+ghost use Rattle.pass_bytes.specs.PassBytes.{termOfByte, deltaOfByte, weightOfByte};
 
 // What a term byte holds.
 pub struct TermDelta {

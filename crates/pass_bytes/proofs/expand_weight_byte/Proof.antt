@@ -1,9 +1,9 @@
--- `decorrelation::bytes::expand_weight_byte` meets its contract. Assumes nothing.
+-- `pass_bytes::expand_weight_byte` meets its contract. Assumes nothing.
 use borrow.Author.Needs.{needs}
 use Prim.Native.Nat.{_-_, _*_}
-use Rattle.decorrelation.proofs.ByteLaws.{weight-up, weight-down, weight-down-fits}
-use Rattle.decorrelation.proofs.bytes.expand_weight_byte.Statement.{statement}
-use Rattle.decorrelation.proofs.bytes.expand_weight_byte.Tie as tie
+use Rattle.pass_bytes.proofs.ByteLaws.{weight-up, weight-down, weight-down-fits}
+use Rattle.pass_bytes.proofs.expand_weight_byte.Statement.{statement}
+use Rattle.pass_bytes.proofs.expand_weight_byte.Tie as tie
 
 sub-result : tie.Need-sub-result
 sub-result c = weight-down-fits ((256 - c .before .args .byte) * 8) (search needs)

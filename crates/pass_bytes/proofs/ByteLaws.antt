@@ -9,7 +9,7 @@ use mir.Val.{toZ, ofZ, SFits}
 use mir.ValLaws.{toZ-pos, toZ-neg, toZ-ofZ, toZ-fits}
 use Rattle.wrapping.proofs.RangeLaws.{neg-abs}
 use Rattle.wrapping.proofs.WrapLaws.{sub-cases}
-use Rattle.decorrelation.specs.PassBytes.{termOfByte, deltaOfByte, weightOf, weightOfByte}
+use Rattle.pass_bytes.specs.PassBytes.{termOfByte, deltaOfByte, weightOf, weightOfByte}
 
 -- a term fits 8 bits
 pub term-fits : (byte : ℕ) → SFits w8 (termOfByte byte)

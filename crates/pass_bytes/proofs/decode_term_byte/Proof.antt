@@ -1,10 +1,10 @@
--- `decorrelation::bytes::decode_term_byte` meets its contract. Assumes nothing.
+-- `pass_bytes::decode_term_byte` meets its contract. Assumes nothing.
 use borrow.Author.Needs.{needs}
 use mir.Syntax.{w8}
 use mir.ValLaws.{toZ-ofZ}
-use Rattle.decorrelation.proofs.ByteLaws.{term-fits, term-read, delta-read}
-use Rattle.decorrelation.proofs.bytes.decode_term_byte.Statement.{statement}
-use Rattle.decorrelation.proofs.bytes.decode_term_byte.Tie as tie
+use Rattle.pass_bytes.proofs.ByteLaws.{term-fits, term-read, delta-read}
+use Rattle.pass_bytes.proofs.decode_term_byte.Statement.{statement}
+use Rattle.pass_bytes.proofs.decode_term_byte.Tie as tie
 
 sub-t4 : tie.Need-sub-t4
 sub-t4 c = rw (term-read (c .args .byte)) (term-fits (c .args .byte))
