@@ -3,9 +3,9 @@ use answers::Outcome;
 use answers::Refusal;
 use answers::outcome_number;
 use decorrelation::DecorrPass;
+use logpack::expand_log_word;
 use pass_bytes::decode_term_byte;
 use pass_bytes::expand_weight_byte;
-use logpack::expand_log_word;
 use passes::PassAnswer;
 
 // The passes of a block; `complete` where the file holds all of them and pass making accepts each.
