@@ -1,3 +1,4 @@
 -- What other crates cite.
 pub mod NumberLaws
 pub mod GuardLaws
+pub mod TestLaws

@@ -19,3 +19,5 @@ number-positive Refusal.TooManyPasses = omega arith
 number-positive Refusal.ResidualOutOfSpan = omega arith
 number-positive Refusal.OutputTooShort = omega arith
 number-positive Refusal.InvalidChannel = omega arith
+number-positive Refusal.SampleOutOfSpan = omega arith
+number-positive Refusal.NotWave = omega arith

@@ -1,4 +1,4 @@
--- Document 01, "Why each operation says no": the refusal numbers. The promises of all entries use
+-- Document 01, "Why each operation says no", and document 02: the refusal numbers. The promises of all entries use
 -- these two definitions.
 -- Assumes nothing.
 use Prim.Native.Nat.{ℕ}
@@ -19,6 +19,8 @@ numberOf Refusal.TooManyPasses = 9
 numberOf Refusal.ResidualOutOfSpan = 10
 numberOf Refusal.OutputTooShort = 11
 numberOf Refusal.InvalidChannel = 12
+numberOf Refusal.SampleOutOfSpan = 13
+numberOf Refusal.NotWave = 14
 
 -- the number of an outcome: 0 means accepted
 abbrev pub outcomeNumber : Outcome → ℕ

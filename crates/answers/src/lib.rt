@@ -1,12 +1,12 @@
-// Implements document 01, "Why each operation says no": one enum for its numbers, and what an entry
-// answers. Every entry answers with an `Outcome`; none refuses for a reason that is not listed
+// Implements document 01, "Why each operation says no", and the numbers that document 02 adds: one
+// enum for all of them, and what an entry answers. Every entry answers with an `Outcome`; none refuses for a reason that is not listed
 // here.
 ghost use mathlib.Core.Path.{_≡_};
 ghost use Rattle.answers.specs.Numbers.{numberOf, outcomeNumber};
 
 pub mod limits;
 
-// A reason to refuse. The order is that of the numbers 1 to 12.
+// A reason to refuse. The order is that of the numbers 1 to 14.
 pub enum Refusal {
     // The entropy payload is neither 6 nor 12 bytes long.
     EntropyLength,
@@ -28,10 +28,14 @@ pub enum Refusal {
     TooManyPasses,
     // A residual lies outside the span that packing takes.
     ResidualOutOfSpan,
-    // Fewer than 28 bytes per frame are lent.
+    // The storage lent for what is written is too short.
     OutputTooShort,
     // The channel due is neither 0 nor 1.
     InvalidChannel,
+    // A sample lies outside the 16 bits of a sound file.
+    SampleOutOfSpan,
+    // The bytes are no sound file of the one form that is taken, or a rate is outside its span.
+    NotWave,
 }
 
 // What an entry says: that it accepted its input, or why not.
@@ -40,7 +44,7 @@ pub enum Outcome {
     Refused(Refusal),
 }
 
-// The number of a refusal, 1 to 12.
+// The number of a refusal, 1 to 14.
 pub fn number(refusal: Refusal) -> u32
     ensures { λ r. ⌜ r ≡ numberOf refusal ⌝ }
 {
@@ -57,6 +61,8 @@ pub fn number(refusal: Refusal) -> u32
         Refusal::ResidualOutOfSpan => 10,
         Refusal::OutputTooShort => 11,
         Refusal::InvalidChannel => 12,
+        Refusal::SampleOutOfSpan => 13,
+        Refusal::NotWave => 14,
     }
 }
 

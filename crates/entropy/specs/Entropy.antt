@@ -6,12 +6,13 @@ use mathlib.Core.List.{List, [], _∷_}
 use lib.Dec.{eqb}
 use lib.IntN.{ℤ, pos, negsuc}
 use lib.ListN.{length, getD, drop}
-use Rattle.logpack.specs.LogWord.{logWord, littleEndian}
+use Rattle.little_endian.specs.LittleEndian.{signedWord}
+use Rattle.logpack.specs.LogWord.{logWord}
 use Rattle.entropy.specs.declared.EntropyInfo.{EntropyInfo}
 
 -- document 01, "Entropy" (E1): the signed little-endian 16-bit log word at byte i, expanded
 abbrev pub wordAt : List ℕ → ℕ → ℤ
-wordAt bytes i = logWord (littleEndian (getD bytes i 0) (getD bytes (suc i) 0))
+wordAt bytes i = logWord (signedWord (getD bytes i 0) (getD bytes (suc i) 0))
 
 -- three of them: a set of medians
 unfoldable pub wordSet : List ℕ → List ℤ

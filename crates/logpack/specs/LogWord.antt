@@ -5,8 +5,6 @@ use mathlib.Core.Bool.{Bool, true, false}
 use lib.Dec.{leb}
 use lib.IntN.{ℤ, pos, negsuc, negℤ}
 use lib.ListN.{getD}
-use mir.Syntax.{w16}
-use mir.Val.{toZ}
 use Rattle.wrapping.specs.Wrap.{wrap32}
 use Rattle.logpack.specs.Exp2Table.{exp2Table}
 
@@ -29,7 +27,3 @@ magnitude w = shifted (leb (w / 256) 9) (mantissa w) (w / 256)
 unfoldable pub logWord : ℤ → ℤ
 logWord (pos w) = magnitude w
 logWord (negsuc w) = wrap32 (negℤ (magnitude (suc w)))
-
--- document 01, "Entropy" (E1): a signed little-endian 16-bit word, from its low and its high byte
-abbrev pub littleEndian : ℕ → ℕ → ℤ
-littleEndian lo hi = toZ w16 (lo + 256 * hi)

@@ -4,12 +4,12 @@
 mod exp2_table;
 
 use exp2_table::mantissa;
+use little_endian::signed_word;
 ghost use mathlib.Core.Path.{_≡_};
 ghost use Prim.Native.Nat.{_≤_};
 ghost use lib.IntN.{natAbs};
-ghost use mir.Syntax.{w16};
-ghost use mir.Val.{toZ};
-ghost use Rattle.logpack.specs.LogWord.{magnitude, logWord, littleEndian};
+ghost use Rattle.little_endian.specs.LittleEndian.{signedWord};
+ghost use Rattle.logpack.specs.LogWord.{magnitude, logWord};
 
 // The value of a word that is not negative.
 fn expand_magnitude(word: u32) -> i32
@@ -42,21 +42,10 @@ pub fn wp_exp2s(word: i16) -> i32
     expand(word as i32)
 }
 
-// The number that 16 bits stand for as a signed word.
-fn signed(bits: u16) -> i16
-    ensures { λ r. ⌜ r ≡ toZ w16 bits ⌝ }
-{
-    if bits < 0x8000 {
-        bits as i16
-    } else {
-        !((!bits) as i16)
-    }
-}
-
 // Answers the value of the log word whose low byte is `lo` and whose high byte is `hi`. Refuses
 // nothing.
 pub fn expand_log_word(lo: u8, hi: u8) -> i32
-    ensures { λ r. ⌜ r ≡ logWord (littleEndian lo hi) ⌝ }
+    ensures { λ r. ⌜ r ≡ logWord (signedWord lo hi) ⌝ }
 {
-    wp_exp2s(signed(lo as u16 + 256 * hi as u16))
+    wp_exp2s(signed_word(lo, hi))
 }

@@ -15,7 +15,8 @@ use Rattle.medians.proofs.AdaptationLaws.{adapt-small}
 use Rattle.entropy.specs.Medians.{Medians, Small}
 use Rattle.medians.specs.Adaptation.{adapt}
 use Rattle.word_state.specs.State.{State, start, due, other, flip, side, paid, inRun, unbroken, cleared, flagged, after, runDue, runHere, onZeros}
-use Rattle.word_state.proofs.FlagLaws.{clash, both, due-flags}
+use Rattle.answers.proofs.TestLaws.{clash, both}
+use Rattle.word_state.proofs.FlagLaws.{due-flags}
 use Rattle.word_bits.specs.Counts.{count}
 use Rattle.word_bits.specs.Residuals.{zeros, ahead}
 use Rattle.packing.specs.Packing.{Out, behind, silent, valueOut, plainOut, freshOut, wordOut}

@@ -9,7 +9,7 @@ use native.Mathlib.Omega.{arith}
 use lib.IntN.{ℤ, pos}
 use lib.ListN.{length, drop, getD, set, length-append, length-drop, length-set, drop-of-length-le}
 use lib.Seq.{drop-cons, drop-drop}
-use Rattle.answers.specs.Limits.{maxElements, maxWordBits}
+use Rattle.answers.specs.Limits.{maxElements, maxWordBits, residualSpan}
 use Rattle.entropy.proofs.SeedBounds.{none-small}
 use Rattle.bits.specs.Laid.{put}
 use Rattle.bits.proofs.LaidLaws.{Bytes, put-put, put-nil}
@@ -17,7 +17,7 @@ use Rattle.entropy.specs.declared.AdaptiveMedians.{AdaptiveMedians}
 use Rattle.entropy.specs.Medians.{Medians, MedianPair, mediansOf, pairOf, zeroSet, Small}
 use Rattle.word_state.specs.State.{State, start, flip, inRun}
 use Rattle.word_state.proofs.StateLaws.{noSet, turned}
-use Rattle.word_state.proofs.FlagLaws.{clash}
+use Rattle.answers.proofs.TestLaws.{clash}
 use Rattle.word_bits.specs.Residuals.{spanned}
 use Rattle.packing.specs.Packing.{Out, behind, wordOut, packed}
 use Rattle.packing.specs.View.{Seen, Next, RunTakes, PackedIs}
@@ -27,7 +27,7 @@ use Rattle.packing.proofs.SetLaws.{set-is, other-is, replaced}
 use Rattle.packing.proofs.SizeLaws.{word-long}
 use Rattle.packing.proofs.InStepLaws.{Inv, start-inv, due-small, other-small, kept}
 use Rattle.word_bits.proofs.ZeroLaws.{zeros-le, zeros-head}
-use Rattle.word_bits.proofs.SpanLaws.{spanned-at}
+use Rattle.spans.proofs.SpanLaws.{within-at}
 
 -- w is written, and in this state the residuals from i on are left
 pub record Loop (before : List ℕ) (vs : List ℤ) (s₀ : State) (out : List ℕ) (sets : List AdaptiveMedians) (place : ℕ) (lz lo brk : Bool) (i : ℕ) : Type 0 where
@@ -127,7 +127,7 @@ module _ (before : List ℕ) (vs : List ℤ) (s₀ : State) (out : List ℕ) (se
 
   -- the word takes 111 bits at the most
   pub word-room : spanned vs ≡ true → length vs ≤ maxElements → i < length vs → length (wordOut (l .state) head tail .bits) ≤ maxWordBits
-  word-room s n h = word-long (l .state) head tail (due-small (in-step h)) (spanned-at vs i s h) (few n h)
+  word-room s n h = word-long (l .state) head tail (due-small (in-step h)) (within-at residualSpan vs i s h) (few n h)
 
   -- a run ends within the residuals
   pub run-room : (run : ℕ) (z o : Bool) → i < length vs → RunTakes (l .state) (wordOut (l .state) head tail .next) (head ∷ tail) run z o → i + run ≤ length vs

@@ -22,7 +22,7 @@ use Rattle.word_bits.specs.Word.{valueField}
 use Rattle.word_bits.specs.Written.{runField, prefixField, codeField}
 use Rattle.word_bits.proofs.CountLaws.{smallest}
 use Rattle.word_bits.proofs.LongLaws.{val-le, run-long, run-zero-long, prefix-long, code-long}
-use Rattle.word_bits.proofs.SpanLaws.{spanned-parts}
+use Rattle.spans.proofs.SpanLaws.{within-parts}
 use Rattle.word_bits.proofs.ZeroLaws.{zeros-le}
 use Rattle.packing.specs.Packing.{Out, behind, silent, valueOut, plainOut, freshOut, wordOut, packed}
 use Rattle.packing.proofs.InStepLaws.{Inv, start-inv, due-small, kept}
@@ -88,7 +88,7 @@ unfolding packed
 packed-long s [] i h few = omega arith
 packed-long s (v ∷ vs) i h few =
     let o = wordOut s v vs in
-    let b = spanned-parts v vs h in
+    let b = within-parts residualSpan v vs h in
     omega (
       arith,
       length-append (o .bits) (packed (o .next) vs .bits),

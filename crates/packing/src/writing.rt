@@ -17,9 +17,10 @@ use answers::Outcome;
 use answers::Refusal;
 use answers::limits::BYTES_PER_FRAME;
 use answers::limits::MAX_FRAMES;
+use answers::limits::RESIDUAL_SPAN;
 use entropy::AdaptiveMedians;
 use entropy::stereo_pair_from_entropy;
-use word_bits::span::in_span;
+use spans::is_within;
 
 // The bits written, and the medians after them.
 pub struct Packed {
@@ -123,7 +124,7 @@ pub fn encode_packed_samples_stereo_from_entropy(
     let Outcome::Accepted = before else {
         return refused(before);
     };
-    if !in_span(residuals) {
+    if !is_within(residuals, RESIDUAL_SPAN) {
         return refused(Outcome::Refused(Refusal::ResidualOutOfSpan));
     }
     let seed = stereo_pair_from_entropy(entropy);

@@ -1,9 +1,6 @@
 // The numbers of a stored record: four bytes each, the low one first; a signed one by its 32-bit
 // pattern.
-
-fn number(a: u8, b: u8, c: u8, d: u8) -> u32 {
-    a as u32 + 256 * (b as u32) + 65536 * (c as u32) + 16777216 * (d as u32)
-}
+use little_endian::number;
 
 // The number with this index, 0 where the record ends before it.
 pub fn number_at(record: &[u8], index: usize) -> u32 {

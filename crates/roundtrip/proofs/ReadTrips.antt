@@ -9,7 +9,7 @@ use native.Mathlib.Omega.{arith}
 use borrow.Author.Tests.{le-ltb, eq-eqb}
 use lib.IntN.{ℤ}
 use lib.ListN.{length, length-append}
-use Rattle.answers.specs.Limits.{maxFrames, maxPayloadBytes}
+use Rattle.answers.specs.Limits.{maxFrames, maxPayloadBytes, residualSpan}
 use Rattle.overlay.proofs.OverlayLaws.{overlay-whole}
 use Rattle.entropy.proofs.SeedBounds.{seeds-small}
 use Rattle.bits.specs.Bits.{bitsOf}
@@ -26,7 +26,7 @@ use Rattle.packing.specs.Packing.{Out, wordOut, packed}
 use Rattle.packing.specs.Entry.{PackTold, packedFrom, packEntry, packedBytes}
 use Rattle.packing.proofs.EntryLaws.{packing-accepted, packed-is, bytes-are}
 use Rattle.packing.proofs.InStepLaws.{Inv, start-inv, kept}
-use Rattle.word_bits.proofs.SpanLaws.{spanned-parts}
+use Rattle.spans.proofs.SpanLaws.{within-parts}
 use Rattle.roundtrip.proofs.WordTrips.{word-at}
 
 -- ---- all words
@@ -44,7 +44,7 @@ read-packed {bits} {p} s [] i h few a = ap (λ (n : ℕ). accepted [] n s) (omeg
 read-packed {bits} {p} s (v ∷ vs) i h few a =
     let o = wordOut s v vs in
     let r = packed (o .next) vs in
-    let b = spanned-parts v vs h in
+    let b = within-parts residualSpan v vs h in
     let t = word-at s v vs i (b .0) few (at-first (o .bits) (r .bits) a) in
     let n = read-packed {p = p + length (o .bits)} (o .next) vs (kept s v vs i) (b .1) (omega arith) (at-second (o .bits) (r .bits) a) in
     rw (t .reads, n) (ap (λ (n : ℕ). accepted (v ∷ vs) n (r .next)) (omega (arith, length-append (o .bits) (r .bits))))

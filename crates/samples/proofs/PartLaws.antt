@@ -19,7 +19,7 @@ use Rattle.fields.specs.declared.Prefix.{Prefix}
 use Rattle.fields.proofs.Prefix.{the-type}
 use Rattle.medians.specs.Interval.{lowOf, highOf}
 use Rattle.word_state.specs.State.{State, inRun, unbroken, cleared, flagged, runDue, runHere, onZeros}
-use Rattle.word_state.proofs.FlagLaws.{clash}
+use Rattle.answers.proofs.TestLaws.{clash}
 use Rattle.word_state.proofs.StateLaws.{zeros-some, same-unbroken}
 use Rattle.samples.specs.Word.{Word, given, none, over, zoneOf, onField, signed, value, plain, fresh}
 use Rattle.samples.specs.Parts.{ValueIs, CountIs, notCounted, ZeroRunIs}

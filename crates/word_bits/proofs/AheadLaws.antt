@@ -15,7 +15,7 @@ use lib.Seq.{drop-cons}
 use lib.Signed.{mag}
 use Rattle.entropy.specs.Medians.{Medians, Small}
 use Rattle.medians.specs.Interval.{g, lowOf, highOf}
-use Rattle.word_state.proofs.FlagLaws.{both}
+use Rattle.answers.proofs.TestLaws.{both}
 use Rattle.word_bits.specs.Counts.{contains, least, count}
 use Rattle.word_bits.specs.Residuals.{ahead}
 use Rattle.word_bits.proofs.CountLaws.{untrue}

@@ -12,7 +12,7 @@ use Rattle.medians.proofs.IntervalLaws.{width-le}
 use Rattle.answers.specs.Limits.{residualSpan}
 use Rattle.entropy.specs.Medians.{Medians, Small}
 use Rattle.medians.specs.Interval.{g, base, width, lowOf, highOf}
-use Rattle.word_state.proofs.FlagLaws.{both}
+use Rattle.answers.proofs.TestLaws.{both}
 use Rattle.word_bits.specs.Counts.{contains, least, count}
 
 -- a test that is not true is false

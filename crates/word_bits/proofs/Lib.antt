@@ -6,7 +6,6 @@ pub mod WrittenLaws
 pub mod LocateLaws
 pub mod SignLaws
 pub mod ZeroLaws
-pub mod SpanLaws
 pub mod AheadLaws
 pub mod PutLaws
 pub mod WordLaws

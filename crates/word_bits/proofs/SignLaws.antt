@@ -6,7 +6,7 @@ use native.Mathlib.Omega.{arith}
 use borrow.Author.Tests.{ltb-true}
 use lib.IntN.{ℤ, pos, negsuc}
 use lib.Signed.{ltZ}
-use Rattle.word_state.proofs.FlagLaws.{clash}
+use Rattle.answers.proofs.TestLaws.{clash}
 use Rattle.word_bits.specs.Residuals.{sign}
 
 -- a residual below 0 has sign bit 1

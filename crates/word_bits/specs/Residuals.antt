@@ -1,13 +1,14 @@
 -- Document 01, "Packing": what is asked of residuals, whatever the state: stretches of zeros (K2),
 -- the count of the next one (K5), the sign (I6), the span.
 -- Assumes nothing.
-use mathlib.Core.Bool.{Bool, true, false, _&&_}
+use mathlib.Core.Bool.{Bool, false}
 use mathlib.Core.List.{List, [], _∷_}
 use Prim.Native.Nat.{ℕ, zero, suc}
 use lib.Dec.{ltb}
 use lib.IntN.{ℤ, pos, negsuc}
 use lib.Signed.{mag}
 use Rattle.answers.specs.Limits.{residualSpan}
+use Rattle.spans.specs.Spans.{within}
 use Rattle.entropy.specs.Medians.{Medians}
 use Rattle.word_bits.specs.Counts.{count}
 
@@ -29,6 +30,5 @@ sign (pos n) = 0
 sign (negsuc n) = 1
 
 -- every residual lies within demand 3's span, -1,879,048,192 to 1,879,048,191
-unfoldable pub spanned : List ℤ → Bool
-spanned [] = true
-spanned (v ∷ vs) = ltb (mag v) residualSpan && spanned vs
+abbrev pub spanned : List ℤ → Bool
+spanned residuals = within residualSpan residuals

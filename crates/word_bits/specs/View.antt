@@ -4,7 +4,6 @@ use mathlib.Core.Path.{_≡_}
 use mathlib.Core.Bool.{Bool, cond}
 use mathlib.Core.List.{List, []}
 use Prim.Native.Nat.{ℕ, zero, suc, _+_, _-_, _≤_, _<_}
-use lib.Dec.{ltb}
 use lib.IntN.{ℤ, pos, negsuc}
 use lib.ListN.{length, drop}
 use lib.Signed.{mag}
@@ -63,10 +62,6 @@ pub record WordIs (before after : List ℕ) (at : ℕ) (m : Medians) (v : ℤ) (
 pub record BeforeIs (before after : List ℕ) (at : ℕ) (asked : Bool) (vs : List ℤ) (r : Before) : Type 0 where
   pub put-is : PutIs before after at (cond asked (runField (zeros vs)) []) (r .place)
   pub run-is : r .run ≡ cond asked (zeros vs) 0
-
--- 1 for a residual outside the span
-abbrev pub excessOf : ℤ → ℕ
-excessOf v = cond (ltb (mag v) residualSpan) 0 1
 
 -- 1 for a residual other than 0
 abbrev pub otherOf : ℤ → ℕ

@@ -3,7 +3,6 @@
 // no end of an interval that holds one meets the 31-bit mask.
 ghost use mathlib.Core.Path.{_≡_};
 ghost use Prim.Native.Nat.{_<_};
-ghost use lib.Signed.{mag};
 ghost use Rattle.answers.specs.Limits.{residualSpan};
 ghost use Rattle.entropy.specs.Medians.{mediansOf, Small};
 ghost use Rattle.word_bits.specs.Residuals.{sign};
@@ -20,16 +19,6 @@ pub struct Located {
     pub m0: u32,
     pub m1: u32,
     pub m2: u32,
-}
-
-// The magnitude of a residual v: v, or -v - 1 where it is negative.
-pub fn magnitude(residual: i32) -> u32
-    ensures { λ r. ⌜ r ≡ mag residual ⌝ }
-{
-    if residual < 0 {
-        return (-1 - residual) as u32;
-    }
-    residual as u32
 }
 
 // The sign bit of a residual.

@@ -15,7 +15,6 @@ ghost use Rattle.word_bits.specs.Written.{prefixField};
 ghost use Rattle.word_bits.specs.View.{PutIs, BeforeIs, WordIs};
 use crate::laying::lay;
 use crate::locating::locate;
-use crate::locating::magnitude;
 use crate::locating::sign_bit;
 use crate::written::Gathered;
 use crate::written::gather_code;
@@ -25,6 +24,7 @@ use crate::written::put_run;
 use crate::zeros::zeros_from;
 use bits::write::put_bits;
 use entropy::AdaptiveMedians;
+use spans::magnitude;
 
 // Where a word ends, and the medians of its channel after it.
 pub struct Word {

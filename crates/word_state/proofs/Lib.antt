@@ -1,4 +1,3 @@
 -- What the crates above cite.
 pub mod FlagLaws
 pub mod StateLaws
-pub mod SignLaws

@@ -10,7 +10,7 @@ use lib.IntN.{ℤ, pos}
 use mir.Facts.{toZ-ofZ}
 use mir.Syntax.{w32}
 use mir.Val.{SFits, toZ, ofZ}
-use Rattle.word_state.proofs.FlagLaws.{clash}
+use Rattle.answers.proofs.TestLaws.{clash}
 use Rattle.roundtrip.proofs.ListLaws.{same-step, same-end}
 use Rattle.roundtrip.proofs.same.Statement.{statement}
 use Rattle.roundtrip.proofs.same.Tie as tie

@@ -28,17 +28,17 @@ start t = t .before .before .before .before .before
 ready-at : (t : tie.After-enum-told) → let a = start t .args in Ready (length (now (a .residuals))) (now (a .entropy)) (a .frames) (length (now (a .out)))
 ready-at t = ready _ _ _ _ (sym (t .before .before .refusal-before-span .ensures) ∙ ap outcomeNumber (t .enum-told .given .1))
 
-in-span-requires : tie.Need-in-span-requires
-in-span-requires c κs = let r = ready-at c in omega arith
+is-within-requires : tie.Need-is-within-requires
+is-within-requires c κs = let r = ready-at c in omega arith
 
 returns-2 : tie.Need-returns-2
 returns-2 c =
     let looked = c .before .before in
-    refuses-span _ _ _ _ (c .refused2 .result) (ready-at (looked .before)) (sym (looked .in-span .ensures) ∙ not-true _ (c .before .if1 .taken)) (c .refused2 .ensures)
+    refuses-span _ _ _ _ (c .refused2 .result) (ready-at (looked .before)) (sym (looked .is-within .ensures) ∙ not-true _ (c .before .if1 .taken)) (c .refused2 .ensures)
 
 -- all residuals are in the span
 span-at : (c : tie.Else1) → spanned (now (start (c .before .before) .args .residuals)) ≡ true
-span-at c = sym (c .before .in-span .ensures) ∙ not-false _ (c .if1 .left)
+span-at c = sym (c .before .is-within .ensures) ∙ not-false _ (c .if1 .left)
 
 pack-words-requires : tie.Need-pack-words-requires
 pack-words-requires c κs =
@@ -65,7 +65,7 @@ encode-packed-samples-stereo-from-entropy-spec =
     (λ c. search needs)
     (λ c κs. search needs)
     returns
-    in-span-requires
+    is-within-requires
     (λ c κs. search needs)
     returns-2
     (λ c κs. search needs)

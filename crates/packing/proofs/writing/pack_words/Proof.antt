@@ -11,7 +11,7 @@ use mathlib.Core.List.{List}
 use denote.Ref.{now}
 use lib.IntN.{ℤ, pos}
 use lib.ListN.{length, take, drop, getD, length-drop, length-take, length-map}
-use Rattle.answers.specs.Limits.{maxElements, maxWordBits}
+use Rattle.answers.specs.Limits.{maxElements, maxWordBits, residualSpan}
 use Rattle.entropy.specs.Medians.{pairOf}
 use Rattle.word_state.specs.State.{State, start}
 use Rattle.bits.specs.Laid.{put}
@@ -20,7 +20,7 @@ use Rattle.packing.specs.Packing.{wordOut}
 use Rattle.packing.specs.View.{Turned}
 use Rattle.packing.specs.declared.turn.Turn.{Turn}
 use Rattle.packing.proofs.LoopLaws.{Loop, loop-start, loop-due-small, loop-other-small, loop-seen, word-room, run-room, loop-word, loop-run, loop-end}
-use Rattle.word_bits.proofs.SpanLaws.{spanned-at}
+use Rattle.spans.proofs.SpanLaws.{within-at}
 use Rattle.packing.proofs.writing.pack_words.Statement.{statement}
 use Rattle.packing.proofs.writing.pack_words.Tie as tie
 
@@ -67,7 +67,7 @@ put-turn-requires c κs =
     let f = facts in-loop in
     let l = at-loop .loop in (
       (omega arith, omega (arith, length-drop (l .bits / 8) (l .out), length-take (length (l .out) - l .bits / 8) (drop (l .bits / 8) (l .out))), f .here, f .most),
-      (loop-due-small _ _ _ _ _ _ _ _ _ _ (l .inv), loop-other-small _ _ _ _ _ _ _ _ _ _ (l .inv), spanned-at _ (l .i) (x .pre .1 .0) (f .here)),
+      (loop-due-small _ _ _ _ _ _ _ _ _ _ (l .inv), loop-other-small _ _ _ _ _ _ _ _ _ _ (l .inv), within-at residualSpan _ (l .i) (x .pre .1 .0) (f .here)),
     )
 
 -- what a turn wrote into the lent rest, by the whole buffer

@@ -7,7 +7,7 @@ use lib.Signed.{mag}
 use mir.Facts.{toZ-ofZ}
 use mir.Syntax.{w32}
 use mir.Val.{SFits, toZ, ofZ}
-use Rattle.word_state.proofs.SignLaws.{neg-is, pos-is}
+use Rattle.spans.proofs.MagnitudeLaws.{neg-is, pos-is}
 use Rattle.wvpair_text.proofs.SignLaws.{flipped-size}
 use borrow.Author.Needs.{needs}
 use Rattle.wvpair_text.proofs.decimal.size.Statement.{statement}

@@ -1,4 +1,4 @@
--- What the code's test of a sample's sign tells: the number, or -1 less it, is its magnitude.
+-- What the code's test of a number's sign tells: the number, or -1 less it, is its magnitude.
 -- Assumes nothing.
 use mathlib.Core.Path.{_≡_, refl, ap}
 use mathlib.Core.Bool.{true, false}

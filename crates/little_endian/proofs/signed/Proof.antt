@@ -1,4 +1,4 @@
--- `logpack::signed` meets its contract: two complements undo one another.
+-- `little_endian::signed` meets its contract: two complements undo one another.
 -- Assumes nothing.
 use mathlib.Core.Path.{_≡_, ap}
 use Prim.Native.Nat.{_-_}
@@ -6,8 +6,8 @@ use native.Mathlib.Omega.{arith}
 use mir.Syntax.{w16}
 use mir.Val.{toZ}
 use borrow.Author.Needs.{needs}
-use Rattle.logpack.proofs.signed.Statement.{statement}
-use Rattle.logpack.proofs.signed.Tie as tie
+use Rattle.little_endian.proofs.signed.Statement.{statement}
+use Rattle.little_endian.proofs.signed.Tie as tie
 
 returns-2 : tie.Need-returns-2
 returns-2 c =

@@ -1,4 +1,4 @@
--- `word_bits::span::in_span` meets its contract.
+-- `spans::is_within` meets its contract.
 -- Assumes nothing.
 use mathlib.Core.Path.{_≡_, refl}
 use Prim.Native.Nat.{_-_}
@@ -9,26 +9,26 @@ use lib.ListN.{length, getD}
 use mir.Facts.{toZ-ofZ}
 use mir.Syntax.{w32}
 use mir.Val.{SFits}
-use Rattle.word_bits.specs.View.{excessOf}
-use Rattle.word_bits.proofs.SpanLaws.{excess-le, Spans, spans-step, spans-end}
-use Rattle.word_bits.proofs.span.in_span.Statement.{statement}
-use Rattle.word_bits.proofs.span.in_span.Tie as tie
+use Rattle.spans.specs.Spans.{excessOf}
+use Rattle.spans.proofs.SpanLaws.{excess-le, Spans, spans-step, spans-end}
+use Rattle.spans.proofs.is_within.Statement.{statement}
+use Rattle.spans.proofs.is_within.Tie as tie
 
 abbrev Inv-loop : tie.InvT-loop
-Inv-loop residuals outside₀ i₀ outside i = Spans residuals outside i
+Inv-loop list span outside₀ i₀ outside i = Spans span list outside i
 
 abbrev μ-loop : tie.MeasureT-loop
-μ-loop residuals outside₀ i₀ outside i = length residuals - i
+μ-loop list span outside₀ i₀ outside i = length list - i
 
 loop-holds : tie.Need-loop-holds Inv-loop μ-loop
 loop-holds c = record { is = refl; few = omega arith; here = omega arith }
 
--- the residual that was looked at
-next : (c : tie.After-excess Inv-loop μ-loop) → c .excess .result ≡ excessOf (getD (c .before .before .before .before .args .residuals .now) (c .before .before .before .loop .i) (pos 0))
+-- the number that was looked at
+next : (c : tie.After-excess Inv-loop μ-loop) → c .excess .result ≡ excessOf (c .before .before .before .before .args .span) (getD (c .before .before .before .before .args .list .now) (c .before .before .before .loop .i) (pos 0))
 next c =
     let start : tie.Start Inv-loop μ-loop = search needs in
     let at-loop : tie.At-loop Inv-loop μ-loop = search needs in
-    let v = getD (start .args .residuals .now) (at-loop .loop .i) (pos 0) in
+    let v = getD (start .args .list .now) (at-loop .loop .i) (pos 0) in
     let f : SFits w32 v = search needs in
     rw (toZ-ofZ f) at (c .excess .ensures)
 
@@ -37,19 +37,19 @@ add-outside c =
     let start : tie.Start Inv-loop μ-loop = search needs in
     let at-loop : tie.At-loop Inv-loop μ-loop = search needs in
     let l = at-loop .loop in
-    omega (arith, l .inv, next c, excess-le (getD (start .args .residuals .now) (l .i) (pos 0)))
+    omega (arith, l .inv, next c, excess-le (start .args .span) (getD (start .args .list .now) (l .i) (pos 0)))
 
 loop-again : tie.Need-loop-again Inv-loop μ-loop
 loop-again c =
     let at-loop : tie.At-loop Inv-loop μ-loop = search needs in
     let l = at-loop .loop in
-    rw (next c) (spans-step _ _ _ (omega arith) (l .inv))
+    rw (next c) (spans-step _ _ _ _ (omega arith) (l .inv))
 
 returns : tie.Need-returns Inv-loop μ-loop
-returns c = spans-end _ _ _ (omega arith) (c .before .loop .inv)
+returns c = spans-end _ _ _ _ (omega arith) (c .before .loop .inv)
 
-pub in-span-spec : {M : Type 1} → statement M
-in-span-spec =
+pub is-within-spec : {M : Type 1} → statement M
+is-within-spec =
     tie.close
     (tie.spec
     Inv-loop

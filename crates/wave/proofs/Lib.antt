@@ -1,0 +1,8 @@
+-- What other crates cite.
+pub mod FileLaws
+pub mod LayLaws
+pub mod AlikeLaws
+pub mod SampleLaws
+pub mod ExportLaws
+pub mod ImportLaws
+pub mod Theorems

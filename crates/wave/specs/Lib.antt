@@ -1,0 +1,4 @@
+pub mod File
+pub mod Export
+pub mod Import
+pub mod SoundFile

@@ -1,0 +1,92 @@
+// Export: a recording as the bytes of a sound file. All tests come before the first byte is
+// written.
+use answers::Outcome;
+use answers::Refusal;
+use answers::limits::MAX_ELEMENTS;
+use crate::header::HEADER_BYTES;
+use crate::header::header;
+use crate::header::is_rate;
+use little_endian::signed_bytes;
+use spans::is_within;
+ghost use mathlib.Core.Path.{_≡_};
+ghost use mathlib.Core.Bool.{true};
+ghost use Prim.Native.Nat.{_+_, _*_, _≤_};
+ghost use lib.ListN.{length};
+ghost use Rattle.answers.specs.Numbers.{outcomeNumber};
+ghost use Rattle.answers.specs.Limits.{maxElements};
+ghost use Rattle.overlay.specs.Overlay.{overlay};
+ghost use Rattle.wave.specs.File.{headerBytes, dataBytes};
+ghost use Rattle.wave.specs.Export.{within16, exportRefusal, viewExport, exportEntry};
+
+// A sample of 16 bits, or its complement, lies below.
+const SAMPLE_SPAN: u32 = 32768;
+
+// What export answers: the bytes written, 0 on refusal.
+pub struct Exported {
+    pub outcome: Outcome,
+    pub written: u32,
+}
+
+// Answers why export refuses, by 5, 6, 11, 14 and 13, for a buffer of `room` bytes.
+pub fn export_refusal(rate: u32, samples: &[i32], room: usize) -> Outcome
+    ensures { λ r. ⌜ outcomeNumber r ≡ exportRefusal rate (now (samples .entry)) room ⌝ }
+{
+    if samples.len() > MAX_ELEMENTS {
+        return Outcome::Refused(Refusal::TooLarge);
+    }
+    if samples.len() % 2 != 0 {
+        return Outcome::Refused(Refusal::ListLength);
+    }
+    if room < HEADER_BYTES + 2 * samples.len() {
+        return Outcome::Refused(Refusal::OutputTooShort);
+    }
+    if !is_rate(rate) {
+        return Outcome::Refused(Refusal::NotWave);
+    }
+    if !is_within(samples, SAMPLE_SPAN) {
+        return Outcome::Refused(Refusal::SampleOutOfSpan);
+    }
+    Outcome::Accepted
+}
+
+// Lays the samples behind the header.
+fn lay_samples(samples: &[i32], out: &mut [u8])
+    requires room { ⌜ headerBytes + 2 * length (now samples) ≤ length (now out) ⌝ }
+    requires few { ⌜ length (now samples) ≤ maxElements ⌝ }
+    requires within { ⌜ within16 (now samples) ≡ true ⌝ }
+    ensures { λ _. ⌜
+        now (out .exit) ≡ overlay (now (out .entry)) headerBytes (dataBytes (now (samples .entry)))
+        ⌝ }
+{
+    let mut i: usize = 0;
+    while i < samples.len() {
+        let bytes = signed_bytes(samples[i] as i16);
+        out[HEADER_BYTES + 2 * i] = bytes[0];
+        out[HEADER_BYTES + 2 * i + 1] = bytes[1];
+        i = i + 1;
+    }
+}
+
+// Writes the sound file of a rate and of samples, left then right, from the first byte of the
+// buffer on; answers how many bytes it has. Refuses with 5, 6, 11, 14 and 13; the buffer then keeps
+// its bytes.
+pub fn export_wave(rate: u32, samples: &[i32], out: &mut [u8]) -> Exported
+    ensures { λ r. ⌜ viewExport r (now (out .exit))
+        ≡ exportEntry rate (now (samples .entry)) (now (out .entry)) ⌝ }
+{
+    let outcome = export_refusal(rate, samples, out.len());
+    let Outcome::Accepted = outcome else {
+        return Exported {
+            outcome: outcome,
+            written: 0,
+        };
+    };
+    let size = 2 * samples.len();
+    let head = header(rate, size as u32);
+    bytes::copy(&head, out);
+    lay_samples(samples, out);
+    Exported {
+        outcome: Outcome::Accepted,
+        written: (HEADER_BYTES + size) as u32,
+    }
+}
