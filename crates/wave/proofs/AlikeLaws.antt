@@ -55,4 +55,4 @@ module _ (a b : List ℕ) (i : ℕ) (h : i < length a) (c : Compared a b i) wher
 pub compared-all : (a b : List ℕ) (i : ℕ) → length a ≤ i → Compared a b i → true ≡ alike a b
 unfolding alike
 compared-all a b i h c =
-    sym (rw (drop-of-length-le a {i = i} h, drop-of-length-le b {i = i} (let s = c .same-length in omega arith)) at (c .left))
+    rw (drop-of-length-le a {i = i} h, drop-of-length-le b {i = i} (let s = c .same-length in omega arith)) at (c .left)

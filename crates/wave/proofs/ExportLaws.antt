@@ -9,7 +9,7 @@ use borrow.Author.Tests.{lt-ltb, le-ltb, eq-eqb, ne-eqb, ltb-false, eqb-true}
 use lib.Dec.{ltb, eqb}
 use lib.IntN.{ℤ}
 use lib.ListN.{length, take, drop}
-use lib.Seq.{take-all}
+use lib.Seq.{length-take-le, length-front, take-all}
 use Rattle.answers.specs.declared.Outcome.{Outcome}
 use Rattle.answers.specs.declared.Refusal.{Refusal}
 use Rattle.answers.specs.Guard.{orElse, unlessRefused}
@@ -38,22 +38,22 @@ pub record Ready (rate : ℕ) (samples : List ℤ) (room : ℕ) : Type 0 where
 module _ (rate : ℕ) (samples : List ℤ) (room : ℕ) where
   -- 5: over 262,144 samples
   pub export-long : maxElements < length samples → 5 ≡ exportRefusal rate samples room
-  unfolding lengthRefusal
+  unfolding exportRefusal lengthRefusal
   export-long h = rw (lt-ltb maxElements (length samples) h)
 
   -- 6: an odd number of them
   pub export-odd : length samples ≤ maxElements → (length samples % 2 ≡ 0 → ⊥) → 6 ≡ exportRefusal rate samples room
-  unfolding lengthRefusal
+  unfolding exportRefusal lengthRefusal
   export-odd f h = rw (le-ltb maxElements (length samples) f, ne-eqb (length samples % 2) 0 h)
 
   -- 11: a short buffer
   pub export-room : length samples ≤ maxElements → length samples % 2 ≡ 0 → room < headerBytes + 2 * length samples → 11 ≡ exportRefusal rate samples room
-  unfolding lengthRefusal
+  unfolding exportRefusal lengthRefusal
   export-room f e h = rw (le-ltb maxElements (length samples) f, eq-eqb (length samples % 2) 0 e, lt-ltb room (headerBytes + 2 * length samples) h)
 
   -- none of these three: the rate and the samples decide
   fits-is : Fitting (length samples) room → exportRefusal rate samples room ≡ soundRefusal rate samples
-  unfolding lengthRefusal
+  unfolding exportRefusal lengthRefusal
   fits-is f =
       rw (le-ltb maxElements (length samples) (f .few), eq-eqb (length samples % 2) 0 (f .whole-frames), le-ltb room (headerBytes + 2 * length samples) (f .enough))
 
@@ -74,7 +74,7 @@ module _ (rate : ℕ) (samples : List ℤ) (room : ℕ) where
 
   -- and then all of it holds
   pub export-ready : exportRefusal rate samples room ≡ 0 → Ready rate samples room
-  unfolding lengthRefusal soundRefusal
+  unfolding exportRefusal lengthRefusal soundRefusal
   export-ready e = long (ltb maxElements (length samples)) refl e
     where
       span : Fitting (length samples) room → (t : Bool) → rateTaken rate ≡ true → within16 samples ≡ t → _≡_ {A = ℕ} (cond t 0 13) 0 → Ready rate samples room
@@ -101,6 +101,11 @@ module _ (rate : ℕ) (samples : List ℤ) (room : ℕ) where
       long true q e = absurd (omega arith)
       long false q e = odd (ltb-false _ _ q) (eqb (length samples % 2) 0) refl e
 
+-- the buffer keeps its length when the header is copied into it
+pub copied-length : (head first out : List ℕ) → first ≡ take (length head) head ++ drop (length head) out → length head ≤ length out → length first ≡ length out
+copied-length head first out f h =
+    ap length f ∙ length-front out (take (length head) head) (length head) (length-take-le (length head) head (omega arith) ∙ sym (length-take-le (length head) out h))
+
 module _ (rate : ℕ) (samples : List ℤ) (out : List ℕ) where
   -- a refusal leaves the buffer
   pub export-refused : (o : Outcome) (x : Refusal) → o ≡ Outcome.Refused x → outcomeNumber o ≡ exportRefusal rate samples (length out)
@@ -125,13 +130,13 @@ module _ (rate : ℕ) (samples : List ℤ) (out : List ℕ) where
   export-told e = guard-accepted (exportRefusal rate samples (length out)) (refuseExport out) (tellExport out (waveFile rate samples)) e
 
   -- the header and then the samples
-  pub export-accepted : (head first after : List ℕ) (w n : ℕ) → Ready rate samples (length out) → head ≡ waveHeader rate (2 * length samples) → n ≡ length head
-      → first ≡ take n head ++ drop n out → after ≡ overlay first headerBytes (dataBytes samples) → w ≡ headerBytes + 2 * length samples
+  pub export-accepted : (head first after : List ℕ) (w : ℕ) → Ready rate samples (length out) → head ≡ waveHeader rate (2 * length samples)
+      → first ≡ take (length head) head ++ drop (length head) out → after ≡ overlay first headerBytes (dataBytes samples) → w ≡ headerBytes + 2 * length samples
       → record { refusal = 0; written = w; bytes = after } ≡ exportEntry rate samples out
   unfolding waveFile
-  export-accepted head first after w n r h m f a l =
+  export-accepted head first after w r h f a l =
       let k : length head ≡ headerBytes = ap length h ∙ header-length rate (2 * length samples) in
-      let one : first ≡ overlay out 0 head = f ∙ rw (m, take-all (length head) head (omega arith)) (sym (overlay-first out head)) in
+      let one : first ≡ overlay out 0 head = f ∙ rw (take-all (length head) head (omega arith)) (sym (overlay-first out head)) in
       let all : after ≡ overlay out 0 (waveFile rate samples) =
       overlay-two out first after 0 headerBytes head (dataBytes samples) (omega arith) (omega arith) one a ∙ rw h in
       rw (all, l, ← file-length rate samples) (sym (export-told (sym (export-none rate samples (length out) r))))

@@ -1,14 +1,25 @@
--- How long a sound file is, and its samples one after the other.
+-- Rates, how long a sound file is, and its samples one after the other.
 -- Assumes nothing.
 use mathlib.Core.Path.{_≡_, refl, sym, ap, _∙_}
+use mathlib.Core.Bool.{true}
 use mathlib.Core.List.{List, [], _∷_, _++_, append-assoc, append-nil}
-use Prim.Native.Nat.{ℕ, suc, _+_, _*_, _<_}
+use Prim.Native.Nat.{ℕ, suc, _+_, _*_, _≤_, _<_}
 use native.Mathlib.Omega.{arith}
+use borrow.Author.Tests.{le-leb, leb-true}
+use lib.Dec.{leb}
 use lib.IntN.{ℤ, pos}
 use lib.ListN.{length, take, getD, length-append}
 use lib.Seq.{take-suc}
+use Rattle.answers.proofs.TestLaws.{both}
 use Rattle.little_endian.specs.LittleEndian.{littleEndian, signedBytes}
-use Rattle.wave.specs.File.{headerBytes, fmtChunk, waveHeader, dataBytes, waveFile}
+use Rattle.wave.specs.File.{headerBytes, maxRate, rateTaken, fmtChunk, waveHeader, dataBytes, waveFile}
+
+-- a rate in its span, both ways
+pub rate-in : (rate : ℕ) → 1 ≤ rate → rate ≤ maxRate → rateTaken rate ≡ true
+rate-in rate a b = rw (le-leb 1 rate a, le-leb rate maxRate b)
+
+pub rate-out : (rate : ℕ) → rateTaken rate ≡ true → (1 ≤ rate) × (rate ≤ maxRate)
+rate-out rate h = let b = both (leb 1 rate) (leb rate maxRate) h in (leb-true 1 rate (b .0), leb-true rate maxRate (b .1))
 
 -- the header has 44 bytes
 pub header-length : (rate size : ℕ) → length (waveHeader rate size) ≡ headerBytes

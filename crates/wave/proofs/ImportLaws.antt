@@ -51,10 +51,11 @@ module _ (file : List ℕ) where
   wave-rate h e r = rw (le-leb headerBytes (length file) h, eq-eqb ((length file - headerBytes) % 4) 0 e, r)
 
   -- the header decides
-  pub wave-header : headerBytes ≤ length file → (length file - headerBytes) % 4 ≡ 0 → rateTaken (fileRate file) ≡ true
-      → isWave file ≡ alike (take headerBytes file) (waveHeader (fileRate file) (length file - headerBytes))
+  pub wave-compared : (expected : List ℕ) (rate : ℕ) (r : Bool) → headerBytes ≤ length file → (length file - headerBytes) % 4 ≡ 0 → rate ≡ fileRate file
+      → rateTaken rate ≡ true → expected ≡ waveHeader rate (length file - headerBytes) → r ≡ alike (take headerBytes file) expected → r ≡ isWave file
   unfolding isWave
-  wave-header h e r = rw (le-leb headerBytes (length file) h, eq-eqb ((length file - headerBytes) % 4) 0 e, r)
+  wave-compared expected rate r h e f t x q =
+      q ∙ rw (x, f) (sym (rw (le-leb headerBytes (length file) h, eq-eqb ((length file - headerBytes) % 4) 0 e, ap rateTaken (sym f) ∙ t)))
 
 -- what a sound file is
 pub record Wave (file : List ℕ) : Type 0 where

@@ -14,6 +14,11 @@ use Rattle.little_endian.specs.LittleEndian.{littleEndian, signedBytes}
 use Rattle.wave.specs.File.{headerBytes, dataBytes}
 use Rattle.wave.proofs.FileLaws.{data-length, data-suc}
 
+-- the two bytes of a sample, one by one
+pub pair-is : (pair : List ℕ) (z : ℤ) → pair ≡ signedBytes z → getD pair 0 0 ∷ getD pair 1 0 ∷ [] ≡ signedBytes z
+unfolding littleEndian
+pair-is pair z e = rw e
+
 -- the first i samples are laid
 pub record Laid (samples : List ℤ) (before out : List ℕ) (i : ℕ) : Type 0 where
   pub here : i ≤ length samples

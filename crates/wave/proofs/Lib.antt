@@ -5,4 +5,5 @@ pub mod AlikeLaws
 pub mod SampleLaws
 pub mod ExportLaws
 pub mod ImportLaws
+pub mod TakeLaws
 pub mod Theorems

@@ -37,7 +37,8 @@ samples-at (lo ∷ hi ∷ bytes) zero h = refl
 samples-at (lo ∷ hi ∷ bytes) (suc i) h =
     let e : 2 * suc i ≡ suc (suc (2 * i)) = omega arith in
     let f : 2 * suc i + 1 ≡ suc (suc (2 * i + 1)) = omega arith in
-    rw (e, f) (samples-at bytes i (omega arith))
+    let at : ℕ → ℕ = λ n. getD (lo ∷ hi ∷ bytes) n 0 in
+    samples-at bytes i (omega arith) ∙ ap₂ signedWord (ap at (sym e)) (ap at (sym f))
 
 -- samples of 16 bits come back out of their bytes
 pub samples-back : (samples : List ℤ) → within16 samples ≡ true → samplesOf (dataBytes samples) ≡ samples

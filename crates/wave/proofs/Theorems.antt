@@ -5,13 +5,10 @@ use mathlib.Core.Bool.{Bool, true, _&&_}
 use mathlib.Core.List.{List, _++_}
 use Prim.Native.Nat.{ℕ, suc, _+_, _-_, _*_, _/_, _%_, _≤_, _<_}
 use native.Mathlib.Omega.{arith}
-use borrow.Author.Tests.{le-leb, leb-true, eq-eqb}
-use lib.Dec.{leb}
 use lib.IntN.{ℤ}
 use lib.ListN.{length, take, drop, getD, length-append, length-drop, take-append-drop}
 use lib.Seq.{take-at, drop-at, getD-drop}
 use Rattle.answers.specs.Limits.{maxElements}
-use Rattle.answers.proofs.TestLaws.{both}
 use Rattle.overlay.specs.Overlay.{overlay}
 use Rattle.overlay.proofs.OverlayLaws.{overlay-take}
 use Rattle.little_endian.specs.LittleEndian.{littleEndian, numberOf}
@@ -20,23 +17,19 @@ use Rattle.wave.specs.File.{headerBytes, maxFileBytes, maxRate, rateTake
 use Rattle.wave.specs.Export.{within16, exportRefusal, tellExport, exportEntry}
 use Rattle.wave.specs.Import.{alike, fileRate, isWave, fileSamples, importRefusal, tellImport, importEntry, ImportTold}
 use Rattle.wave.specs.SoundFile.{Bytes, InSpan, exported, imported, ExportThenImport, EveryExport, IsExport, OnlyExports, NoSecondFile}
-use Rattle.wave.proofs.FileLaws.{header-length, data-length, file-length}
+use Rattle.wave.proofs.FileLaws.{rate-in, rate-out, header-length, file-length}
 use Rattle.wave.proofs.AlikeLaws.{alike-same, alike-is}
 use Rattle.wave.proofs.SampleLaws.{samples-length, samples-back, data-back, samples-within}
 use Rattle.wave.proofs.ExportLaws.{Ready, export-ready, export-number, export-told}
-use Rattle.wave.proofs.ImportLaws.{Wave, Importable, file-samples, wave-header, wave-parts, import-none, importable, import-number, import-told}
-
--- a rate in its span, both ways
-rate-in : (rate : ℕ) → 1 ≤ rate → rate ≤ maxRate → rateTaken rate ≡ true
-rate-in rate a b = rw (le-leb 1 rate a, le-leb rate maxRate b)
-
-rate-out : (rate : ℕ) → rateTaken rate ≡ true → (1 ≤ rate) × (rate ≤ maxRate)
-rate-out rate h = let b = both (leb 1 rate) (leb rate maxRate) h in (leb-true 1 rate (b .0), leb-true rate maxRate (b .1))
+use Rattle.wave.proofs.ImportLaws.{Wave, Importable, file-samples, wave-compared, wave-parts, import-none, importable, import-number, import-told}
 
 -- ---- a file that export wrote
 
 module _ (rate : ℕ) (samples : List ℤ) (s : InSpan rate samples) where
+  abbrev file : List ℕ
   file = waveFile rate samples
+
+  abbrev head : List ℕ
   head = waveHeader rate (2 * length samples)
 
   size-is : length file - headerBytes ≡ 2 * length samples
@@ -62,8 +55,7 @@ module _ (rate : ℕ) (samples : List ℤ) (s : InSpan rate samples) where
   is-wave =
       let n = file-length rate samples in
       let k = s .whole-frames in
-      wave-header file (omega arith) (omega arith) (rw rate-is (rate-in rate (s .rate-above) (s .rate-below)))
-      ∙ rw (head-is, rate-is, size-is) (alike-same head)
+      sym (wave-compared file head rate true (omega arith) (omega arith) (sym rate-is) (rate-in rate (s .rate-above) (s .rate-below)) (rw size-is) (sym (rw head-is (alike-same head))))
 
 -- Q1.6, one way
 pub every-export : EveryExport
@@ -90,7 +82,10 @@ export-then-import rate samples buffer list e h =
 -- ---- a file that import accepted
 
 module _ (file : List ℕ) (list : List ℤ) (b : Bytes file) (i : Importable file (length list)) where
+  w : Wave file
   w = wave-parts file (i .wave)
+
+  abbrev size : ℕ
   size = length file - headerBytes
 
   -- the bytes behind the header are whole frames
@@ -108,8 +103,8 @@ module _ (file : List ℕ) (list : List ℤ) (b : Bytes file) (i : Importable fi
   file-is =
       sym (take-append-drop headerBytes file)
       ∙ ap₂ (λ (x y : List ℕ). x ++ y)
-          (alike-is (take headerBytes file) (waveHeader (fileRate file) size) (w .header) ∙ ap (waveHeader (fileRate file)) (sym count-is))
-          (sym data-is)
+      (alike-is (take headerBytes file) (waveHeader (fileRate file) size) (w .header) ∙ ap (waveHeader (fileRate file)) (sym count-is))
+      (sym data-is)
 
   -- which are in span
   span-is : InSpan (fileRate file) (fileSamples file)

@@ -40,7 +40,7 @@ unfoldable pub soundRefusal : ℕ → List ℤ → ℕ
 soundRefusal rate samples = cond (rateTaken rate) (cond (within16 samples) 0 13) 14
 
 -- the first of them that applies, 0 for none
-abbrev pub exportRefusal : ℕ → List ℤ → ℕ → ℕ
+unfoldable pub exportRefusal : ℕ → List ℤ → ℕ → ℕ
 exportRefusal rate samples room = orElse (lengthRefusal (length samples) room) (soundRefusal rate samples)
 
 -- a refusal writes nothing: 13 is "tested before any byte is written"

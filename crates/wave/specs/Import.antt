@@ -16,9 +16,9 @@ use Rattle.wave.specs.declared.import.Imported.{Imported}
 -- two lists hold the same bytes
 unfoldable pub alike : List ℕ → List ℕ → Bool
 alike [] [] = true
-alike (a ∷ as) (b ∷ bs) = eqb a b && alike as bs
-alike [] (b ∷ bs) = false
-alike (a ∷ as) [] = false
+alike (a ∷ xs) (b ∷ ys) = eqb a b && alike xs ys
+alike [] (b ∷ ys) = false
+alike (a ∷ xs) [] = false
 
 -- the rate that a file's header holds: four bytes behind 24
 abbrev pub fileRate : List ℕ → ℕ

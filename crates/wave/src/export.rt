@@ -1,11 +1,11 @@
 // Export: a recording as the bytes of a sound file. All tests come before the first byte is
 // written.
-use answers::Outcome;
-use answers::Refusal;
-use answers::limits::MAX_ELEMENTS;
 use crate::header::HEADER_BYTES;
 use crate::header::header;
 use crate::header::is_rate;
+use answers::Outcome;
+use answers::Refusal;
+use answers::limits::MAX_ELEMENTS;
 use little_endian::signed_bytes;
 use spans::is_within;
 ghost use mathlib.Core.Path.{_≡_};

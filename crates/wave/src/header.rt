@@ -34,10 +34,49 @@ pub(crate) fn header(rate: u32, size: u32) -> [u8; 44]
     let bytes = number_bytes(4 * rate);
     let data = number_bytes(size);
     [
-        82, 73, 70, 70, riff[0], riff[1], riff[2], riff[3], 87, 65, 86, 69, // RIFF, length, WAVE
-        102, 109, 116, 32, 16, 0, 0, 0, 1, 0, 2, 0, // fmt, length, format, channels
-        frames[0], frames[1], frames[2], frames[3], bytes[0], bytes[1], bytes[2], bytes[3], 4, 0,
-        16, 0, // frames and bytes a second, bytes a frame, bits a sample
-        100, 97, 116, 97, data[0], data[1], data[2], data[3], // data, length
+        82,
+        73,
+        70,
+        70,
+        riff[0],
+        riff[1],
+        riff[2],
+        riff[3],
+        87,
+        65,
+        86,
+        69, // RIFF, length, WAVE
+        102,
+        109,
+        116,
+        32,
+        16,
+        0,
+        0,
+        0,
+        1,
+        0,
+        2,
+        0, // fmt, length, format, channels
+        frames[0],
+        frames[1],
+        frames[2],
+        frames[3],
+        bytes[0],
+        bytes[1],
+        bytes[2],
+        bytes[3],
+        4,
+        0,
+        16,
+        0, // frames and bytes a second, bytes a frame, bits a sample
+        100,
+        97,
+        116,
+        97,
+        data[0],
+        data[1],
+        data[2],
+        data[3], // data, length
     ]
 }

@@ -1,11 +1,11 @@
 // Import: the rate and the samples of a sound file. All tests come before the first sample is
 // written.
-use answers::Outcome;
-use answers::Refusal;
 use crate::header::HEADER_BYTES;
 use crate::header::MAX_FILE_BYTES;
 use crate::header::header;
 use crate::header::is_rate;
+use answers::Outcome;
+use answers::Refusal;
 use little_endian::number;
 use little_endian::signed_word;
 ghost use mathlib.Core.Path.{_≡_};
@@ -32,13 +32,13 @@ fn rate_of(file: &[u8]) -> u32
 }
 
 // Whether a file begins with these bytes.
-fn begins_with(file: &[u8], head: [u8; 44]) -> bool
+fn begins_with(file: &[u8], expected: [u8; 44]) -> bool
     requires { ⌜ headerBytes ≤ length (now file) ⌝ }
-    ensures { λ r. ⌜ r ≡ alike (take headerBytes (now (file .entry))) head ⌝ }
+    ensures { λ r. ⌜ r ≡ alike (take headerBytes (now (file .entry))) expected ⌝ }
 {
     let mut i: usize = 0;
     while i < HEADER_BYTES {
-        if file[i] != head[i] {
+        if file[i] != expected[i] {
             return false;
         }
         i = i + 1;

@@ -9,8 +9,7 @@ use Rattle.logpack.proofs.expand_log_word.Tie as tie
 
 returns : tie.Need-returns
 returns c =
-    rw (c .wp-exp2s .ensures, toZ-ofZ w16 (c .before .signed .result) (search needs), c .before .signed .ensures) (toZ-ofZ w32 _ (logWord-fits _))
+    rw (c .wp-exp2s .ensures, toZ-ofZ w16 (c .before .signed-word .result) (search needs), c .before .signed-word .ensures) (toZ-ofZ w32 _ (logWord-fits _))
 
 pub expand-log-word-spec : {M : Type 1} → statement M
-expand-log-word-spec =
-    tie.close (tie.spec (λ c. search needs) (λ c. search needs) (λ c κs. search needs) (λ c κs. search needs) returns)
+expand-log-word-spec = tie.close (tie.spec (λ c κs. search needs) (λ c κs. search needs) returns)

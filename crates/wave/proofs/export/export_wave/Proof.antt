@@ -1,0 +1,82 @@
+-- `wave::export::export_wave` meets its contract: a refusal that the tests found, or the header and
+-- then the samples.
+-- Assumes nothing.
+use mathlib.Core.Path.{_≡_, refl, sym, ap, _∙_}
+use native.Mathlib.Omega.{arith}
+use denote.Ref.{now}
+use lib.ListN.{length}
+use borrow.Author.Needs.{needs}
+use Rattle.answers.specs.Numbers.{outcomeNumber}
+use Rattle.wave.specs.File.{headerBytes}
+use Rattle.wave.proofs.FileLaws.{rate-out, header-length}
+use Rattle.wave.proofs.ExportLaws.{Ready, export-ready, copied-length, export-refused, export-accepted}
+use Rattle.wave.proofs.export.export_wave.Statement.{statement}
+use Rattle.wave.proofs.export.export_wave.Tie as tie
+
+returns : tie.Need-returns
+returns c =
+    let tested : tie.After-export-refusal = search needs in
+    export-refused _ _ _ _ _ (c .enum-told2 .given .1) (tested .export-refusal .ensures)
+
+abbrev start : tie.After-enum-told → tie.Start
+start t = t .before .before .before .before
+
+-- what holds where nothing is refused
+ready : (t : tie.After-enum-told) → let a = start t .args in Ready (a .rate) (now (a .samples)) (length (now (a .out)))
+ready t = export-ready _ _ _ (sym (t .before .before .export-refusal .ensures) ∙ ap outcomeNumber (t .enum-told .given .1))
+
+cast-header : tie.Need-cast-header
+cast-header c = let r = ready c .fitting in omega arith
+
+header-requires : tie.Need-header-requires
+header-requires c κs = let r = ready c in (rate-out _ (r .rate-taken) .1, let f = r .fitting in omega arith)
+
+copy-requires : tie.Need-copy-requires
+copy-requires c κs =
+    let t : tie.After-enum-told = search needs in
+    let f = ready t .fitting in
+    let n : length (c .before .before .header .result) ≡ headerBytes = ap length (c .before .before .header .ensures) ∙ header-length _ _ in
+    omega arith
+
+lay-samples-requires : tie.Need-lay-samples-requires
+lay-samples-requires c κs =
+    let t : tie.After-enum-told = search needs in
+    let h : tie.After-header = search needs in
+    let p : tie.After-copy = search needs in
+    let r = ready t in
+    let f = r .fitting in
+    let n : length (h .header .result) ≡ headerBytes = ap length (h .header .ensures) ∙ header-length _ _ in
+    let same = copied-length (h .header .result) _ (now (start t .args .out)) (p .copy .ensures .1) (omega arith) in
+    (omega (arith, same), (f .few, r .sixteen-bits))
+
+cast-t9 : tie.Need-cast-t9
+cast-t9 c =
+    let t : tie.After-enum-told = search needs in
+    let r = ready t .fitting in
+    omega arith
+
+returns-2 : tie.Need-returns-2
+returns-2 c =
+    let t : tie.After-enum-told = search needs in
+    let h : tie.After-header = search needs in
+    let p : tie.After-copy = search needs in
+    export-accepted _ _ _ _ _ _ _ (ready t) (h .header .ensures) (p .copy .ensures .1) (c .before .before .lay-samples .ensures) refl
+
+pub export-wave-spec : {M : Type 1} → statement M
+export-wave-spec =
+    tie.close
+    (tie.spec
+    (λ c κs. search needs)
+    (λ c. search needs)
+    (λ c. search needs)
+    returns
+    (λ c. search needs)
+    cast-header
+    header-requires
+    (λ c. search needs)
+    copy-requires
+    lay-samples-requires
+    (λ c. search needs)
+    cast-t9
+    (λ c. search needs)
+    returns-2)

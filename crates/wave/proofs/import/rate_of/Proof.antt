@@ -1,0 +1,27 @@
+-- `wave::import::rate_of` meets its contract.
+-- Assumes nothing.
+use mathlib.Core.Path.{_≡_, sym, ap, _∙_}
+use native.Mathlib.Omega.{arith}
+use denote.Ref.{now}
+use borrow.Author.Needs.{needs}
+use Rattle.little_endian.specs.LittleEndian.{numberOf}
+use Rattle.wave.proofs.ImportLaws.{rate-at}
+use Rattle.wave.proofs.import.rate_of.Statement.{statement}
+use Rattle.wave.proofs.import.rate_of.Tie as tie
+
+returns : tie.Need-returns
+returns c =
+    let start : tie.Start = search needs in
+    let h = start .pre in
+    c .number .ensures ∙ ap numberOf (sym (rate-at (now (start .args .file)) (omega arith)))
+
+pub rate-of-spec : {M : Type 1} → statement M
+rate-of-spec =
+    tie.close
+    (tie.spec
+    (λ c. omega arith)
+    (λ c. omega arith)
+    (λ c. omega arith)
+    (λ c. omega arith)
+    (λ c κs. search needs)
+    returns)
