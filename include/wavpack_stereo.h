@@ -1,8 +1,8 @@
 /* The C interface of the stereo WavPack decoder. Link with libcapi.a.
  *
  * Every function answers WV_ACCEPTED or the number of a refusal. The rules behind the refusals are
- * the rows X1 to X9 of docs/PROVED.md; each function below has its own in the order in which it
- * tests.
+ * the rows X1 to X9, Q1.3 and Q1.4 of docs/PROVED.md; each function below has its own in the order in
+ * which it tests.
  *
  * A list is a pointer to its first element and its number of elements; a list of 0 elements still
  * wants a pointer that is not null and is aligned for its type. A function reads and writes nothing
@@ -36,7 +36,7 @@ extern "C" {
 #define WV_TRUNCATED 3u
 /* end of stream: the second count of a prefix is 33 */
 #define WV_END_OF_STREAM 4u
-/* over 131,072 frames, 262,144 elements or 4,194,304 payload bytes */
+/* over 131,072 frames, 262,144 elements, 4,194,304 payload bytes or 524,332 bytes of a sound file */
 #define WV_TOO_LARGE 5u
 /* a lent list does not have the length asked for */
 #define WV_LIST_LENGTH 6u
@@ -48,10 +48,14 @@ extern "C" {
 #define WV_TOO_MANY_PASSES 9u
 /* a residual outside -1,879,048,192 to 1,879,048,191 */
 #define WV_RESIDUAL_OUT_OF_SPAN 10u
-/* fewer than 28 bytes per frame lent */
+/* lent storage too short: under 28 bytes a frame to pack, 44 and 2 a sample for a sound file, or an element a sample of one */
 #define WV_OUTPUT_TOO_SHORT 11u
 /* a channel due that is neither 0 nor 1 */
 #define WV_INVALID_CHANNEL 12u
+/* a sample outside -32,768 to 32,767 */
+#define WV_SAMPLE_OUT_OF_SPAN 13u
+/* no sound file of the one form that is taken, or a rate outside 1 to 192,000 */
+#define WV_NOT_WAVE 14u
 
 /* Slots of the lists. */
 #define WV_LOG_WORD_SLOTS 1u
@@ -64,6 +68,8 @@ extern "C" {
 #define WV_WORD_REPORT_SLOTS 2u
 #define WV_PASS_SLOTS 20u
 #define WV_PACK_SLOTS 7u
+#define WV_WAVE_EXPORT_SLOTS 1u
+#define WV_WAVE_IMPORT_SLOTS 2u
 
 /* The signed 32-bit value of a log word.
  * value: its value.
@@ -144,6 +150,28 @@ uint32_t wv_analyse(int32_t *passes, size_t passes_len, int32_t *buffer, size_t 
  * WV_OUTPUT_TOO_SHORT and WV_RESIDUAL_OUT_OF_SPAN, with the slots of answer 0 and out as it was. */
 uint32_t wv_pack(const int32_t *residuals, size_t residuals_len, const uint8_t *entropy, size_t entropy_len, size_t frames,
                  uint8_t *out, size_t out_len, uint32_t *answer, size_t answer_len);
+
+/* Writes samples, left then right, as a sound file: RIFF WAVE of format 1, two channels, 16 bits and
+ * `rate` frames a second, 1 to 192,000; a header of 44 bytes, then each sample in 2 bytes, the low
+ * one first. `wv_wave_import` gives rate and samples back.
+ * out: the file from the first byte on, 44 bytes and 2 a sample; bytes behind keep their values.
+ * answer: bytes written.
+ * Refuses WV_LIST_LENGTH for answer; then WV_TOO_LARGE for over 262,144 samples, WV_LIST_LENGTH for
+ * an odd number of them, WV_OUTPUT_TOO_SHORT, WV_NOT_WAVE for the rate and WV_SAMPLE_OUT_OF_SPAN;
+ * with both lists as they were. */
+uint32_t wv_wave_export(uint32_t rate, const int32_t *samples, size_t samples_len, uint8_t *out, size_t out_len,
+                        uint32_t *answer, size_t answer_len);
+
+/* Reads a sound file, just as `wv_wave_export` writes it: no other header, chunk, length or rate is
+ * taken, and no byte behind the samples.
+ * samples: the samples, left then right, one for each 2 bytes behind the header; elements behind
+ *   keep their values.
+ * answer: rate, samples written.
+ * Refuses WV_LIST_LENGTH for answer; then WV_TOO_LARGE for over 524,332 bytes, WV_NOT_WAVE, and
+ * WV_OUTPUT_TOO_SHORT for a samples list shorter than the file's samples; with both lists as they
+ * were. */
+uint32_t wv_wave_import(const uint8_t *file, size_t file_len, int32_t *samples, size_t samples_len, uint32_t *answer,
+                        size_t answer_len);
 
 #ifdef __cplusplus
 }

@@ -62,14 +62,16 @@ refusals! {
     2 NotStereo "the entropy payload is mono (a zero right set counts as mono) or holds a negative median",
     3 Truncated "a bit past the end is needed, or a count or a prefix value is over its cap",
     4 EndOfStream "end of stream: the second count of a prefix is 33",
-    5 TooLarge "over 131,072 frames, 262,144 elements or 4,194,304 payload bytes",
+    5 TooLarge "over 131,072 frames, 262,144 elements, 4,194,304 payload bytes or 524,332 bytes of a sound file",
     6 ListLength "a lent list does not have the length asked for",
     7 InvalidTerm "a term that is none of 1 to 8, 17, 18, -1, -2, -3",
     8 SeedTooShort "a seed with too few samples for its term",
     9 TooManyPasses "over 16 passes",
     10 ResidualOutOfSpan "a residual outside -1,879,048,192 to 1,879,048,191",
-    11 OutputTooShort "fewer than 28 bytes per frame lent",
+    11 OutputTooShort "lent storage too short: under 28 bytes a frame to pack, 44 and 2 a sample for a sound file, or an element a sample of one",
     12 InvalidChannel "a channel due that is neither 0 nor 1",
+    13 SampleOutOfSpan "a sample outside -32,768 to 32,767",
+    14 NotWave "no sound file of the one form that is taken, or a rate outside 1 to 192,000",
 }
 
 impl Refusal {
@@ -94,7 +96,7 @@ mod tests {
         for number in (1..100).chain([u32::MAX]) {
             let refusal = Refusal::outcome(number).unwrap_err();
             assert_eq!(refusal.number(), number);
-            assert_eq!(matches!(refusal, Refusal::Unknown { .. }), number > 12);
+            assert_eq!(matches!(refusal, Refusal::Unknown { .. }), number > 14);
         }
     }
 }
