@@ -38,6 +38,14 @@ unsafe extern "C" {
         residuals: *const i32, residuals_len: usize, entropy: *const u8, entropy_len: usize, frames: usize,
         out: *mut u8, out_len: usize, answer: *mut u32, answer_len: usize,
     ) -> u32;
+    fn wv_wave_export(
+        rate: u32, samples: *const i32, samples_len: usize, out: *mut u8, out_len: usize,
+        answer: *mut u32, answer_len: usize,
+    ) -> u32;
+    fn wv_wave_import(
+        file: *const u8, file_len: usize, samples: *mut i32, samples_len: usize,
+        answer: *mut u32, answer_len: usize,
+    ) -> u32;
 }
 
 /// `wv_log_word`: 1 slot.
@@ -123,6 +131,32 @@ pub fn pack(residuals: &[i32], entropy: &[u8], frames: usize, out: &mut [u8], an
         wv_pack(
             residuals.as_ptr(), residuals.len(), entropy.as_ptr(), entropy.len(), frames,
             out.as_mut_ptr(), out.len(), answer.as_mut_ptr(), answer.len(),
+        )
+    }
+}
+
+/// `wv_wave_export`: an answer of 1 slot.
+#[rustfmt::skip]
+pub fn wave_export(rate: u32, samples: &[i32], out: &mut [u8], answer: &mut [u32]) -> u32 {
+    // SAFETY: all three are lists, whatever `rate` is; only `out` and `answer`, each lent to this
+    // call alone, are written.
+    unsafe {
+        wv_wave_export(
+            rate, samples.as_ptr(), samples.len(), out.as_mut_ptr(), out.len(),
+            answer.as_mut_ptr(), answer.len(),
+        )
+    }
+}
+
+/// `wv_wave_import`: an answer of 2 slots.
+#[rustfmt::skip]
+pub fn wave_import(file: &[u8], samples: &mut [i32], answer: &mut [u32]) -> u32 {
+    // SAFETY: all three are lists; only `samples` and `answer`, each lent to this call alone, are
+    // written.
+    unsafe {
+        wv_wave_import(
+            file.as_ptr(), file.len(), samples.as_mut_ptr(), samples.len(),
+            answer.as_mut_ptr(), answer.len(),
         )
     }
 }

@@ -8,7 +8,9 @@
 //! by the passes that [`Pass::new`] makes from the [`term_byte`], the [`weight_byte`]s and the
 //! seeds, which are [`log_word`]s. Writing is the way back: [`analyse`], then [`pack`]. [`word`]
 //! reads one word at a time, for a controller that follows a recording as it comes in. The example
-//! `wv_file` decodes real `.wv` files, by the steps of docs/WV_FILES.md.
+//! `wv_file` decodes real `.wv` files, by the steps of docs/WV_FILES.md. [`wave_export`] writes
+//! samples as a sound file, which audio editors open, and [`wave_import`] reads such a file back;
+//! the example `sound_file` does both.
 //!
 //! ```
 //! use wavpack_stereo::{BYTES_PER_FRAME, Delta, Pass, Refusal, Weight};
@@ -52,6 +54,7 @@ mod reading;
 mod refusal;
 mod slots;
 mod values;
+mod wave;
 mod words;
 
 pub use packing::{BYTES_PER_FRAME, Packed, pack};
@@ -61,6 +64,7 @@ pub use refusal::Refusal;
 #[cfg(feature = "ffi")]
 pub use slots::Slots;
 pub use values::{TermByte, entropy, log_word, term_byte, weight_byte};
+pub use wave::{MAX_RATE, MAX_WAVE_BYTES, WAVE_HEADER_BYTES, Wave, wave_export, wave_import};
 pub use words::{Word, WordState, Zone, word};
 
 /// Three numbers for the left channel, then three for the right one.

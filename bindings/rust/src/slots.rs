@@ -1,6 +1,6 @@
 //! The slots of the C interface and what they hold: the order of each list stands here, but for that
 //! of a pass, which stands with `Pass`, and nowhere else in Rust.
-use crate::{Delta, Medians, Packed, Reading, TermByte, WordState, Zone};
+use crate::{Delta, Medians, Packed, Reading, TermByte, Wave, WordState, Zone};
 
 /// A value that the C interface takes or gives as a list of numbers, its slots, in the order of
 /// `include/wavpack_stereo.h`.
@@ -69,6 +69,20 @@ impl Slots for Packed {
     fn slots(&self) -> [u32; 7] {
         let [a, b, c, d, e, f] = self.medians.slots();
         [self.bits_written, a, b, c, d, e, f]
+    }
+}
+
+/// Rate, samples written.
+impl Slots for Wave {
+    type List = [u32; 2];
+
+    fn from_slots([rate, written]: [u32; 2]) -> Wave {
+        Wave { rate, written: written as usize }
+    }
+
+    fn slots(&self) -> [u32; 2] {
+        // A sound file holds at most 262,144 samples.
+        [self.rate, u32::try_from(self.written).unwrap_or(u32::MAX)]
     }
 }
 
@@ -141,6 +155,7 @@ mod tests {
         assert_eq!(reading, Reading { bits_used: 1, medians: [[10, 11, 12], [20, 21, 22]], written: 2 });
         let packed = Packed::from_slots([1, 10, 11, 12, 20, 21, 22]);
         assert_eq!(packed, Packed { bits_written: 1, medians: [[10, 11, 12], [20, 21, 22]] });
+        assert_eq!(Wave::from_slots([44_100, 2]), Wave { rate: 44_100, written: 2 });
         assert_eq!(TermByte::from_slots([18, 2]), TermByte { term: 18, delta: Delta(2) });
         assert_eq!(Option::from_slots([4, 7]), Some(Zone::Zone2Overflow { ones_count: 7 }));
     }
@@ -156,6 +171,7 @@ mod tests {
         let list = [1, 10, 11, 12, 20, 21, 22, 2];
         assert_eq!(Reading::from_slots(list).slots(), list);
         assert_eq!(Packed::from_slots([1, 2, 3, 4, 5, 6, 7]).slots(), [1, 2, 3, 4, 5, 6, 7]);
+        assert_eq!(Wave::from_slots([192_000, 262_144]).slots(), [192_000, 262_144]);
         assert_eq!(TermByte::from_slots([-3, 7]).slots(), [-3, 7]);
         for report in [[0, 0], [1, 0], [2, 1], [3, 2], [4, 3], [4, u32::MAX]] {
             assert_eq!(Option::<Zone>::from_slots(report).slots(), report);

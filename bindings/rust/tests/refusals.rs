@@ -1,7 +1,7 @@
 //! Each refusal, reached through the safe functions, and that the lent lists are then as they were.
 use wavpack_stereo::{
-    Delta, MAX_ELEMENTS, MAX_FRAMES, MAX_PASSES, MAX_PAYLOAD_BYTES, Pass, Reading, Refusal, Weight, WordState, analyse,
-    decorrelate, entropy, pack, read, word,
+    Delta, MAX_ELEMENTS, MAX_FRAMES, MAX_PASSES, MAX_PAYLOAD_BYTES, MAX_RATE, MAX_WAVE_BYTES, Pass, Reading, Refusal,
+    WAVE_HEADER_BYTES, Weight, WordState, analyse, decorrelate, entropy, pack, read, wave_export, wave_import, word,
 };
 
 const ONES: [u8; 12] = [0, 1, 0, 1, 0, 1, 0, 1, 0, 1, 0, 1];
@@ -124,4 +124,38 @@ fn packings() {
     assert_eq!(refused(&[3, -1], &ONES, 1, 27), Refusal::OutputTooShort);
     assert_eq!(refused(&[3, 1_879_048_192], &ONES, 1, 28), Refusal::ResidualOutOfSpan);
     assert_eq!(pack(&[], &ONES, 0, &mut []).unwrap().bytes(), 0);
+}
+
+#[test]
+fn exports() {
+    let refused = |rate: u32, samples: &[i32], room: usize| {
+        let mut out = vec![77; room];
+        let refusal = wave_export(rate, samples, &mut out).unwrap_err();
+        assert!(out.iter().all(|&byte| byte == 77));
+        refusal
+    };
+    // Each has the faults of those below it too, so that the order of the tests shows.
+    let room = WAVE_HEADER_BYTES + 4;
+    assert_eq!(refused(0, &vec![32_768; MAX_ELEMENTS + 1], 0), Refusal::TooLarge);
+    assert_eq!(refused(0, &[32_768; 3], 0), Refusal::ListLength);
+    assert_eq!(refused(0, &[32_768; 2], room - 1), Refusal::OutputTooShort);
+    assert_eq!(refused(0, &[32_768; 2], room), Refusal::NotWave);
+    assert_eq!(refused(MAX_RATE + 1, &[32_768; 2], room), Refusal::NotWave);
+    assert_eq!(refused(MAX_RATE, &[32_767, 32_768], room), Refusal::SampleOutOfSpan);
+    assert_eq!(refused(1, &[-32_769, -32_768], room), Refusal::SampleOutOfSpan);
+}
+
+#[test]
+fn imports() {
+    let refused = |file: &[u8], room: usize| {
+        let mut samples = vec![77; room];
+        let refusal = wave_import(file, &mut samples).unwrap_err();
+        assert!(samples.iter().all(|&sample| sample == 77));
+        refusal
+    };
+    let mut file = [0; WAVE_HEADER_BYTES + 4];
+    wave_export(MAX_RATE, &[32_767, -32_768], &mut file).unwrap();
+    assert_eq!(refused(&vec![0; MAX_WAVE_BYTES + 1], 1), Refusal::TooLarge);
+    assert_eq!(refused(&file[1..], 1), Refusal::NotWave);
+    assert_eq!(refused(&file, 1), Refusal::OutputTooShort);
 }
