@@ -7,11 +7,12 @@
 //! it: 12 entropy bytes, the frame count in 2 bytes, the low one first, and the payload. A click is
 //! a sample whose magnitude is above the threshold; after it the same stem is not listened to until
 //! HOLD_OFF frames later.
+mod recording;
+
+use recording::Recording;
 use std::error::Error;
 use std::fmt;
-use wavpack_stereo::{
-    BYTES_PER_FRAME, Pass, Refusal, analyse, decorrelate, log_word, pack, read, term_byte, weight_byte,
-};
+use wavpack_stereo::{BYTES_PER_FRAME, Pass, Refusal, analyse, log_word, pack, term_byte, weight_byte};
 
 /// What a file holds of a pass: the term byte, and for each channel a weight byte and seeds as log
 /// words.
@@ -19,14 +20,6 @@ struct StoredPass {
     term: u8,
     weights: [u8; 2],
     seeds: [&'static [i16]; 2],
-}
-
-/// What a file holds of a recording.
-struct Recording {
-    entropy: [u8; 12],
-    frames: usize,
-    passes: Vec<StoredPass>,
-    payload: Vec<u8>,
 }
 
 #[derive(Clone, Copy, Debug, PartialEq, Eq)]
@@ -68,28 +61,14 @@ fn make_passes(stored: &[StoredPass]) -> Result<Vec<Pass>, Refusal> {
     stored.iter().map(make).collect()
 }
 
-/// The samples of a recording and, where a word ended it early, why; they are then those of the
-/// whole frames before it.
-fn decode(recording: &Recording) -> Result<(Vec<i32>, Option<Refusal>), Refusal> {
-    let mut passes = make_passes(&recording.passes)?;
-    let mut samples = vec![0; 2 * recording.frames];
-    let (written, ended) = match read(&recording.entropy, &recording.payload, recording.frames, &mut samples) {
-        Ok(reading) => (reading.written, None),
-        Err(error) => (error.reading.written, Some(error.refusal)),
-    };
-    samples.truncate(written / 2 * 2);
-    decorrelate(&mut passes, &mut samples)?;
-    Ok((samples, ended))
-}
-
 /// The recording that decodes to these samples.
-fn write(mut samples: Vec<i32>, entropy: [u8; 12], passes: Vec<StoredPass>) -> Result<Recording, Refusal> {
+fn write(mut samples: Vec<i32>, entropy: [u8; 12], passes: &mut [Pass]) -> Result<Recording, Refusal> {
     let frames = samples.len() / 2;
-    analyse(&mut make_passes(&passes)?, &mut samples)?;
+    analyse(passes, &mut samples)?;
     let mut payload = vec![0; BYTES_PER_FRAME * frames];
     let packed = pack(&samples, &entropy, frames, &mut payload)?;
     payload.truncate(packed.bytes());
-    Ok(Recording { entropy, frames, passes, payload })
+    Ok(Recording { entropy, frames, payload })
 }
 
 /// A noise floor with these clicks, each of which rings on.
@@ -117,13 +96,13 @@ fn write_and_decode() -> Result<(), Refusal> {
     // Medians of 16 for noise within 8, and the terms 18, 17 and 2 with deltas of 2.
     let entropy = [0, 5].repeat(6).try_into().expect("12 bytes");
     let pass = |term, weights, seeds| StoredPass { term, weights, seeds };
-    let passes = vec![
+    let passes = make_passes(&[
         pass(0x57, [24, 24], [&[300, -300], &[512, 0]]),
         pass(0x56, [0xf8, 8], [&[], &[]]),
         pass(0x47, [3, 0xfd], [&[], &[]]),
-    ];
-    let recording = write(samples.clone(), entropy, passes)?;
-    let (decoded, ended) = decode(&recording)?;
+    ])?;
+    let recording = write(samples.clone(), entropy, &mut passes.clone())?;
+    let (decoded, ended) = recording.decode(&mut passes.clone())?;
     assert!(ended.is_none() && decoded == samples, "the recording does not come back");
     let found = clicks(&decoded, 2000, 20);
     for click in &found {
@@ -134,17 +113,9 @@ fn write_and_decode() -> Result<(), Refusal> {
     Ok(())
 }
 
-/// The recording in a file for `wvpair`, which has no passes.
-fn recording_in(file: &[u8]) -> Option<Recording> {
-    let (entropy, rest) = file.split_first_chunk()?;
-    let (frames, payload) = rest.split_first_chunk()?;
-    let frames = usize::from(u16::from_le_bytes(*frames));
-    Some(Recording { entropy: *entropy, frames, passes: Vec::new(), payload: payload.to_vec() })
-}
-
+/// A file for `wvpair` has no passes.
 fn decode_file(name: &str, threshold: u32, hold_off: usize) -> Result<(), Box<dyn Error>> {
-    let recording = recording_in(&std::fs::read(name)?).ok_or("a recording has at least 14 bytes")?;
-    let (samples, ended) = decode(&recording)?;
+    let (samples, ended) = Recording::open(name)?.decode(&mut [])?;
     for click in clicks(&samples, threshold, hold_off) {
         println!("{click}");
     }

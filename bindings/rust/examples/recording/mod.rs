@@ -1,0 +1,38 @@
+//! A recording as the program `wvpair` takes it, for the examples that decode one.
+use std::error::Error;
+use wavpack_stereo::{Pass, Refusal, decorrelate, read};
+
+/// What a file holds of a recording, but for its passes.
+pub struct Recording {
+    pub entropy: [u8; 12],
+    pub frames: usize,
+    pub payload: Vec<u8>,
+}
+
+impl Recording {
+    /// The recording in a file: 12 entropy bytes, the frame count in 2 bytes, the low one first, and
+    /// the payload.
+    pub fn open(name: &str) -> Result<Recording, Box<dyn Error>> {
+        Ok(Recording::from_bytes(&std::fs::read(name)?).ok_or("a recording has at least 14 bytes")?)
+    }
+
+    fn from_bytes(file: &[u8]) -> Option<Recording> {
+        let (entropy, rest) = file.split_first_chunk()?;
+        let (frames, payload) = rest.split_first_chunk()?;
+        let frames = usize::from(u16::from_le_bytes(*frames));
+        Some(Recording { entropy: *entropy, frames, payload: payload.to_vec() })
+    }
+
+    /// The samples of a recording and, where a word ended it early, why; they are then those of the
+    /// whole frames before it.
+    pub fn decode(&self, passes: &mut [Pass]) -> Result<(Vec<i32>, Option<Refusal>), Refusal> {
+        let mut samples = vec![0; 2 * self.frames];
+        let (written, ended) = match read(&self.entropy, &self.payload, self.frames, &mut samples) {
+            Ok(reading) => (reading.written, None),
+            Err(error) => (error.reading.written, Some(error.refusal)),
+        };
+        samples.truncate(written / 2 * 2);
+        decorrelate(passes, &mut samples)?;
+        Ok((samples, ended))
+    }
+}
