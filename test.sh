@@ -47,6 +47,22 @@ printf '\0\1\0\1\0\1\0\1\0\1\0\1\1\0\176\2' >target/pair.bin || fail 'no file fo
 { example clicks && example clicks target/pair.bin 2 0; } | diff bindings/rust/examples/clicks.txt - || fail 'the example of the Rust bindings'
 example wv_file "$wv"/*.wv | diff bindings/rust/examples/wv_file.txt - || fail 'real files in Rust'
 
+sound_files() { # Four frames as they are, with a sample of 32,768 among them, and without their end.
+    stem='\0\25\0\25\0\25\0\25\0\25\0\25\4\0\6\0\0\0\4\20\360\17\350\176\310\375'
+    printf "$stem"'\120\0\0\4\236\0' >target/stem.bin
+    printf "$stem"'\60\0\0\4\236\0' >target/loud.bin
+    printf "$stem" >target/cut.bin
+    rm -f target/python.wav target/sox.wav target/none.wav
+    example sound_file target/stem.bin 44100 target/python.wav &&
+        example sound_file target/stem.bin 48000 target/sox.wav &&
+        ! example sound_file target/loud.bin 44100 target/none.wav &&
+        ! example sound_file target/loud.bin 192001 target/none.wav &&
+        ! example sound_file target/cut.bin 44100 target/none.wav
+}
+sound_files 2>&1 | diff bindings/rust/examples/sound_file.txt - || fail 'sound files'
+[ ! -e target/none.wav ] || fail 'a sound file of a recording that is not exported'
+{ cmp target/python.wav "$wv/wave/python.wav" && cmp target/sox.wav "$wv/wave/sox.wav"; } || fail 'sound files as other programs write them'
+
 reference=${WAVPACK_REFERENCE:-../shared/docs/src/src}
 if [ -d "$reference" ]; then
     WAVPACK_REFERENCE=$(cd "$reference" && pwd)
