@@ -33,8 +33,8 @@ static uint64_t next(void)
     return z ^ (z >> 31);
 }
 
-static uint8_t entropy[12], payload[64 * FRAMES], out[28 * FRAMES];
-static int32_t numbers[2 * FRAMES], passes[20 * MOST_PASSES], seed[8];
+static uint8_t entropy[12], payload[64 * FRAMES], out[28 * FRAMES], file[44 + 4 * FRAMES];
+static int32_t numbers[2 * FRAMES], sounds[2 * FRAMES], passes[20 * MOST_PASSES], seed[8];
 static uint32_t answer[13], report[2];
 
 /* Entropy payloads that reading takes, payloads with many ones, numbers of any size. */
@@ -63,6 +63,16 @@ static void fill_terms(void)
         passes[20 * i] = next() % 200 ? terms[next() % 13] : 9;
 }
 
+/* A sound file and its samples, now and then one of them with a fault. */
+static void fill_sounds(void)
+{
+    for (size_t i = 0; i < 2 * FRAMES; i++)
+        sounds[i] = (int16_t)next();
+    wv_wave_export((uint32_t)(1 + next() % 192000), sounds, 2 * FRAMES, file, sizeof file, report, 1);
+    file[next() % 44] ^= next() % 8 == 0;
+    sounds[next() % (2 * FRAMES)] += next() % 8 == 0 ? 65536 : 0;
+}
+
 static void log_word(void) { CALL(wv_log_word((int16_t)next(), numbers, 1)); }
 static void term_byte(void) { CALL(wv_term_byte((uint8_t)next(), numbers, 2)); }
 static void weight_byte(void) { CALL(wv_weight_byte((uint8_t)next(), numbers, 1)); }
@@ -73,6 +83,8 @@ static void making(void) { CALL(wv_pass((int8_t)passes[0], 2, 3, 4, seed, 8, see
 static void decorrelation(void) { CALL(wv_decorrelate(passes, 20 * (next() % 18), numbers, 2 * FRAMES)); }
 static void analysis(void) { CALL(wv_analyse(passes, 20 * (next() % 18), numbers, 2 * FRAMES)); }
 static void packing(void) { CALL(wv_pack(numbers, 2 * FRAMES, entropy, 12, FRAMES, out, sizeof out, answer, 7)); }
+static void exporting(void) { CALL(wv_wave_export(44100, sounds, 2 * FRAMES, out, sizeof out, answer, 1)); }
+static void importing(void) { CALL(wv_wave_import(file, sizeof file, numbers, 2 * FRAMES, answer, 2)); }
 
 /* How many bytes one call needs. */
 static size_t needed(void (*call)(void))
@@ -94,16 +106,17 @@ static size_t needed(void (*call)(void))
 
 int main(void)
 {
-    static const struct { const char *name; void (*call)(void); } entries[10] = {
+    static const struct { const char *name; void (*call)(void); } entries[12] = {
         {"wv_log_word", log_word}, {"wv_term_byte", term_byte}, {"wv_weight_byte", weight_byte}, {"wv_entropy", medians},
         {"wv_word", word}, {"wv_read", reading}, {"wv_pass", making}, {"wv_decorrelate", decorrelation},
-        {"wv_analyse", analysis}, {"wv_pack", packing}};
+        {"wv_analyse", analysis}, {"wv_pack", packing}, {"wv_wave_export", exporting}, {"wv_wave_import", importing}};
     puts("| function | bytes of stack |\n|---|---:|");
-    for (size_t i = 0; i < 10; i++) {
+    for (size_t i = 0; i < 12; i++) {
         size_t most = 0;
         for (int round = 0; round < ROUNDS; round++) {
             fill();
             fill_terms();
+            fill_sounds();
             size_t bytes = needed(entries[i].call);
             most = bytes > most ? bytes : most;
         }
