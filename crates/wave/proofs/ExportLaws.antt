@@ -20,16 +20,10 @@ use Rattle.answers.proofs.NumberLaws.{number-positive}
 use Rattle.overlay.specs.Overlay.{overlay}
 use Rattle.overlay.proofs.OverlayLaws.{overlay-first, overlay-two}
 use Rattle.wave.specs.File.{headerBytes, rateTaken, waveHeader, dataBytes, waveFile}
-use Rattle.wave.specs.Export.{ExportTold, within16, lengthRefusal, soundRefusal, exportRefusal, refuseExport, tellExport, exportEntry}
+use Rattle.wave.specs.Export.{ExportTold, Fitting, within16, lengthRefusal, soundRefusal, exportRefusal, refuseExport, tellExport, exportEntry}
 use Rattle.wave.proofs.FileLaws.{header-length, file-length}
 
--- the lengths are right
-pub record Fitting (elements room : ℕ) : Type 0 where
-  pub few : elements ≤ maxElements
-  pub whole-frames : elements % 2 ≡ 0
-  pub enough : headerBytes + 2 * elements ≤ room
-
--- and so are the rate and the samples
+-- the lengths, the rate and the samples are right
 pub record Ready (rate : ℕ) (samples : List ℤ) (room : ℕ) : Type 0 where
   pub fitting : Fitting (length samples) room
   pub rate-taken : rateTaken rate ≡ true

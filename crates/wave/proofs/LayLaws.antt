@@ -1,58 +1,86 @@
--- The samples laid behind the header, one after the other.
+-- The frames laid behind the header, one after the other.
 -- Assumes nothing.
 use mathlib.Core.Path.{_≡_, refl, sym, ap, _∙_}
 use mathlib.Core.List.{List, [], _∷_, _++_, append-assoc}
-use Prim.Native.Nat.{ℕ, suc, _+_, _*_, _≤_, _<_}
-use native.Mathlib.Numerals.{add-one}
+use Prim.Native.Nat.{ℕ, suc, _+_, _*_, _/_, _≤_, _<_}
 use native.Mathlib.Omega.{arith}
 use lib.IntN.{ℤ, pos}
-use lib.ListN.{length, take, getD, set, length-set}
-use lib.Seq.{length-take-le, take-all}
+use lib.ListN.{length, take, getD, set}
+use lib.Seq.{length-take-le, take-all, sets-eq}
 use Rattle.overlay.specs.Overlay.{overlay}
-use Rattle.overlay.proofs.OverlayLaws.{overlay-none, overlay-one, overlay-on}
+use Rattle.overlay.proofs.OverlayLaws.{overlay-none, overlay-two, overlay-length}
 use Rattle.little_endian.specs.LittleEndian.{littleEndian, signedBytes}
 use Rattle.wave.specs.File.{headerBytes, dataBytes}
+use Rattle.wave.specs.Export.{Fitting}
 use Rattle.wave.proofs.FileLaws.{data-length, data-suc}
 
--- the two bytes of a sample, one by one
-pub pair-is : (pair : List ℕ) (z : ℤ) → pair ≡ signedBytes z → getD pair 0 0 ∷ getD pair 1 0 ∷ [] ≡ signedBytes z
+-- the bytes of a frame, one by one
+pub frame-is : (l r : ℤ) (first second : List ℕ) → first ≡ signedBytes l → second ≡ signedBytes r
+    → getD first 0 0 ∷ getD first 1 0 ∷ getD second 0 0 ∷ getD second 1 0 ∷ [] ≡ signedBytes l ++ signedBytes r
 unfolding littleEndian
-pair-is pair z e = rw e
+frame-is l r first second e f = rw (e, f)
 
--- the first i samples are laid
+-- they are four
+four-bytes : (l r : ℤ) → length (signedBytes l ++ signedBytes r) ≡ 4
+unfolding littleEndian
+four-bytes l r = refl
+
+-- four stores lay four bytes
+pub four-laid : (out : List ℕ) (at a b c d : ℕ) (frame : List ℕ) → at + 4 ≤ length out → a ∷ b ∷ c ∷ d ∷ [] ≡ frame
+    → set (set (set (set out at a) (at + 1) b) (at + 2) c) (at + 3) d ≡ overlay out at frame
+unfolding overlay
+four-laid out at a b c d frame h e =
+    let one : at + 1 ≡ suc at = omega arith in
+    let two : at + 2 ≡ suc (suc at) = omega arith in
+    let three : at + 3 ≡ suc (suc (suc at)) = omega arith in
+    rw (one, two, three, ← e) (sets-eq (a ∷ b ∷ c ∷ d ∷ []) out at h)
+
+-- the first i frames are laid
 pub record Laid (samples : List ℤ) (before out : List ℕ) (i : ℕ) : Type 0 where
-  pub here : i ≤ length samples
+  pub here : 2 * i ≤ length samples
   pub same-length : length out ≡ length before
-  pub bytes : out ≡ overlay before headerBytes (dataBytes (take i samples))
+  pub bytes : out ≡ overlay before headerBytes (dataBytes (take (2 * i) samples))
 
-module _ (samples : List ℤ) (before : List ℕ) (room : headerBytes + 2 * length samples ≤ length before) where
+module _ (samples : List ℤ) (before : List ℕ) (f : Fitting (length samples) (length before)) where
   -- none of them
   pub laid-none : Laid samples before before 0
   unfolding dataBytes
   laid-none = record { here = omega arith; same-length = refl; bytes = sym (overlay-none before headerBytes) }
 
-  -- two bytes more
-  pub laid-more : (out : List ℕ) (i lo hi : ℕ) → i < length samples → Laid samples before out i → lo ∷ hi ∷ [] ≡ signedBytes (getD samples i (pos 0))
-      → Laid samples before (set (set out (headerBytes + 2 * i) lo) (headerBytes + 2 * i + 1) hi) (i + 1)
-  laid-more out i lo hi h l e =
-      let p = headerBytes + 2 * i in
-      let d = dataBytes (take i samples) in
-      let n : headerBytes + length d ≡ p = let m = data-length (take i samples) in let k = length-take-le i samples (omega arith) in omega arith in
-      let long : length (set out p lo) ≡ length before = length-set out p lo ∙ l .same-length in
-      let first : set out p lo ≡ overlay before headerBytes (d ++ lo ∷ []) =
-      overlay-one out p lo (let s = l .same-length in omega arith) ∙ ap (λ (x : List ℕ). overlay x p (lo ∷ [])) (l .bytes)
-      ∙ overlay-on before headerBytes p d (lo ∷ []) (omega arith) n in
-      let m : headerBytes + length (d ++ lo ∷ []) ≡ p + 1 = omega (arith, lib.ListN.length-append d (lo ∷ [])) in
-      let second : set (set out p lo) (p + 1) hi ≡ overlay before headerBytes ((d ++ lo ∷ []) ++ hi ∷ []) =
-      overlay-one (set out p lo) (p + 1) hi (omega arith) ∙ ap (λ (x : List ℕ). overlay x (p + 1) (hi ∷ [])) first
-      ∙ overlay-on before headerBytes (p + 1) (d ++ lo ∷ []) (hi ∷ []) (omega arith) m in
+  -- the bytes of one frame more
+  data-frame : (i : ℕ) → 2 * i + 1 < length samples
+      → dataBytes (take (2 * (i + 1)) samples)
+      ≡ dataBytes (take (2 * i) samples) ++ (signedBytes (getD samples (2 * i) (pos 0)) ++ signedBytes (getD samples (2 * i + 1) (pos 0)))
+  data-frame i h =
+      let n : 2 * (i + 1) ≡ suc (2 * i + 1) = omega arith in
+      let m : 2 * i + 1 ≡ suc (2 * i) = omega arith in
+      ap (λ (x : ℕ). dataBytes (take x samples)) n ∙ data-suc samples (2 * i + 1) h
+      ∙ ap (λ (x : List ℕ). x ++ signedBytes (getD samples (2 * i + 1) (pos 0))) (ap (λ (x : ℕ). dataBytes (take x samples)) m ∙ data-suc samples (2 * i) (omega arith))
+      ∙ append-assoc (dataBytes (take (2 * i) samples)) (signedBytes (getD samples (2 * i) (pos 0))) (signedBytes (getD samples (2 * i + 1) (pos 0)))
+
+  -- one frame more
+  pub laid-more : (out after : List ℕ) (i : ℕ) → 2 * i + 1 < length samples → Laid samples before out i
+      → after ≡ overlay out (headerBytes + 4 * i) (signedBytes (getD samples (2 * i) (pos 0)) ++ signedBytes (getD samples (2 * i + 1) (pos 0)))
+      → Laid samples before after (i + 1)
+  laid-more out after i h l e =
+      let d = dataBytes (take (2 * i) samples) in
+      let frame = signedBytes (getD samples (2 * i) (pos 0)) ++ signedBytes (getD samples (2 * i + 1) (pos 0)) in
+      let k = f .enough in
+      let n : headerBytes + length d ≡ headerBytes + 4 * i =
+      let m = data-length (take (2 * i) samples) in let t = length-take-le (2 * i) samples (omega arith) in omega arith in
+      let all : after ≡ overlay before headerBytes (d ++ frame) =
+      overlay-two before out after headerBytes (headerBytes + 4 * i) d frame (omega arith) n (l .bytes) e in
       record {
         here = omega arith;
-        same-length = length-set (set out p lo) (p + 1) hi ∙ long;
-        bytes = second
-            ∙ ap (overlay before headerBytes) (append-assoc d (lo ∷ []) (hi ∷ []) ∙ ap (λ (x : List ℕ). d ++ x) e ∙ sym (data-suc samples i h) ∙ ap (λ (x : ℕ). dataBytes (take x samples)) (sym (add-one i)));
+        same-length = ap length e ∙ overlay-length out (headerBytes + 4 * i) frame (let q = frame-length i in let s = l .same-length in omega arith) ∙ l .same-length;
+        bytes = all ∙ ap (overlay before headerBytes) (sym (data-frame i h));
       }
+    where
+      frame-length : (i : ℕ) → length (signedBytes (getD samples (2 * i) (pos 0)) ++ signedBytes (getD samples (2 * i + 1) (pos 0))) ≡ 4
+      frame-length i = four-bytes (getD samples (2 * i) (pos 0)) (getD samples (2 * i + 1) (pos 0))
 
   -- all of them
-  pub laid-all : (out : List ℕ) (i : ℕ) → length samples ≤ i → Laid samples before out i → out ≡ overlay before headerBytes (dataBytes samples)
-  laid-all out i h l = l .bytes ∙ ap (λ (x : List ℤ). overlay before headerBytes (dataBytes x)) (take-all i samples h)
+  pub laid-all : (out : List ℕ) (i : ℕ) → length samples / 2 ≤ i → Laid samples before out i → out ≡ overlay before headerBytes (dataBytes samples)
+  laid-all out i h l =
+      let w = f .whole-frames in
+      l .bytes ∙ ap (λ (x : List ℤ). overlay before headerBytes (dataBytes x)) (take-all (2 * i) samples (omega arith))

@@ -1,6 +1,7 @@
 -- Document 02 §1: what export answers, and what the lent buffer then holds.
 -- Assumes nothing.
-use Prim.Native.Nat.{ℕ, _+_, _*_, _%_}
+use mathlib.Core.Path.{_≡_}
+use Prim.Native.Nat.{ℕ, _+_, _*_, _%_, _≤_}
 use mathlib.Core.Bool.{Bool, cond}
 use mathlib.Core.List.{List}
 use lib.Dec.{ltb, eqb}
@@ -33,6 +34,12 @@ viewExport r bytes = record { refusal = outcomeNumber (r .outcome); written = r 
 unfoldable pub lengthRefusal : ℕ → ℕ → ℕ
 lengthRefusal elements room =
     cond (ltb maxElements elements) 5 (cond (eqb (elements % 2) 0) (cond (ltb room (headerBytes + 2 * elements)) 11 0) 6)
+
+-- none of these three
+pub record Fitting (elements room : ℕ) : Type 0 where
+  pub few : elements ≤ maxElements
+  pub whole-frames : elements % 2 ≡ 0
+  pub enough : headerBytes + 2 * elements ≤ room
 
 -- "14, .. on export a rate outside its span, which is tested before 13"; "13, a sample outside
 -- -32,768 to 32,767" (Q1.3)

@@ -10,13 +10,14 @@ use little_endian::signed_bytes;
 use spans::is_within;
 ghost use mathlib.Core.Path.{_≡_};
 ghost use mathlib.Core.Bool.{true};
-ghost use Prim.Native.Nat.{_+_, _*_, _≤_};
+ghost use mathlib.Core.List.{_++_};
+ghost use Prim.Native.Nat.{_+_, _≤_};
 ghost use lib.ListN.{length};
 ghost use Rattle.answers.specs.Numbers.{outcomeNumber};
-ghost use Rattle.answers.specs.Limits.{maxElements};
 ghost use Rattle.overlay.specs.Overlay.{overlay};
+ghost use Rattle.little_endian.specs.LittleEndian.{signedBytes};
 ghost use Rattle.wave.specs.File.{headerBytes, dataBytes};
-ghost use Rattle.wave.specs.Export.{within16, exportRefusal, viewExport, exportEntry};
+ghost use Rattle.wave.specs.Export.{within16, Fitting, exportRefusal, viewExport, exportEntry};
 
 // A sample of 16 bits, or its complement, lies below.
 const SAMPLE_SPAN: u32 = 32768;
@@ -49,20 +50,34 @@ pub fn export_refusal(rate: u32, samples: &[i32], room: usize) -> Outcome
     Outcome::Accepted
 }
 
-// Lays the samples behind the header.
-fn lay_samples(samples: &[i32], out: &mut [u8])
-    requires room { ⌜ headerBytes + 2 * length (now samples) ≤ length (now out) ⌝ }
-    requires few { ⌜ length (now samples) ≤ maxElements ⌝ }
+// Lays a frame from a place on, left then right.
+fn lay_frame(left: i16, right: i16, at: usize, out: &mut [u8])
+    requires { ⌜ at + 4 ≤ length (now out) ⌝ }
+    ensures { λ _. ⌜
+        now (out .exit) ≡ overlay (now (out .entry)) at (signedBytes left ++ signedBytes right)
+        ⌝ }
+{
+    let first = signed_bytes(left);
+    let second = signed_bytes(right);
+    out[at] = first[0];
+    out[at + 1] = first[1];
+    out[at + 2] = second[0];
+    out[at + 3] = second[1];
+}
+
+// Lays all frames behind the header.
+fn lay_frames(samples: &[i32], out: &mut [u8])
+    requires fits { ⌜ Fitting (length (now samples)) (length (now out)) ⌝ }
     requires within { ⌜ within16 (now samples) ≡ true ⌝ }
     ensures { λ _. ⌜
         now (out .exit) ≡ overlay (now (out .entry)) headerBytes (dataBytes (now (samples .entry)))
         ⌝ }
 {
     let mut i: usize = 0;
-    while i < samples.len() {
-        let bytes = signed_bytes(samples[i] as i16);
-        out[HEADER_BYTES + 2 * i] = bytes[0];
-        out[HEADER_BYTES + 2 * i + 1] = bytes[1];
+    while i < samples.len() / 2 {
+        let left = samples[2 * i] as i16;
+        let right = samples[2 * i + 1] as i16;
+        lay_frame(left, right, HEADER_BYTES + 4 * i, out);
         i = i + 1;
     }
 }
@@ -84,7 +99,7 @@ pub fn export_wave(rate: u32, samples: &[i32], out: &mut [u8]) -> Exported
     let size = 2 * samples.len();
     let head = header(rate, size as u32);
     bytes::copy(&head, out);
-    lay_samples(samples, out);
+    lay_frames(samples, out);
     Exported {
         outcome: Outcome::Accepted,
         written: (HEADER_BYTES + size) as u32,

@@ -6,7 +6,8 @@ use borrow.Author.Tests.{not-true, not-false}
 use denote.Ref.{now}
 use lib.ListN.{length}
 use borrow.Author.Needs.{needs}
-use Rattle.wave.proofs.ExportLaws.{Fitting, export-long, export-odd, export-room, export-rate, export-span, export-none}
+use Rattle.wave.specs.Export.{Fitting}
+use Rattle.wave.proofs.ExportLaws.{export-long, export-odd, export-room, export-rate, export-span, export-none}
 use Rattle.wave.proofs.export.export_refusal.Statement.{statement}
 use Rattle.wave.proofs.export.export_refusal.Tie as tie
 

@@ -38,8 +38,8 @@ copy-requires c κs =
     let n : length (c .before .before .header .result) ≡ headerBytes = ap length (c .before .before .header .ensures) ∙ header-length _ _ in
     omega arith
 
-lay-samples-requires : tie.Need-lay-samples-requires
-lay-samples-requires c κs =
+lay-frames-requires : tie.Need-lay-frames-requires
+lay-frames-requires c κs =
     let t : tie.After-enum-told = search needs in
     let h : tie.After-header = search needs in
     let p : tie.After-copy = search needs in
@@ -47,7 +47,7 @@ lay-samples-requires c κs =
     let f = r .fitting in
     let n : length (h .header .result) ≡ headerBytes = ap length (h .header .ensures) ∙ header-length _ _ in
     let same = copied-length (h .header .result) _ (now (start t .args .out)) (p .copy .ensures .1) (omega arith) in
-    (omega (arith, same), (f .few, r .sixteen-bits))
+    (record { few = f .few; whole-frames = f .whole-frames; enough = omega (arith, same) }, r .sixteen-bits)
 
 cast-t9 : tie.Need-cast-t9
 cast-t9 c =
@@ -60,7 +60,7 @@ returns-2 c =
     let t : tie.After-enum-told = search needs in
     let h : tie.After-header = search needs in
     let p : tie.After-copy = search needs in
-    export-accepted _ _ _ _ _ _ _ (ready t) (h .header .ensures) (p .copy .ensures .1) (c .before .before .lay-samples .ensures) refl
+    export-accepted _ _ _ _ _ _ _ (ready t) (h .header .ensures) (p .copy .ensures .1) (c .before .before .lay-frames .ensures) refl
 
 pub export-wave-spec : {M : Type 1} → statement M
 export-wave-spec =
@@ -75,7 +75,7 @@ export-wave-spec =
     header-requires
     (λ c. search needs)
     copy-requires
-    lay-samples-requires
+    lay-frames-requires
     (λ c. search needs)
     cast-t9
     (λ c. search needs)
