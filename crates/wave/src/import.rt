@@ -36,12 +36,12 @@ fn begins_with(file: &[u8], expected: [u8; 44]) -> bool
     requires { ⌜ headerBytes ≤ length (now file) ⌝ }
     ensures { λ r. ⌜ r ≡ alike (take headerBytes (now (file .entry))) expected ⌝ }
 {
-    let mut i: usize = 0;
-    while i < HEADER_BYTES {
-        if file[i] != expected[i] {
+    let mut place: usize = 0;
+    while place < HEADER_BYTES {
+        if file[place] != expected[place] {
             return false;
         }
-        i = i + 1;
+        place = place + 1;
     }
     true
 }

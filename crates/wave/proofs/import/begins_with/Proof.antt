@@ -1,4 +1,4 @@
--- `wave::import::begins_with` meets its contract. The loop's invariant: the first i bytes are
+-- `wave::import::begins_with` meets its contract. The loop's invariant: the first bytes, up to a place, are
 -- alike. The measure is what is left of the header.
 -- Assumes nothing.
 use mathlib.Core.Path.{_≡_, refl, sym, _∙_}
@@ -15,10 +15,10 @@ use Rattle.wave.proofs.import.begins_with.Statement.{statement}
 use Rattle.wave.proofs.import.begins_with.Tie as tie
 
 abbrev Inv-loop : tie.InvT-loop
-Inv-loop file expected i₀ i = Compared (take headerBytes file) expected i
+Inv-loop file expected place₀ place = Compared (take headerBytes file) expected place
 
 abbrev μ-loop : tie.MeasureT-loop
-μ-loop file expected i₀ i = headerBytes - i
+μ-loop file expected place₀ place = headerBytes - place
 
 loop-holds : tie.Need-loop-holds Inv-loop μ-loop
 loop-holds c =
@@ -38,7 +38,7 @@ returns c =
     let l = at-loop .loop in
     let file = now (start .args .file) in
     let cut : length (take headerBytes file) ≡ headerBytes = length-take-le headerBytes file (start .pre) in
-    compared-apart _ _ (l .i) (omega arith) (l .inv) (λ e. c .if1 .taken (sym (byte-at file (l .i) (omega arith)) ∙ e))
+    compared-apart _ _ (l .place) (omega arith) (l .inv) (λ e. c .if1 .taken (sym (byte-at file (l .place) (omega arith)) ∙ e))
 
 loop-again : tie.Need-loop-again Inv-loop μ-loop
 loop-again c =
@@ -48,7 +48,7 @@ loop-again c =
     let file = now (start .args .file) in
     let cut : length (take headerBytes file) ≡ headerBytes = length-take-le headerBytes file (start .pre) in
     let other : tie.Else1 Inv-loop μ-loop = search needs in
-    compared-more _ _ (l .i) (omega arith) (l .inv) (byte-at file (l .i) (omega arith) ∙ other .if1 .left)
+    compared-more _ _ (l .place) (omega arith) (l .inv) (byte-at file (l .place) (omega arith) ∙ other .if1 .left)
 
 returns-2 : tie.Need-returns-2 Inv-loop μ-loop
 returns-2 c =
@@ -57,7 +57,7 @@ returns-2 c =
     let l = at-loop .loop in
     let file = now (start .args .file) in
     let cut : length (take headerBytes file) ≡ headerBytes = length-take-le headerBytes file (start .pre) in
-    compared-all _ _ (l .i) (omega arith) (l .inv)
+    compared-all _ _ (l .place) (omega arith) (l .inv)
 
 pub begins-with-spec : {M : Type 1} → statement M
 begins-with-spec =
