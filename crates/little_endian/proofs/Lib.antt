@@ -1,3 +1,4 @@
 -- What other crates cite.
 pub mod LittleEndianLaws
 pub mod PatternLaws
+pub mod StoreLaws

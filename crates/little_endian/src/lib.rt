@@ -2,8 +2,11 @@
 // payload. Every number and every byte is taken.
 ghost use mathlib.Core.Path.{_≡_};
 ghost use mathlib.Core.List.{[], _∷_};
+ghost use Prim.Native.Nat.{_+_, _≤_};
+ghost use lib.ListN.{length};
 ghost use mir.Syntax.{w16};
 ghost use mir.Val.{toZ, ofZ};
+ghost use Rattle.overlay.specs.Overlay.{overlay};
 ghost use Rattle.little_endian.specs.LittleEndian.{littleEndian, numberOf, signedWord, signedBytes};
 
 // The four bytes of a number.
@@ -19,6 +22,18 @@ pub fn number_bytes(number: u32) -> [u8; 4]
         (third % 256) as u8,
         (fourth % 256) as u8,
     ]
+}
+
+// Lays a number in four bytes from a place on.
+pub fn lay_number(number: u32, at: usize, out: &mut [u8])
+    requires { ⌜ at + 4 ≤ length (now out) ⌝ }
+    ensures { λ _. ⌜ now (out .exit) ≡ overlay (now (out .entry)) at (littleEndian 4 number) ⌝ }
+{
+    let bytes = number_bytes(number);
+    out[at] = bytes[0];
+    out[at + 1] = bytes[1];
+    out[at + 2] = bytes[2];
+    out[at + 3] = bytes[3];
 }
 
 // The number that four bytes hold.

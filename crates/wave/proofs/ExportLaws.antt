@@ -2,14 +2,13 @@
 -- Assumes nothing.
 use mathlib.Core.Path.{_≡_, refl, sym, ap, _∙_}
 use mathlib.Core.Bool.{Bool, true, false, cond}
-use mathlib.Core.List.{List, _++_}
+use mathlib.Core.List.{List}
 use Prim.Native.Nat.{ℕ, zero, suc, _+_, _*_, _%_, _≤_, _<_}
 use native.Mathlib.Omega.{arith}
 use borrow.Author.Tests.{lt-ltb, le-ltb, eq-eqb, ne-eqb, ltb-false, eqb-true}
 use lib.Dec.{ltb, eqb}
 use lib.IntN.{ℤ}
-use lib.ListN.{length, take, drop}
-use lib.Seq.{length-take-le, length-front, take-all}
+use lib.ListN.{length}
 use Rattle.answers.specs.declared.Outcome.{Outcome}
 use Rattle.answers.specs.declared.Refusal.{Refusal}
 use Rattle.answers.specs.Guard.{orElse, unlessRefused}
@@ -18,10 +17,10 @@ use Rattle.answers.specs.Numbers.{outcomeNumber, numberOf}
 use Rattle.answers.proofs.GuardLaws.{guard-refused, guard-accepted}
 use Rattle.answers.proofs.NumberLaws.{number-positive}
 use Rattle.overlay.specs.Overlay.{overlay}
-use Rattle.overlay.proofs.OverlayLaws.{overlay-first, overlay-two}
-use Rattle.wave.specs.File.{headerBytes, rateTaken, waveHeader, dataBytes, waveFile}
+use Rattle.overlay.proofs.OverlayLaws.{overlay-two}
+use Rattle.wave_file.specs.File.{headerBytes, rateTaken, waveHeader, dataBytes, waveFile}
 use Rattle.wave.specs.Export.{ExportTold, Fitting, within16, lengthRefusal, soundRefusal, exportRefusal, refuseExport, tellExport, exportEntry}
-use Rattle.wave.proofs.FileLaws.{header-length, file-length}
+use Rattle.wave_file.proofs.FileLaws.{header-length, file-length}
 
 -- the lengths, the rate and the samples are right
 pub record Ready (rate : ℕ) (samples : List ℤ) (room : ℕ) : Type 0 where
@@ -95,11 +94,6 @@ module _ (rate : ℕ) (samples : List ℤ) (room : ℕ) where
       long true q e = absurd (omega arith)
       long false q e = odd (ltb-false _ _ q) (eqb (length samples % 2) 0) refl e
 
--- the buffer keeps its length when the header is copied into it
-pub copied-length : (head first out : List ℕ) → first ≡ take (length head) head ++ drop (length head) out → length head ≤ length out → length first ≡ length out
-copied-length head first out f h =
-    ap length f ∙ length-front out (take (length head) head) (length head) (length-take-le (length head) head (omega arith) ∙ sym (length-take-le (length head) out h))
-
 module _ (rate : ℕ) (samples : List ℤ) (out : List ℕ) where
   -- a refusal leaves the buffer
   pub export-refused : (o : Outcome) (x : Refusal) → o ≡ Outcome.Refused x → outcomeNumber o ≡ exportRefusal rate samples (length out)
@@ -124,13 +118,12 @@ module _ (rate : ℕ) (samples : List ℤ) (out : List ℕ) where
   export-told e = guard-accepted (exportRefusal rate samples (length out)) (refuseExport out) (tellExport out (waveFile rate samples)) e
 
   -- the header and then the samples
-  pub export-accepted : (head first after : List ℕ) (w : ℕ) → Ready rate samples (length out) → head ≡ waveHeader rate (2 * length samples)
-      → first ≡ take (length head) head ++ drop (length head) out → after ≡ overlay first headerBytes (dataBytes samples) → w ≡ headerBytes + 2 * length samples
+  pub export-accepted : (first after : List ℕ) (w : ℕ) → Ready rate samples (length out) → first ≡ overlay out 0 (waveHeader rate (2 * length samples))
+      → after ≡ overlay first headerBytes (dataBytes samples) → w ≡ headerBytes + 2 * length samples
       → record { refusal = 0; written = w; bytes = after } ≡ exportEntry rate samples out
   unfolding waveFile
-  export-accepted head first after w r h f a l =
-      let k : length head ≡ headerBytes = ap length h ∙ header-length rate (2 * length samples) in
-      let one : first ≡ overlay out 0 head = f ∙ rw (take-all (length head) head (omega arith)) (sym (overlay-first out head)) in
+  export-accepted first after w r f a l =
+      let k = header-length rate (2 * length samples) in
       let all : after ≡ overlay out 0 (waveFile rate samples) =
-      overlay-two out first after 0 headerBytes head (dataBytes samples) (omega arith) (omega arith) one a ∙ rw h in
+      overlay-two out first after 0 headerBytes (waveHeader rate (2 * length samples)) (dataBytes samples) (omega arith) (omega arith) f a in
       rw (all, l, ← file-length rate samples) (sym (export-told (sym (export-none rate samples (length out) r))))

@@ -19,7 +19,7 @@ use Rattle.answers.proofs.NumberLaws.{number-positive}
 use Rattle.answers.proofs.TestLaws.{both}
 use Rattle.overlay.specs.Overlay.{overlay}
 use Rattle.little_endian.specs.LittleEndian.{numberOf}
-use Rattle.wave.specs.File.{headerBytes, maxFileBytes, rateTaken, waveHeader}
+use Rattle.wave_file.specs.File.{headerBytes, maxFileBytes, rateTaken, waveHeader}
 use Rattle.wave.specs.Import.{ImportTold, alike, fileRate, isWave, fileSamples, importRefusal, refuseImport, tellImport, importEntry}
 use Rattle.wave.proofs.SampleLaws.{samples-length}
 

@@ -10,9 +10,9 @@ use lib.Seq.{length-take-le, take-all, sets-eq}
 use Rattle.overlay.specs.Overlay.{overlay}
 use Rattle.overlay.proofs.OverlayLaws.{overlay-none, overlay-two, overlay-length}
 use Rattle.little_endian.specs.LittleEndian.{littleEndian, signedBytes}
-use Rattle.wave.specs.File.{headerBytes, dataBytes}
+use Rattle.wave_file.specs.File.{headerBytes, dataBytes}
 use Rattle.wave.specs.Export.{Fitting}
-use Rattle.wave.proofs.FileLaws.{data-length, data-suc}
+use Rattle.wave_file.proofs.FileLaws.{data-length, data-suc}
 
 -- the bytes of a frame, one by one
 pub frame-is : (l r : ℤ) (first second : List ℕ) → first ≡ signedBytes l → second ≡ signedBytes r
@@ -24,16 +24,6 @@ frame-is l r first second e f = rw (e, f)
 four-bytes : (l r : ℤ) → length (signedBytes l ++ signedBytes r) ≡ 4
 unfolding littleEndian
 four-bytes l r = refl
-
--- four stores lay four bytes
-pub four-laid : (out : List ℕ) (at a b c d : ℕ) (frame : List ℕ) → at + 4 ≤ length out → a ∷ b ∷ c ∷ d ∷ [] ≡ frame
-    → set (set (set (set out at a) (at + 1) b) (at + 2) c) (at + 3) d ≡ overlay out at frame
-unfolding overlay
-four-laid out at a b c d frame h e =
-    let one : at + 1 ≡ suc at = omega arith in
-    let two : at + 2 ≡ suc (suc at) = omega arith in
-    let three : at + 3 ≡ suc (suc (suc at)) = omega arith in
-    rw (one, two, three, ← e) (sets-eq (a ∷ b ∷ c ∷ d ∷ []) out at h)
 
 -- the first i frames are laid
 pub record Laid (samples : List ℤ) (before out : List ℕ) (i : ℕ) : Type 0 where

@@ -1,5 +1,4 @@
 -- What other crates cite.
-pub mod FileLaws
 pub mod LayLaws
 pub mod AlikeLaws
 pub mod SampleLaws

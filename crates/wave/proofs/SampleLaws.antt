@@ -15,7 +15,7 @@ use Rattle.little_endian.specs.LittleEndian.{littleEndian, signedWord, signedBy
 use Rattle.little_endian.proofs.LittleEndianLaws.{signed-back, bytes-back}
 use Rattle.spans.specs.Spans.{within}
 use Rattle.spans.proofs.SpanLaws.{within-parts}
-use Rattle.wave.specs.File.{dataBytes}
+use Rattle.wave_file.specs.File.{dataBytes}
 use Rattle.wave.specs.Export.{within16}
 use Rattle.wave.specs.Import.{samplesOf}
 use Rattle.wave.specs.SoundFile.{Bytes}

@@ -12,7 +12,7 @@ use lib.Seq.{paste, paste-zero, paste-suc, getD-drop}
 use Rattle.overlay.specs.Overlay.{overlay}
 use Rattle.overlay.proofs.OverlayLaws.{overlay-copied}
 use Rattle.little_endian.specs.LittleEndian.{signedWord}
-use Rattle.wave.specs.File.{headerBytes}
+use Rattle.wave_file.specs.File.{headerBytes}
 use Rattle.wave.specs.Import.{fileSamples}
 use Rattle.wave.proofs.SampleLaws.{samples-at}
 use Rattle.wave.proofs.ImportLaws.{file-samples}

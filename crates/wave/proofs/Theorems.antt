@@ -13,11 +13,11 @@ use Rattle.overlay.specs.Overlay.{overlay}
 use Rattle.overlay.proofs.OverlayLaws.{overlay-take}
 use Rattle.little_endian.specs.LittleEndian.{littleEndian, numberOf}
 use Rattle.little_endian.proofs.LittleEndianLaws.{number-back}
-use Rattle.wave.specs.File.{headerBytes, maxFileBytes, maxRate, rateTaken, fmtChunk, waveHeader, dataBytes, waveFile}
+use Rattle.wave_file.specs.File.{headerBytes, maxFileBytes, maxRate, rateTaken, fmtChunk, waveHeader, dataBytes, waveFile}
 use Rattle.wave.specs.Export.{within16, exportRefusal, tellExport, exportEntry}
 use Rattle.wave.specs.Import.{alike, fileRate, isWave, fileSamples, importRefusal, tellImport, importEntry, ImportTold}
 use Rattle.wave.specs.SoundFile.{Bytes, InSpan, exported, imported, ExportThenImport, EveryExport, IsExport, OnlyExports, NoSecondFile}
-use Rattle.wave.proofs.FileLaws.{rate-in, rate-out, header-length, file-length}
+use Rattle.wave_file.proofs.FileLaws.{rate-in, rate-out, header-length, file-length}
 use Rattle.wave.proofs.AlikeLaws.{alike-same, alike-is}
 use Rattle.wave.proofs.SampleLaws.{samples-length, samples-back, data-back, samples-within}
 use Rattle.wave.proofs.ExportLaws.{Ready, export-ready, export-number, export-told}

@@ -12,7 +12,7 @@ use Rattle.answers.specs.Limits.{maxElements}
 use Rattle.answers.specs.Numbers.{outcomeNumber}
 use Rattle.overlay.specs.Overlay.{overlay}
 use Rattle.spans.specs.Spans.{within}
-use Rattle.wave.specs.File.{headerBytes, rateTaken, waveFile}
+use Rattle.wave_file.specs.File.{headerBytes, rateTaken, waveFile}
 use Rattle.wave.specs.declared.export.Exported.{Exported}
 
 -- every sample lies within 16 bits, -32,768 to 32,767

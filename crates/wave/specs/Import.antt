@@ -10,7 +10,7 @@ use Rattle.answers.specs.Guard.{orElse, unlessRefused}
 use Rattle.answers.specs.Numbers.{outcomeNumber}
 use Rattle.overlay.specs.Overlay.{overlay}
 use Rattle.little_endian.specs.LittleEndian.{numberOf, signedWord}
-use Rattle.wave.specs.File.{headerBytes, maxFileBytes, rateTaken, waveHeader}
+use Rattle.wave_file.specs.File.{headerBytes, maxFileBytes, rateTaken, waveHeader}
 use Rattle.wave.specs.declared.import.Imported.{Imported}
 
 -- two lists hold the same bytes

@@ -8,7 +8,7 @@ use Prim.Native.Nat.{ℕ, _%_, _≤_, _<_}
 use lib.IntN.{ℤ}
 use lib.ListN.{length, take, getD}
 use Rattle.answers.specs.Limits.{maxElements}
-use Rattle.wave.specs.File.{maxRate, waveFile}
+use Rattle.wave_file.specs.File.{maxRate, waveFile}
 use Rattle.wave.specs.Export.{within16, ExportTold, exportEntry}
 use Rattle.wave.specs.Import.{ImportTold, importEntry, tellImport}
 

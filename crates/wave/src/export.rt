@@ -1,13 +1,13 @@
 // Export: a recording as the bytes of a sound file. All tests come before the first byte is
 // written.
-use crate::header::HEADER_BYTES;
-use crate::header::header;
-use crate::header::is_rate;
 use answers::Outcome;
 use answers::Refusal;
 use answers::limits::MAX_ELEMENTS;
 use little_endian::signed_bytes;
 use spans::is_within;
+use wave_file::HEADER_BYTES;
+use wave_file::is_rate;
+use wave_file::lay_header;
 ghost use mathlib.Core.Path.{_≡_};
 ghost use mathlib.Core.Bool.{true};
 ghost use mathlib.Core.List.{_++_};
@@ -16,7 +16,7 @@ ghost use lib.ListN.{length};
 ghost use Rattle.answers.specs.Numbers.{outcomeNumber};
 ghost use Rattle.overlay.specs.Overlay.{overlay};
 ghost use Rattle.little_endian.specs.LittleEndian.{signedBytes};
-ghost use Rattle.wave.specs.File.{headerBytes, dataBytes};
+ghost use Rattle.wave_file.specs.File.{headerBytes, dataBytes};
 ghost use Rattle.wave.specs.Export.{within16, Fitting, exportRefusal, viewExport, exportEntry};
 
 // A sample of 16 bits, or its complement, lies below.
@@ -97,8 +97,7 @@ pub fn export_wave(rate: u32, samples: &[i32], out: &mut [u8]) -> Exported
         };
     };
     let size = 2 * samples.len();
-    let head = header(rate, size as u32);
-    bytes::copy(&head, out);
+    lay_header(rate, size as u32, out);
     lay_frames(samples, out);
     Exported {
         outcome: Outcome::Accepted,

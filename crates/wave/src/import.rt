@@ -1,19 +1,19 @@
 // Import: the rate and the samples of a sound file. All tests come before the first sample is
 // written.
-use crate::header::HEADER_BYTES;
-use crate::header::MAX_FILE_BYTES;
-use crate::header::header;
-use crate::header::is_rate;
 use answers::Outcome;
 use answers::Refusal;
 use little_endian::number;
 use little_endian::signed_word;
+use wave_file::HEADER_BYTES;
+use wave_file::MAX_FILE_BYTES;
+use wave_file::is_rate;
+use wave_file::lay_header;
 ghost use mathlib.Core.Path.{_≡_};
 ghost use Prim.Native.Nat.{_+_, _*_, _≤_};
 ghost use lib.ListN.{length, take};
 ghost use Rattle.answers.specs.Numbers.{outcomeNumber};
 ghost use Rattle.overlay.specs.Overlay.{overlay};
-ghost use Rattle.wave.specs.File.{headerBytes, maxFileBytes};
+ghost use Rattle.wave_file.specs.File.{headerBytes, maxFileBytes};
 ghost use Rattle.wave.specs.Import.{alike, fileRate, isWave, fileSamples, importRefusal, viewImport, importEntry};
 
 // What import answers: the rate, and the samples written; both 0 on refusal.
@@ -62,7 +62,9 @@ fn is_wave(file: &[u8]) -> bool
     if !is_rate(rate) {
         return false;
     }
-    begins_with(file, header(rate, size as u32))
+    let mut expected = [0u8; 44];
+    lay_header(rate, size as u32, &mut expected);
+    begins_with(file, expected)
 }
 
 // Answers why import refuses, by 5, 14 and 11, for a list of `room` samples.

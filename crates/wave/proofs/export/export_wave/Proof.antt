@@ -2,14 +2,15 @@
 -- then the samples.
 -- Assumes nothing.
 use mathlib.Core.Path.{_≡_, refl, sym, ap, _∙_}
+use Prim.Native.Nat.{_*_}
 use native.Mathlib.Omega.{arith}
 use denote.Ref.{now}
 use lib.ListN.{length}
 use borrow.Author.Needs.{needs}
 use Rattle.answers.specs.Numbers.{outcomeNumber}
-use Rattle.wave.specs.File.{headerBytes}
-use Rattle.wave.proofs.FileLaws.{rate-out, header-length}
-use Rattle.wave.proofs.ExportLaws.{Ready, export-ready, copied-length, export-refused, export-accepted}
+use Rattle.overlay.proofs.OverlayLaws.{overlay-length}
+use Rattle.wave_file.proofs.FileLaws.{rate-out, header-length}
+use Rattle.wave.proofs.ExportLaws.{Ready, export-ready, export-refused, export-accepted}
 use Rattle.wave.proofs.export.export_wave.Statement.{statement}
 use Rattle.wave.proofs.export.export_wave.Tie as tie
 
@@ -25,42 +26,31 @@ start t = t .before .before .before .before
 ready : (t : tie.After-enum-told) → let a = start t .args in Ready (a .rate) (now (a .samples)) (length (now (a .out)))
 ready t = export-ready _ _ _ (sym (t .before .before .export-refusal .ensures) ∙ ap outcomeNumber (t .enum-told .given .1))
 
-cast-header : tie.Need-cast-header
-cast-header c = let r = ready c .fitting in omega arith
+cast-lay-header : tie.Need-cast-lay-header
+cast-lay-header c = let r = ready c .fitting in omega arith
 
-header-requires : tie.Need-header-requires
-header-requires c κs = let r = ready c in (rate-out _ (r .rate-taken) .1, let f = r .fitting in omega arith)
-
-copy-requires : tie.Need-copy-requires
-copy-requires c κs =
+lay-header-requires : tie.Need-lay-header-requires
+lay-header-requires c κs =
     let t : tie.After-enum-told = search needs in
-    let f = ready t .fitting in
-    let n : length (c .before .before .header .result) ≡ headerBytes = ap length (c .before .before .header .ensures) ∙ header-length _ _ in
-    omega arith
+    let r = ready t in
+    let f = r .fitting in
+    (rate-out _ (r .rate-taken) .1, (omega arith, omega arith))
 
 lay-frames-requires : tie.Need-lay-frames-requires
 lay-frames-requires c κs =
     let t : tie.After-enum-told = search needs in
-    let h : tie.After-header = search needs in
-    let p : tie.After-copy = search needs in
+    let h : tie.After-lay-header = search needs in
     let r = ready t in
     let f = r .fitting in
-    let n : length (h .header .result) ≡ headerBytes = ap length (h .header .ensures) ∙ header-length _ _ in
-    let same = copied-length (h .header .result) _ (now (start t .args .out)) (p .copy .ensures .1) (omega arith) in
+    let n = header-length (start t .args .rate) (2 * length (now (start t .args .samples))) in
+    let same = ap length (h .lay-header .ensures) ∙ overlay-length (now (start t .args .out)) 0 _ (omega arith) in
     (record { few = f .few; whole-frames = f .whole-frames; enough = omega (arith, same) }, r .sixteen-bits)
-
-cast-t9 : tie.Need-cast-t9
-cast-t9 c =
-    let t : tie.After-enum-told = search needs in
-    let r = ready t .fitting in
-    omega arith
 
 returns-2 : tie.Need-returns-2
 returns-2 c =
     let t : tie.After-enum-told = search needs in
-    let h : tie.After-header = search needs in
-    let p : tie.After-copy = search needs in
-    export-accepted _ _ _ _ _ _ _ (ready t) (h .header .ensures) (p .copy .ensures .1) (c .before .before .lay-frames .ensures) refl
+    let h : tie.After-lay-header = search needs in
+    export-accepted _ _ _ _ _ _ (ready t) (h .lay-header .ensures) (c .before .before .lay-frames .ensures) refl
 
 pub export-wave-spec : {M : Type 1} → statement M
 export-wave-spec =
@@ -71,12 +61,10 @@ export-wave-spec =
     (λ c. search needs)
     returns
     (λ c. search needs)
-    cast-header
-    header-requires
-    (λ c. search needs)
-    copy-requires
+    cast-lay-header
+    lay-header-requires
     lay-frames-requires
     (λ c. search needs)
-    cast-t9
+    (λ c. let t : tie.After-enum-told = search needs in let f = ready t .fitting in omega arith)
     (λ c. search needs)
     returns-2)

@@ -7,7 +7,8 @@ use mir.Facts.{toZ-ofZ}
 use mir.Syntax.{w16}
 use mir.Val.{SFits}
 use borrow.Author.Needs.{needs}
-use Rattle.wave.proofs.LayLaws.{frame-is, four-laid}
+use Rattle.little_endian.proofs.StoreLaws.{four-laid}
+use Rattle.wave.proofs.LayLaws.{frame-is}
 use Rattle.wave.proofs.export.lay_frame.Statement.{statement}
 use Rattle.wave.proofs.export.lay_frame.Tie as tie
 

@@ -9,7 +9,7 @@ use denote.Ref.{now}
 use lib.ListN.{length, take, getD}
 use lib.Seq.{length-take-le, getD-take}
 use borrow.Author.Needs.{needs}
-use Rattle.wave.specs.File.{headerBytes}
+use Rattle.wave_file.specs.File.{headerBytes}
 use Rattle.wave.proofs.AlikeLaws.{Compared, compared-more, compared-apart, compared-all}
 use Rattle.wave.proofs.import.begins_with.Statement.{statement}
 use Rattle.wave.proofs.import.begins_with.Tie as tie

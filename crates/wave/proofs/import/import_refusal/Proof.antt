@@ -8,7 +8,7 @@ use borrow.Author.Tests.{not-true, not-false}
 use denote.Ref.{now}
 use lib.ListN.{length}
 use borrow.Author.Needs.{needs}
-use Rattle.wave.specs.File.{headerBytes}
+use Rattle.wave_file.specs.File.{headerBytes}
 use Rattle.wave.specs.Import.{isWave}
 use Rattle.wave.proofs.ImportLaws.{file-samples, wave-parts, import-long, import-other, import-room, import-none}
 use Rattle.wave.proofs.import.import_refusal.Statement.{statement}

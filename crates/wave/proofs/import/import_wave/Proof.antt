@@ -8,7 +8,7 @@ use denote.Ref.{now}
 use lib.ListN.{length}
 use borrow.Author.Needs.{needs}
 use Rattle.answers.specs.Numbers.{outcomeNumber}
-use Rattle.wave.specs.File.{headerBytes}
+use Rattle.wave_file.specs.File.{headerBytes}
 use Rattle.wave.proofs.ImportLaws.{Importable, wave-parts, importable, import-refused, import-accepted}
 use Rattle.wave.proofs.import.import_wave.Statement.{statement}
 use Rattle.wave.proofs.import.import_wave.Tie as tie

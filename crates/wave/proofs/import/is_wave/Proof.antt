@@ -2,12 +2,16 @@
 -- Assumes nothing.
 use mathlib.Core.Path.{_≡_, sym, ap, _∙_}
 use mathlib.Core.Bool.{true}
+use Prim.Native.Nat.{_-_}
 use native.Mathlib.Omega.{arith}
 use borrow.Author.Tests.{not-true, not-false}
+use denote.Ref.{now}
+use lib.ListN.{length}
 use borrow.Author.Needs.{needs}
-use Rattle.wave.specs.File.{rateTaken}
+use Rattle.overlay.proofs.OverlayLaws.{overlay-whole}
+use Rattle.wave_file.specs.File.{headerBytes, rateTaken, waveHeader}
 use Rattle.wave.proofs.ImportLaws.{wave-short, wave-half, wave-rate, wave-compared}
-use Rattle.wave.proofs.FileLaws.{rate-out}
+use Rattle.wave_file.proofs.FileLaws.{rate-out, header-length}
 use Rattle.wave.proofs.import.is_wave.Statement.{statement}
 use Rattle.wave.proofs.import.is_wave.Tie as tie
 
@@ -28,18 +32,21 @@ returns-3 c =
     wave-rate _ (half .before .if1 .left) (half .if2 .left)
     (ap rateTaken (sym (read .rate-of .ensures)) ∙ sym (c .before .is-rate .ensures) ∙ not-true _ (c .if3 .taken))
 
-header-requires : tie.Need-header-requires
-header-requires c κs =
+lay-header-requires : tie.Need-lay-header-requires
+lay-header-requires c κs =
     let start : tie.Start = search needs in
     let few = start .pre in
-    (rate-out _ (taken c) .1, omega arith)
+    (rate-out _ (taken (c .before)) .1, (omega arith, omega arith))
 
 returns-4 : tie.Need-returns-4
 returns-4 c =
-    let tested = c .before .before in
+    let tested : tie.Else3 = search needs in
+    let laid : tie.After-lay-header = search needs in
     let read = tested .before .before in
     let half = read .before in
-    wave-compared _ _ _ _ (half .before .if1 .left) (half .if2 .left) (read .rate-of .ensures) (taken tested) (c .before .header .ensures) (c .begins-with .ensures)
+    let size = length (now (half .before .before .before .args .file)) - headerBytes in
+    let is = laid .lay-header .ensures ∙ overlay-whole _ (waveHeader (read .rate-of .result) size) (header-length _ size) in
+    wave-compared _ _ _ _ (half .before .if1 .left) (half .if2 .left) (read .rate-of .ensures) (taken tested) is (c .begins-with .ensures)
 
 pub is-wave-spec : {M : Type 1} → statement M
 is-wave-spec =
@@ -52,6 +59,7 @@ is-wave-spec =
     (λ c κs. search needs)
     returns-3
     (λ c. omega arith)
-    header-requires
+    (λ c. search needs)
+    lay-header-requires
     (λ c κs. search needs)
     returns-4)

@@ -10,7 +10,7 @@ use mir.Facts.{toZ-ofZ}
 use mir.Syntax.{w16, w32}
 use mir.Val.{SFits}
 use borrow.Author.Needs.{needs}
-use Rattle.wave.specs.File.{headerBytes}
+use Rattle.wave_file.specs.File.{headerBytes}
 use Rattle.wave.proofs.ImportLaws.{file-samples}
 use Rattle.wave.proofs.TakeLaws.{Taken, taken-none, taken-more, taken-all}
 use Rattle.wave.proofs.import.take_samples.Statement.{statement}

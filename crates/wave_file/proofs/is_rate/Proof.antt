@@ -1,11 +1,11 @@
--- `wave::header::is_rate` meets its contract.
+-- `wave_file::is_rate` meets its contract.
 -- Assumes nothing.
 use mathlib.Core.Path.{_≡_, refl}
 use native.Mathlib.Omega.{arith}
 use borrow.Author.Tests.{lt-leb, le-leb}
 use borrow.Author.Needs.{needs}
-use Rattle.wave.proofs.header.is_rate.Statement.{statement}
-use Rattle.wave.proofs.header.is_rate.Tie as tie
+use Rattle.wave_file.proofs.is_rate.Statement.{statement}
+use Rattle.wave_file.proofs.is_rate.Tie as tie
 
 returns : tie.Need-returns
 returns c = rw (lt-leb 1 (c .before .args .rate) (omega arith))

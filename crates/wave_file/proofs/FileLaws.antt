@@ -12,7 +12,7 @@ use lib.ListN.{length, take, getD, length-append}
 use lib.Seq.{take-suc}
 use Rattle.answers.proofs.TestLaws.{both}
 use Rattle.little_endian.specs.LittleEndian.{littleEndian, signedBytes}
-use Rattle.wave.specs.File.{headerBytes, maxRate, rateTaken, fmtChunk, waveHeader, dataBytes, waveFile}
+use Rattle.wave_file.specs.File.{headerBytes, maxRate, rateTaken, fmtChunk, waveHeader, dataBytes, waveFile}
 
 -- a rate in its span, both ways
 pub rate-in : (rate : ℕ) → 1 ≤ rate → rate ≤ maxRate → rateTaken rate ≡ true

@@ -1,0 +1,3 @@
+-- What other crates cite.
+pub mod FileLaws
+pub mod HeaderLaws
