@@ -3,6 +3,7 @@ use answers::Outcome;
 use answers::Refusal;
 use answers::outcome_number;
 use decorrelation::DecorrPass;
+use little_endian::signed_word;
 use logpack::expand_log_word;
 use pass_bytes::decode_term_byte;
 use pass_bytes::expand_weight_byte;
@@ -27,18 +28,10 @@ pub fn word_at(bytes: &[u8], index: usize) -> u16 {
     0
 }
 
-// The number that 16 bits stand for as a signed sample.
-fn sample(bits: u16) -> i32 {
-    if bits < 0x8000 {
-        bits as i32
-    } else {
-        !((!bits) as i32)
-    }
-}
-
 // The word with this index as a signed sample.
 fn sample_at(bytes: &[u8], index: usize) -> i32 {
-    sample(word_at(bytes, index))
+    let word = word_at(bytes, index);
+    signed_word((word % 256) as u8, (word / 256) as u8) as i32
 }
 
 // Whether the words, as signed samples, are those of a list.

@@ -6,3 +6,4 @@ pub mod ExportLaws
 pub mod ImportLaws
 pub mod TakeLaws
 pub mod Theorems
+pub mod Cases

@@ -1,3 +1,4 @@
 -- What other crates cite.
 pub mod FileLaws
 pub mod HeaderLaws
+pub mod Cases

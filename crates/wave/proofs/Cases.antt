@@ -1,0 +1,28 @@
+-- The sound file of one frame, taken in: with another RIFF length or without its last byte it is no
+-- such file.
+-- Assumes nothing.
+use mathlib.Core.Path.{_≡_, refl}
+use mathlib.Core.Bool.{true, false}
+use mathlib.Core.List.{List, [], _∷_}
+use lib.IntN.{ℤ, pos, negsuc}
+use lib.ListN.{take, set}
+use Rattle.little_endian.specs.LittleEndian.{littleEndian, numberOf}
+use Rattle.wave_file.specs.File.{fmtChunk, waveHeader}
+use Rattle.wave_file.proofs.Cases.{oneFrame}
+use Rattle.wave.specs.Import.{alike, isWave, samplesOf, fileSamples}
+
+taken : isWave oneFrame ≡ true
+unfolding isWave alike waveHeader fmtChunk littleEndian numberOf
+taken = refl
+
+its-samples : fileSamples oneFrame ≡ pos 3 ∷ negsuc 1 ∷ []
+unfolding samplesOf
+its-samples = refl
+
+another-riff-length : isWave (set oneFrame 4 41) ≡ false
+unfolding isWave alike waveHeader fmtChunk littleEndian numberOf
+another-riff-length = refl
+
+without-its-last-byte : isWave (take 47 oneFrame) ≡ false
+unfolding isWave
+without-its-last-byte = refl
