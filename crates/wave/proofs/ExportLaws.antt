@@ -13,13 +13,13 @@ use Rattle.answers.specs.declared.Outcome.{Outcome}
 use Rattle.answers.specs.declared.Refusal.{Refusal}
 use Rattle.answers.specs.Guard.{orElse, unlessRefused}
 use Rattle.answers.specs.Limits.{maxElements}
-use Rattle.answers.specs.Numbers.{outcomeNumber, numberOf}
+use Rattle.answers.specs.Numbers.{outcomeNumber}
 use Rattle.answers.proofs.GuardLaws.{guard-refused, guard-accepted}
 use Rattle.answers.proofs.NumberLaws.{number-positive}
 use Rattle.overlay.specs.Overlay.{overlay}
 use Rattle.overlay.proofs.OverlayLaws.{overlay-two}
 use Rattle.wave_file.specs.File.{headerBytes, rateTaken, waveHeader, dataBytes, waveFile}
-use Rattle.wave.specs.Export.{ExportTold, Fitting, within16, lengthRefusal, soundRefusal, exportRefusal, refuseExport, tellExport, exportEntry}
+use Rattle.wave.specs.Export.{Fitting, within16, lengthRefusal, soundRefusal, exportRefusal, refuseExport, tellExport, exportEntry}
 use Rattle.wave_file.proofs.FileLaws.{header-length, file-length}
 
 -- the lengths, the rate and the samples are right

@@ -3,7 +3,7 @@
 use mathlib.Core.Path.{_≡_, refl, sym, ap, _∙_}
 use mathlib.Core.Bool.{Bool, true, false, cond, _&&_}
 use mathlib.Core.List.{List, [], _∷_}
-use Prim.Native.Nat.{ℕ, zero, suc, _+_, _-_, _*_, _/_, _%_, _≤_, _<_}
+use Prim.Native.Nat.{ℕ, zero, suc, _-_, _/_, _%_, _≤_, _<_}
 use native.Mathlib.Omega.{arith}
 use borrow.Author.Tests.{lt-ltb, le-ltb, le-leb, lt-leb, eq-eqb, ne-eqb, ltb-false, leb-true, eqb-true}
 use lib.Dec.{ltb, leb, eqb}
@@ -18,9 +18,8 @@ use Rattle.answers.proofs.GuardLaws.{guard-refused, guard-accepted}
 use Rattle.answers.proofs.NumberLaws.{number-positive}
 use Rattle.answers.proofs.TestLaws.{both}
 use Rattle.overlay.specs.Overlay.{overlay}
-use Rattle.little_endian.specs.LittleEndian.{numberOf}
 use Rattle.wave_file.specs.File.{headerBytes, maxFileBytes, rateTaken, waveHeader}
-use Rattle.wave.specs.Import.{ImportTold, alike, fileRate, isWave, fileSamples, importRefusal, refuseImport, tellImport, importEntry}
+use Rattle.wave.specs.Import.{alike, fileRate, isWave, fileSamples, importRefusal, refuseImport, tellImport, importEntry}
 use Rattle.wave.proofs.SampleLaws.{samples-length}
 
 module _ (file : List ℕ) where

@@ -5,8 +5,8 @@ use mathlib.Core.List.{List, [], _∷_, _++_, append-assoc}
 use Prim.Native.Nat.{ℕ, suc, _+_, _*_, _/_, _≤_, _<_}
 use native.Mathlib.Omega.{arith}
 use lib.IntN.{ℤ, pos}
-use lib.ListN.{length, take, getD, set}
-use lib.Seq.{length-take-le, take-all, sets-eq}
+use lib.ListN.{length, take, getD}
+use lib.Seq.{length-take-le, take-all}
 use Rattle.overlay.specs.Overlay.{overlay}
 use Rattle.overlay.proofs.OverlayLaws.{overlay-none, overlay-two, overlay-length}
 use Rattle.little_endian.specs.LittleEndian.{littleEndian, signedBytes}

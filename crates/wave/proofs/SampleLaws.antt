@@ -1,7 +1,7 @@
 -- The samples that bytes hold, and the bytes of samples, there and back.
 -- Assumes nothing.
 use mathlib.Core.Path.{_≡_, refl, sym, ap, ap₂, _∙_}
-use mathlib.Core.Bool.{true, _&&_}
+use mathlib.Core.Bool.{true}
 use mathlib.Core.List.{List, [], _∷_, _++_}
 use Prim.Native.Nat.{ℕ, zero, suc, _+_, _*_, _/_, _%_, _<_}
 use native.Mathlib.Omega.{arith}
@@ -11,7 +11,7 @@ use lib.ListN.{length, getD}
 use lib.Signed.{mag}
 use mir.Syntax.{w16}
 use mir.ValLaws.{toZ-fits}
-use Rattle.little_endian.specs.LittleEndian.{littleEndian, signedWord, signedBytes}
+use Rattle.little_endian.specs.LittleEndian.{littleEndian, signedWord}
 use Rattle.little_endian.proofs.LittleEndianLaws.{signed-back, bytes-back}
 use Rattle.spans.specs.Spans.{within}
 use Rattle.spans.proofs.SpanLaws.{within-parts}

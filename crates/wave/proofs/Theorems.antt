@@ -1,25 +1,24 @@
 -- Import takes just what export writes (specs/SoundFile.antt).
 -- Assumes nothing.
-use mathlib.Core.Path.{_≡_, refl, sym, ap, ap₂, _∙_}
-use mathlib.Core.Bool.{Bool, true, _&&_}
+use mathlib.Core.Path.{_≡_, sym, ap, ap₂, _∙_}
+use mathlib.Core.Bool.{true}
 use mathlib.Core.List.{List, _++_}
-use Prim.Native.Nat.{ℕ, suc, _+_, _-_, _*_, _/_, _%_, _≤_, _<_}
+use Prim.Native.Nat.{ℕ, _+_, _-_, _*_}
 use native.Mathlib.Omega.{arith}
 use lib.IntN.{ℤ}
-use lib.ListN.{length, take, drop, getD, length-append, length-drop, take-append-drop}
+use lib.ListN.{length, take, drop, getD, length-drop, take-append-drop}
 use lib.Seq.{take-at, drop-at, getD-drop}
-use Rattle.answers.specs.Limits.{maxElements}
 use Rattle.overlay.specs.Overlay.{overlay}
 use Rattle.overlay.proofs.OverlayLaws.{overlay-take}
-use Rattle.little_endian.specs.LittleEndian.{littleEndian, numberOf}
+use Rattle.little_endian.specs.LittleEndian.{littleEndian}
 use Rattle.little_endian.proofs.LittleEndianLaws.{number-back}
-use Rattle.wave_file.specs.File.{headerBytes, maxFileBytes, maxRate, rateTaken, fmtChunk, waveHeader, dataBytes, waveFile}
-use Rattle.wave.specs.Export.{within16, exportRefusal, tellExport, exportEntry}
-use Rattle.wave.specs.Import.{alike, fileRate, isWave, fileSamples, importRefusal, tellImport, importEntry, ImportTold}
-use Rattle.wave.specs.SoundFile.{Bytes, InSpan, exported, imported, ExportThenImport, EveryExport, IsExport, OnlyExports, NoSecondFile}
+use Rattle.wave_file.specs.File.{headerBytes, fmtChunk, waveHeader, dataBytes, waveFile}
+use Rattle.wave.specs.Export.{exportRefusal}
+use Rattle.wave.specs.Import.{alike, fileRate, isWave, fileSamples, importRefusal}
+use Rattle.wave.specs.SoundFile.{Bytes, InSpan, ExportThenImport, EveryExport, OnlyExports, NoSecondFile}
 use Rattle.wave_file.proofs.FileLaws.{rate-in, rate-out, header-length, file-length}
 use Rattle.wave.proofs.AlikeLaws.{alike-same, alike-is}
-use Rattle.wave.proofs.SampleLaws.{samples-length, samples-back, data-back, samples-within}
+use Rattle.wave.proofs.SampleLaws.{samples-back, data-back, samples-within}
 use Rattle.wave.proofs.ExportLaws.{Ready, export-ready, export-number, export-told}
 use Rattle.wave.proofs.ImportLaws.{Wave, Importable, file-samples, wave-compared, wave-parts, import-none, importable, import-number, import-told}
 

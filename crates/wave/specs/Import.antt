@@ -6,7 +6,7 @@ use mathlib.Core.List.{List, [], _∷_}
 use lib.Dec.{leb, ltb, eqb}
 use lib.IntN.{ℤ}
 use lib.ListN.{length, take, drop}
-use Rattle.answers.specs.Guard.{orElse, unlessRefused}
+use Rattle.answers.specs.Guard.{unlessRefused}
 use Rattle.answers.specs.Numbers.{outcomeNumber}
 use Rattle.overlay.specs.Overlay.{overlay}
 use Rattle.little_endian.specs.LittleEndian.{numberOf, signedWord}

@@ -14,7 +14,8 @@ ghost use lib.ListN.{length, take};
 ghost use Rattle.answers.specs.Numbers.{outcomeNumber};
 ghost use Rattle.overlay.specs.Overlay.{overlay};
 ghost use Rattle.wave_file.specs.File.{headerBytes, maxFileBytes};
-ghost use Rattle.wave.specs.Import.{alike, fileRate, isWave, fileSamples, importRefusal, viewImport, importEntry};
+ghost use Rattle.wave.specs.Import.{alike, fileRate, isWave, fileSamples};
+ghost use Rattle.wave.specs.Import.{importRefusal, viewImport, importEntry};
 
 // What import answers: the rate, and the samples written; both 0 on refusal.
 pub struct Imported {

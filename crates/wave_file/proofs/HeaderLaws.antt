@@ -2,16 +2,15 @@
 -- Assumes nothing.
 use mathlib.Core.Path.{_≡_, refl, sym, ap, _∙_}
 use mathlib.Core.List.{List, [], _∷_, _++_, append-assoc, append-nil}
-use Prim.Native.Nat.{ℕ, zero, suc, _+_, _*_, _≤_, _<_}
-use native.Mathlib.Nat.{zero-add}
+use Prim.Native.Nat.{ℕ, suc, _+_, _*_, _≤_, _<_}
 use native.Mathlib.Numerals.{add-one}
 use native.Mathlib.Omega.{arith}
-use lib.ListN.{length, take, getD, length-append}
+use lib.ListN.{length, take, getD}
 use lib.Seq.{take-suc, take-all, length-take-le}
 use Rattle.overlay.specs.Overlay.{overlay}
 use Rattle.overlay.proofs.OverlayLaws.{overlay-none, overlay-two, overlay-length}
 use Rattle.little_endian.specs.LittleEndian.{littleEndian}
-use Rattle.wave_file.specs.File.{headerBytes, fmtChunk, waveHeader}
+use Rattle.wave_file.specs.File.{fmtChunk, waveHeader}
 use Rattle.wave_file.specs.Words.{headerWords, wordsBytes}
 
 -- the fields' bytes are the header

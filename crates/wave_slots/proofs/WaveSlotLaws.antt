@@ -1,9 +1,8 @@
 -- The three answers of each call: too few slots, a refusal, and what was told.
 -- Assumes nothing.
-use mathlib.Core.Path.{_≡_, refl, sym, ap, _∙_}
+use mathlib.Core.Path.{_≡_}
 use mathlib.Core.List.{List, [], _∷_}
 use Prim.Native.Nat.{ℕ, _≤_, _<_}
-use native.Mathlib.Omega.{arith}
 use borrow.Author.Tests.{lt-ltb, le-ltb}
 use lib.IntN.{ℤ}
 use lib.ListN.{length}
@@ -14,9 +13,9 @@ use Rattle.answers.proofs.GuardLaws.{guard-refused}
 use Rattle.answers.proofs.NumberLaws.{number-positive}
 use Rattle.overlay.specs.Overlay.{overlay}
 use Rattle.slots.specs.Slots.{leaveValues}
-use Rattle.wave.specs.Export.{ExportTold, exportEntry}
-use Rattle.wave.specs.Import.{ImportTold, importEntry}
-use Rattle.wave_slots.specs.WaveSlots.{exportCall, leaveExport, importCall, leaveImport}
+use Rattle.wave.specs.Export.{exportEntry}
+use Rattle.wave.specs.Import.{importEntry}
+use Rattle.wave_slots.specs.WaveSlots.{exportCall, importCall}
 
 -- the slots of a refused call keep their values
 slots-kept : (o : Outcome) (x : Refusal) (values slots : List ℕ) → o ≡ Outcome.Refused x → leaveValues (outcomeNumber o) values slots ≡ slots

@@ -1,9 +1,7 @@
 -- `wave_file::is_rate` meets its contract.
 -- Assumes nothing.
-use mathlib.Core.Path.{_≡_, refl}
 use native.Mathlib.Omega.{arith}
 use borrow.Author.Tests.{lt-leb, le-leb}
-use borrow.Author.Needs.{needs}
 use Rattle.wave_file.proofs.is_rate.Statement.{statement}
 use Rattle.wave_file.proofs.is_rate.Tie as tie
 

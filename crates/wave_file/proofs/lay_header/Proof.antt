@@ -1,7 +1,7 @@
 -- `wave_file::lay_header` meets its contract. The loop's invariant: the first i fields are laid. The
 -- measure is what is left of them.
 -- Assumes nothing.
-use mathlib.Core.Path.{_≡_, sym, ap, _∙_}
+use mathlib.Core.Path.{_≡_, ap, _∙_}
 use Prim.Native.Nat.{ℕ, _*_, _-_}
 use native.Mathlib.Omega.{arith}
 use mathlib.Core.List.{List}
@@ -9,7 +9,7 @@ use lib.ListN.{length, getD}
 use borrow.Author.Needs.{needs}
 use Rattle.overlay.specs.Overlay.{overlay}
 use Rattle.little_endian.specs.LittleEndian.{littleEndian}
-use Rattle.wave_file.specs.Words.{headerWords, wordsBytes}
+use Rattle.wave_file.specs.Words.{headerWords}
 use Rattle.wave_file.proofs.HeaderLaws.{Laid, header-words, laid-none, laid-more, laid-all}
 use Rattle.wave_file.proofs.lay_header.Statement.{statement}
 use Rattle.wave_file.proofs.lay_header.Tie as tie

@@ -1,6 +1,5 @@
 -- `wave_slots::export_call` meets its contract: one law for each of its three answers.
 -- Assumes nothing.
-use native.Mathlib.Omega.{arith}
 use borrow.Author.Needs.{needs}
 use Rattle.wave_slots.proofs.WaveSlotLaws.{export-short, export-refused, export-laid}
 use Rattle.wave_slots.proofs.export_call.Statement.{statement}

@@ -1,6 +1,5 @@
 -- `wave_slots::import_call` meets its contract: one law for each of its three answers.
 -- Assumes nothing.
-use native.Mathlib.Omega.{arith}
 use borrow.Author.Needs.{needs}
 use Rattle.wave_slots.proofs.WaveSlotLaws.{import-short, import-refused, import-laid}
 use Rattle.wave_slots.proofs.import_call.Statement.{statement}

@@ -1,7 +1,6 @@
 -- `wave::export::lay_frame` meets its contract: four stores lay the bytes of both samples.
 -- Assumes nothing.
 use native.Mathlib.Omega.{arith}
-use denote.Ref.{now}
 use lib.ListN.{length-set}
 use mir.Facts.{toZ-ofZ}
 use mir.Syntax.{w16}
