@@ -4,6 +4,7 @@ use crate::random::Random;
 use std::collections::BTreeMap;
 use std::fmt::Debug;
 use std::iter::{once, successors};
+use std::ops::Range;
 use std::time::Instant;
 
 /// How many smaller inputs are tried at most before a failing one is shown.
@@ -27,7 +28,7 @@ pub fn same<T: PartialEq + Debug>(what: &str, ours: &T, theirs: &T) -> Result<()
     if ours == theirs {
         return Ok(());
     }
-    Err(format!("{what}: ours {ours:?}, the Rust's {theirs:?}"))
+    Err(format!("{what}: ours {ours:?}, theirs {theirs:?}"))
 }
 
 /// Ok where the two lists are equal, else the first place where they differ.
@@ -127,21 +128,25 @@ fn smallest<C: Case>(case: C, fails: impl Fn(&C) -> bool) -> C {
     }
 }
 
-/// Lists with a part left out: the whole first, single elements last.
-pub fn shorter<T: Clone>(list: &[T]) -> impl Iterator<Item = Vec<T>> {
-    let parts = successors(Some(list.len()), |part| Some(part / 2)).take_while(|&part| part > 0);
-    parts.flat_map(move |part| {
-        let starts = (0..list.len()).step_by(part).take(64);
-        starts.map(move |start| [&list[..start], &list[(start + part).min(list.len())..]].concat())
-    })
+/// The parts of a list, by their size: the whole first, single elements last.
+fn parts(length: usize) -> impl Iterator<Item = impl Iterator<Item = Range<usize>>> {
+    let sizes = successors(Some(length), |size| Some(size / 2)).take_while(|&size| size > 0);
+    sizes.map(move |size| (0..length).step_by(size).map(move |start| start..length.min(start + size)))
 }
 
-/// Lists with one element made 0.
+/// Lists with a part left out.
+pub fn shorter<T: Clone>(list: &[T]) -> impl Iterator<Item = Vec<T>> {
+    let parts = parts(list.len()).flat_map(|parts| parts.take(64));
+    parts.map(|part| [&list[..part.start], &list[part.end..]].concat())
+}
+
+/// Lists with a part made 0.
 pub fn plainer<T: Copy + PartialEq + Default>(list: &[T]) -> impl Iterator<Item = Vec<T>> {
-    let places = (0..list.len()).filter(|&i| list[i] != T::default()).take(64);
-    places.map(|i| {
+    let plain = |part: &Range<usize>| list[part.clone()].iter().all(|&element| element == T::default());
+    let parts = parts(list.len()).flat_map(move |parts| parts.filter(move |part| !plain(part)).take(64));
+    parts.map(|part| {
         let mut plain = list.to_vec();
-        plain[i] = T::default();
+        plain[part].fill(T::default());
         plain
     })
 }
