@@ -5,6 +5,9 @@
 //! store` writes the answers of the published Rust that the program `replay` carries. `compare
 //! bench` prints a table of both sides' speed, and `compare count` makes one call, whose
 //! instructions a tool can count. `compare long` runs millions of damaged inputs.
+//!
+//! Sound files are no part of the published Rust: there a plain statement of their rules stands for
+//! it, and in the table a plain loop.
 #![deny(unsafe_code)]
 #![warn(clippy::undocumented_unsafe_blocks)]
 
@@ -23,7 +26,9 @@ mod random;
 mod store;
 mod their_packing;
 mod their_passes;
+mod their_waves;
 mod theirs;
+mod wave_headers;
 
 use case::{Failed, Run};
 use long::Bounds;

@@ -126,3 +126,29 @@ pub fn pack(residuals: &[i32], entropy: &[u8], frames: usize, out: &mut [u8], an
         Err(refusal) => both(refusal, ffi::pack(residuals, entropy, frames, out, answer)),
     }
 }
+
+pub fn wave_export(rate: u32, samples: &[i32], out: &mut [u8], answer: &mut [u32]) -> u32 {
+    if watched() || answer.len() != 1 {
+        return ffi::wave_export(rate, samples, out, answer);
+    }
+    match wavpack_stereo::wave_export(rate, samples, out) {
+        Ok(written) => {
+            answer[0] = written as u32;
+            0
+        }
+        Err(refusal) => both(refusal, ffi::wave_export(rate, samples, out, answer)),
+    }
+}
+
+pub fn wave_import(file: &[u8], samples: &mut [i32], answer: &mut [u32]) -> u32 {
+    if watched() || answer.len() != 2 {
+        return ffi::wave_import(file, samples, answer);
+    }
+    match wavpack_stereo::wave_import(file, samples) {
+        Ok(wave) => {
+            answer.copy_from_slice(&wave.slots());
+            0
+        }
+        Err(refusal) => both(refusal, ffi::wave_import(file, samples, answer)),
+    }
+}

@@ -8,6 +8,8 @@ pub mod packs;
 mod pass_bytes;
 pub mod passes;
 pub mod reads;
+pub mod wave_exports;
+pub mod wave_imports;
 pub mod words;
 
 /// A kind: its name, and what runs it.
@@ -24,4 +26,6 @@ pub const KINDS: &[Kind] = &[
     ("pass making", making::run),
     ("decorrelation and analysis", passes::run),
     ("packing", packs::run),
+    ("exports of sound files", wave_exports::run),
+    ("imports of sound files", wave_imports::run),
 ];
