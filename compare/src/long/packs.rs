@@ -17,9 +17,8 @@ fn beyond(random: &mut Random) -> i32 {
     random.pick(&[SPAN, SPAN + 1, -SPAN - 1, i32::MAX, i32::MIN])
 }
 
-/// The room for `frames` frames, or one byte less, or any.
-fn room(random: &mut Random, frames: usize) -> usize {
-    let asked = BYTES_PER_FRAME * frames.min(MAX_FRAMES + 1);
+/// The room that is asked for, or one less, or any.
+pub fn room_near(random: &mut Random, asked: usize) -> usize {
     match random.below(16) {
         0 => asked.saturating_sub(1),
         1 => random.below(asked.min(2000) + 40),
@@ -48,6 +47,6 @@ pub fn pack(random: &mut Random, from: &Recordings) -> Pack {
     if frames <= MAX_FRAMES + 1 && !random.once_in(4) {
         residuals.resize(2 * frames, 1);
     }
-    let room = room(random, frames);
+    let room = room_near(random, BYTES_PER_FRAME * frames.min(MAX_FRAMES + 1));
     Pack { residuals, entropy, frames, room, slots: slots_near(random, 7) }
 }
