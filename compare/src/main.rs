@@ -41,7 +41,7 @@ const SEED: u64 = 20_261_115;
 
 const USAGE: &str =
     "usage: compare [SEED [SCALE]] | compare long [SEED [MILLIONS [MINUTES]]] | compare store | compare bench
-     | compare count ours|theirs reading|packing
+     | compare count ours|theirs reading|packing|export|import
      | compare count ours|theirs decorrelation|analysis TERM|sixteen";
 
 fn compare(seed: u64, scale: usize) -> Result<(), Failed> {

@@ -2,6 +2,7 @@
 //! before it, and the output is checked behind it.
 use super::passes::{self, sixteen};
 use super::reading::sounds;
+use super::waves;
 use crate::ours;
 use crate::random::Random;
 use crate::their_passes::{Pass, made};
@@ -60,8 +61,22 @@ fn run_passes(random: &mut Random, terms: &[i8], back: bool, ours: bool) {
     }
 }
 
-/// Makes the call that the words name: `ours` or `theirs`; `reading`, `packing`, `decorrelation` or
-/// `analysis`; for the last two a term, or `sixteen` for 16 passes. False where they name none.
+/// Export, or import, of the largest sound file.
+fn sound_file(random: &mut Random, import: bool, ours: bool) {
+    let (samples, file) = waves::input(random);
+    let (mut out, mut read) = (vec![0x5a; file.len()], vec![0x5a; samples.len()]);
+    if import {
+        counted(|| waves::import(ours, &file, &mut read)).unwrap();
+        assert!(read == samples);
+    } else {
+        counted(|| waves::export(ours, &samples, &mut out)).unwrap();
+        assert!(out == file);
+    }
+}
+
+/// Makes the call that the words name: `ours` or `theirs`; `reading`, `packing`, `export`,
+/// `import`, `decorrelation` or `analysis`; for the last two a term, or `sixteen` for 16 passes.
+/// False where they name none.
 pub fn run(words: &[&str], seed: u64) -> bool {
     let random = &mut Random::new(seed);
     let [side @ ("ours" | "theirs"), what, rest @ ..] = words else {
@@ -76,6 +91,8 @@ pub fn run(words: &[&str], seed: u64) -> bool {
     match (*what, terms) {
         ("reading", None) => loud(random, false, ours),
         ("packing", None) => loud(random, true, ours),
+        ("export", None) => sound_file(random, false, ours),
+        ("import", None) => sound_file(random, true, ours),
         ("decorrelation", Some(terms)) => run_passes(random, &terms, false, ours),
         ("analysis", Some(terms)) => run_passes(random, &terms, true, ours),
         _ => return false,

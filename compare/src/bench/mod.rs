@@ -1,4 +1,5 @@
-//! The speed of the library and of the published Rust on the same inputs, in one run.
+//! The speed of the library and of the published Rust on the same inputs, in one run. Sound files
+//! are no part of the published Rust: there a plain loop stands for it.
 //!
 //! Both sides take turns, and the best of all turns counts. Each turn starts from fresh copies,
 //! which are made before the clock starts. The outputs are compared.
@@ -10,6 +11,7 @@ pub mod count;
 mod packing;
 mod passes;
 mod reading;
+mod waves;
 
 const TURNS: usize = 40;
 
@@ -38,4 +40,5 @@ pub fn run(seed: u64) {
     reading::run(&sounds);
     passes::run(random);
     packing::run(&sounds);
+    waves::run(random);
 }
