@@ -14,4 +14,12 @@ cast-result c =
     rw (toZ-ofZ f) (record { sfits = omega (arith, f .sfits) })
 
 pub sample-at-spec : {M : Type 1} → statement M
-sample-at-spec = tie.close (tie.spec (λ c κs. search needs) (λ c. search needs) (λ c. search needs) (λ c κs. search needs) cast-result)
+sample-at-spec =
+    tie.close
+    (tie.spec
+    (λ c κs. search needs)
+    (λ c. search needs)
+    (λ c. search needs)
+    (λ c κs. search needs)
+    cast-result
+    (λ c. search needs))
