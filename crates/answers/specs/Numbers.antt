@@ -1,5 +1,5 @@
--- Document 01, "Why each operation says no", and document 02: the refusal numbers. The promises of all entries use
--- these two definitions.
+-- Document 01, "Why each operation says no", and document 02: the refusal numbers. The promises of
+-- all entries use these two definitions.
 -- Assumes nothing.
 use Prim.Native.Nat.{ℕ}
 use Rattle.answers.specs.declared.Refusal.{Refusal}

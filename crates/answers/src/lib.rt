@@ -16,7 +16,7 @@ pub enum Refusal {
     Truncated,
     // The second count of a prefix is 33.
     EndOfStream,
-    // More frames, elements or payload bytes than the entry takes.
+    // More frames, elements or bytes than the entry takes.
     TooLarge,
     // A lent list does not have the length that the entry asks for.
     ListLength,

@@ -15,11 +15,11 @@ use Rattle.little_endian.proofs.LittleEndianLaws.{number-back}
 use Rattle.wave_file.specs.File.{headerBytes, fmtChunk, waveHeader, dataBytes, waveFile}
 use Rattle.wave.specs.Export.{exportRefusal}
 use Rattle.wave.specs.Import.{alike, fileRate, isWave, fileSamples, importRefusal}
-use Rattle.wave.specs.SoundFile.{Bytes, InSpan, ExportThenImport, EveryExport, OnlyExports, NoSecondFile}
+use Rattle.wave.specs.SoundFile.{Bytes, InSpan, ExportThenImport, EveryExport, OnlyExports, NoSecondFile, ExportsInSpan, NoTwoSoundsAlike}
 use Rattle.wave_file.proofs.FileLaws.{rate-in, rate-out, header-length, file-length}
 use Rattle.wave.proofs.AlikeLaws.{alike-same, alike-is}
 use Rattle.wave.proofs.SampleLaws.{samples-back, data-back, samples-within}
-use Rattle.wave.proofs.ExportLaws.{Ready, export-ready, export-number, export-told}
+use Rattle.wave.proofs.ExportLaws.{Ready, export-none, export-ready, export-number, export-told}
 use Rattle.wave.proofs.ImportLaws.{Wave, Importable, file-samples, wave-compared, wave-parts, import-none, importable, import-number, import-told}
 
 -- ---- a file that export wrote
@@ -64,6 +64,25 @@ every-export rate samples list s h =
     let i : Importable (waveFile rate samples) (length list) =
     record { few = omega arith; wave = is-wave rate samples s; enough = rw (samples-are rate samples s) h } in
     import-told (waveFile rate samples) list (sym (import-none (waveFile rate samples) (length list) i)) ∙ rw (rate-is rate samples s, samples-are rate samples s)
+
+-- what is in span is exported
+pub exports-in-span : ExportsInSpan
+exports-in-span rate samples buffer s h =
+    let n = file-length rate samples in
+    let r : Ready rate samples (length buffer) =
+    record {
+      fitting = record { few = s .few; whole-frames = s .whole-frames; enough = omega arith };
+      rate-taken = rate-in rate (s .rate-above) (s .rate-below);
+      sixteen-bits = s .sixteen-bits;
+    } in
+    export-told rate samples buffer (sym (export-none rate samples (length buffer) r))
+
+-- the same file holds the same rate and the same samples
+pub no-two-sounds-alike : NoTwoSoundsAlike
+no-two-sounds-alike rate rate′ one other s s′ e = (
+  sym (rate-is rate one s) ∙ ap fileRate e ∙ rate-is rate′ other s′,
+  sym (samples-are rate one s) ∙ ap fileSamples e ∙ samples-are rate′ other s′,
+)
 
 -- what export accepted is in span
 ready-span : {rate : ℕ} {samples : List ℤ} {room : ℕ} → Ready rate samples room → InSpan rate samples

@@ -1,5 +1,5 @@
--- Document 02 §1: export and import belong together, as two statements over the definitions of the
--- two entries (Q1.5, Q1.6).
+-- Document 02 §1: export and import belong together, as statements over the definitions of the two
+-- entries (Q1.5, Q1.6).
 -- Assumes nothing.
 use mathlib.Core.Path.{_≡_}
 use mathlib.Core.Bool.{true}
@@ -9,7 +9,7 @@ use lib.IntN.{ℤ}
 use lib.ListN.{length, take, getD}
 use Rattle.answers.specs.Limits.{maxElements}
 use Rattle.wave_file.specs.File.{maxRate, waveFile}
-use Rattle.wave.specs.Export.{within16, ExportTold, exportEntry}
+use Rattle.wave.specs.Export.{within16, ExportTold, tellExport, exportEntry}
 use Rattle.wave.specs.Import.{ImportTold, importEntry, tellImport}
 
 -- each is a byte
@@ -23,6 +23,12 @@ pub record InSpan (rate : ℕ) (samples : List ℤ) : Type 0 where
   pub few : length samples ≤ maxElements
   pub whole-frames : length samples % 2 ≡ 0
   pub sixteen-bits : within16 samples ≡ true
+
+-- export writes the file of every rate and samples in span, into any buffer that is long enough
+abbrev pub ExportsInSpan : Type 0
+ExportsInSpan =
+    (rate : ℕ) (samples : List ℤ) (buffer : List ℕ) → InSpan rate samples → length (waveFile rate samples) ≤ length buffer
+    → exportEntry rate samples buffer ≡ tellExport buffer (waveFile rate samples)
 
 -- the bytes that export wrote
 abbrev pub exported : ExportTold → List ℕ
@@ -59,3 +65,8 @@ NoSecondFile =
     (one other : List ℕ) (list list′ : List ℤ) → Bytes one → Bytes other
     → importEntry one list .refusal ≡ 0 → importEntry other list′ .refusal ≡ 0
     → importEntry one list .rate ≡ importEntry other list′ .rate → imported (importEntry one list) ≡ imported (importEntry other list′) → one ≡ other
+
+-- and no two different sounds have the same file
+abbrev pub NoTwoSoundsAlike : Type 0
+NoTwoSoundsAlike =
+    (rate rate′ : ℕ) (one other : List ℤ) → InSpan rate one → InSpan rate′ other → waveFile rate one ≡ waveFile rate′ other → (rate ≡ rate′) × (one ≡ other)
