@@ -3,3 +3,4 @@ pub mod SignTests
 pub mod EntropyLaws
 pub mod SeedLaws
 pub mod SeedBounds
+pub mod SilentLaws

@@ -65,17 +65,18 @@ pub none-small : Small (mediansOf zeroSet)
 none-small = record { small0 = omega arith; small1 = omega arith; small2 = omega arith }
 
 -- by the refusal of the length and the test of stereo
-by-test : (n : ℕ) (b : Bool) (info : EntropyInfo) → notStereo info ≡ b → InfoFits info → SmallPair (cond (eqb (orElse n (cond b 2 0)) 0) (seedPair info) zeroPair)
-by-test zero true info e f = (none-small, none-small)
-by-test zero false info e f =
-    let s = stereo info e in
+by-test : (p : List ℕ) (n : ℕ) (b : Bool) → notStereo p ≡ b → SmallPair (cond (eqb (orElse n (cond b 2 0)) 0) (seedPair (entropyInfo p)) zeroPair)
+by-test p zero true e = (none-small, none-small)
+by-test p zero false e =
+    let f = info-fits p in
+    let s = stereo p e in
     (set-small _ (f .left) (none-negative _ (s .left)), set-small _ (f .right) (none-negative _ (s .right)))
-by-test (suc n) b info e f = rw (eqb·suc-zero n) (none-small, none-small)
+by-test p (suc n) b e = rw (eqb·suc-zero n) (none-small, none-small)
 
 -- the law: whatever the payload, its seed medians have 32 bits
 pub seeds-small : (p : List ℕ) → Small (seedMedians p .left) × Small (seedMedians p .right)
 unfolding seedMedians seedRefusal
-seeds-small p = by-test (entropyRefusal p) (notStereo (entropyInfo p)) (entropyInfo p) refl (info-fits p)
+seeds-small p = by-test p (entropyRefusal p) (notStereo p) refl
 
 -- of two numbers, whichever
 pub cond-le : (t : Bool) (a b n : ℕ) → a ≤ n → b ≤ n → cond t a b ≤ n
@@ -87,6 +88,6 @@ pub seed-le : (p : List ℕ) → seedRefusal p ≤ 2
 unfolding seedRefusal entropyRefusal
 seed-le p = go (cond (eqb (length p) 6 || eqb (length p) 12) 0 1) (cond-le (eqb (length p) 6 || eqb (length p) 12) 0 1 2 (omega arith) (omega arith))
   where
-    go : (c : ℕ) → c ≤ 2 → orElse c (cond (notStereo (entropyInfo p)) 2 0) ≤ 2
-    go zero h = cond-le (notStereo (entropyInfo p)) 2 0 2 (omega arith) (omega arith)
+    go : (c : ℕ) → c ≤ 2 → orElse c (cond (notStereo p) 2 0) ≤ 2
+    go zero h = cond-le (notStereo p) 2 0 2 (omega arith) (omega arith)
     go (suc c) h = h

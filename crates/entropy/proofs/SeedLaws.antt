@@ -33,12 +33,12 @@ length-refused p zero h e = absurd (omega arith)
 length-refused p (suc n) h e = rw (← e) (refl, simp eqb·suc-zero)
 
 -- a payload of the right length is refused with 2 where it is mono or has a negative median
-pub not-stereo : (p : List ℕ) → 0 ≡ entropyRefusal p → notStereo (entropyInfo p) ≡ true → Seeds p 2 zeroPair
+pub not-stereo : (p : List ℕ) → 0 ≡ entropyRefusal p → notStereo p ≡ true → Seeds p 2 zeroPair
 unfolding seedMedians seedRefusal
 not-stereo p e t = rw (← e, t) (refl, refl)
 
 -- and otherwise accepted, with its sets
-pub accepted : (p : List ℕ) → 0 ≡ entropyRefusal p → notStereo (entropyInfo p) ≡ false → Seeds p 0 (seedPair (entropyInfo p))
+pub accepted : (p : List ℕ) → 0 ≡ entropyRefusal p → notStereo p ≡ false → Seeds p 0 (seedPair (entropyInfo p))
 unfolding seedMedians seedRefusal
 accepted p e t = rw (← e, t) (refl, refl)
 
@@ -66,18 +66,29 @@ none-negative set e =
     let f : (a || b) ≡ false = or-left (a || b) d e in
     record { n0 = or-left a b f; n1 = or-right a b f; n2 = or-right (a || b) d e }
 
+-- the test behind refusal 2, by what the code finds of the payload and of what it expands to
+pub not-stereo-by :
+    (p : List ℕ) (i : EntropyInfo) (m a b : Bool) → i ≡ entropyInfo p → m ≡ isMono p → a ≡ anyNegative (i .«medians_left») → b ≡ anyNegative (i .«medians_right»)
+    → (m || a || b) ≡ notStereo p
+unfolding notStereo
+not-stereo-by p i m a b e f g h = rw (f, g, h, e)
+
 -- a stereo payload has no negative median
 pub record Stereo (info : EntropyInfo) : Type 0 where
   pub left : anyNegative (info .«medians_left») ≡ false
   pub right : anyNegative (info .«medians_right») ≡ false
 
-pub stereo : (info : EntropyInfo) → notStereo info ≡ false → Stereo info
+pub stereo : (p : List ℕ) → notStereo p ≡ false → Stereo (entropyInfo p)
 unfolding notStereo
-stereo info e =
-    let m = isMono info in
-    let a = anyNegative (info .«medians_left») in
-    let b = anyNegative (info .«medians_right») in
+stereo p e =
+    let m = isMono p in
+    let a = anyNegative (entropyInfo p .«medians_left») in
+    let b = anyNegative (entropyInfo p .«medians_right») in
     record { left = or-right m a (or-left (m || a) b e); right = or-right (m || a) b e }
+
+-- nor has what it expands to, as the code holds it
+pub stereo-raw : (p : List ℕ) (i : EntropyInfo) → i ≡ entropyInfo p → notStereo p ≡ false → Stereo i
+stereo-raw p i e t = rw e (stereo p t)
 
 -- a number that is not negative keeps its value as an unsigned one
 pub natural : (z : ℤ) → SFits w32 z → isNegative z ≡ false → T (nonNeg (toZ w32 (ofZ w32 z))) × Fits w32 (natAbs (toZ w32 (ofZ w32 z)))
@@ -90,8 +101,8 @@ pub length-refused-raw : (p : List ℕ) (o q : Outcome) (r : Refusal) (m : Media
 length-refused-raw p o q r m e f g h =
     rw (e, h) (length-refused p (outcomeNumber o) (rw f (number-positive r)) g)
 
-pub not-stereo-raw : (p : List ℕ) (o q : Outcome) (i : EntropyInfo) (m : MedianPair) → q ≡ Outcome.Refused Refusal.NotStereo → o ≡ Outcome.Accepted → outcomeNumber o ≡ entropyRefusal p → i ≡ entropyInfo p → notStereo i ≡ true → m ≡ zeroPair → Seeds p (outcomeNumber q) m
-not-stereo-raw p o q i m e f g j t h = rw (e, h) (not-stereo p (rw f at g) (rw j at t))
+pub not-stereo-raw : (p : List ℕ) (o q : Outcome) (m : MedianPair) → q ≡ Outcome.Refused Refusal.NotStereo → o ≡ Outcome.Accepted → outcomeNumber o ≡ entropyRefusal p → notStereo p ≡ true → m ≡ zeroPair → Seeds p (outcomeNumber q) m
+not-stereo-raw p o q m e f g t h = rw (e, h) (not-stereo p (rw f at g) t)
 
-pub accepted-raw : (p : List ℕ) (o : Outcome) (i : EntropyInfo) (a b : Medians) → o ≡ Outcome.Accepted → outcomeNumber o ≡ entropyRefusal p → i ≡ entropyInfo p → notStereo i ≡ false → a ≡ seedSet (i .«medians_left») → b ≡ seedSet (i .«medians_right») → Seeds p 0 (record { left = a; right = b })
-accepted-raw p o i a b f g j t ha hb = rw (ha, hb, j) (accepted p (rw f at g) (rw j at t))
+pub accepted-raw : (p : List ℕ) (o : Outcome) (i : EntropyInfo) (a b : Medians) → o ≡ Outcome.Accepted → outcomeNumber o ≡ entropyRefusal p → i ≡ entropyInfo p → notStereo p ≡ false → a ≡ seedSet (i .«medians_left») → b ≡ seedSet (i .«medians_right») → Seeds p 0 (record { left = a; right = b })
+accepted-raw p o i a b f g j t ha hb = rw (ha, hb, j) (accepted p (rw f at g) t)

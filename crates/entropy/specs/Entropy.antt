@@ -1,10 +1,10 @@
 -- Document 01, "Entropy": what an entropy payload holds.
 -- Assumes nothing.
-use Prim.Native.Nat.{ℕ, zero, suc}
-use mathlib.Core.Bool.{Bool, true, false, cond, _&&_, _||_}
+use Prim.Native.Nat.{ℕ, suc}
+use mathlib.Core.Bool.{Bool, cond, _||_}
 use mathlib.Core.List.{List, [], _∷_}
 use lib.Dec.{eqb}
-use lib.IntN.{ℤ, pos, negsuc}
+use lib.IntN.{ℤ, pos}
 use lib.ListN.{length, getD, drop}
 use Rattle.little_endian.specs.LittleEndian.{signedWord}
 use Rattle.logpack.specs.LogWord.{logWord}
@@ -34,23 +34,15 @@ stereoInfo payload = record { «medians_left» = wordSet payload; «medians_righ
 abbrev pub noInfo : EntropyInfo
 noInfo = record { «medians_left» = zeroWords; «medians_right» = zeroWords }
 
+-- document 02, §2 (Q2.1): "The length alone now tells mono from stereo"
+unfoldable pub isMono : List ℕ → Bool
+isMono payload = eqb (length payload) 6
+
 -- document 01, "Entropy" (E1): "6 bytes are mono, 12 stereo"
 unfoldable pub entropyInfo : List ℕ → EntropyInfo
 entropyInfo payload =
-    cond (eqb (length payload) 6) (monoInfo payload) (cond (eqb (length payload) 12) (stereoInfo payload) noInfo)
+    cond (isMono payload) (monoInfo payload) (cond (eqb (length payload) 12) (stereoInfo payload) noInfo)
 
 -- document 01, "Why each operation says no" (X1): 1, length not 6 or 12
 unfoldable pub entropyRefusal : List ℕ → ℕ
 entropyRefusal payload = cond (eqb (length payload) 6 || eqb (length payload) 12) 0 1
-
--- a signed number that is 0
-abbrev pub isZero : ℤ → Bool
-isZero (pos zero) = true
-isZero (pos (suc n)) = false
-isZero (negsuc n) = false
-
--- document 01, "Entropy" (E3): three zero right medians count as mono. They are judged as expanded.
-unfoldable pub isMono : EntropyInfo → Bool
-isMono info =
-    isZero (getD (info .«medians_right») 0 (pos 0)) && isZero (getD (info .«medians_right») 1 (pos 0))
-    && isZero (getD (info .«medians_right») 2 (pos 0))

@@ -1,3 +1,4 @@
 pub mod Medians
 pub mod Entropy
 pub mod Seed
+pub mod Silent

@@ -22,13 +22,15 @@ isNegative (negsuc n) = true
 unfoldable pub anyNegative : List ℤ → Bool
 anyNegative set = isNegative (getD set 0 (pos 0)) || isNegative (getD set 1 (pos 0)) || isNegative (getD set 2 (pos 0))
 
--- document 01 (X2): the test behind refusal 2, mono or a negative median
-unfoldable pub notStereo : EntropyInfo → Bool
-notStereo info = isMono info || anyNegative (info .«medians_left») || anyNegative (info .«medians_right»)
+-- document 02, §2 (Q2.2): "Number 2 stays for 6 bytes and for negative medians"
+unfoldable pub notStereo : List ℕ → Bool
+notStereo payload =
+    isMono payload || anyNegative (entropyInfo payload .«medians_left»)
+    || anyNegative (entropyInfo payload .«medians_right»)
 
 -- document 01 (X2): the refusals about the entropy payload, 1 before 2; 0 means accepted
 unfoldable pub seedRefusal : List ℕ → ℕ
-seedRefusal payload = orElse (entropyRefusal payload) (cond (notStereo (entropyInfo payload)) 2 0)
+seedRefusal payload = orElse (entropyRefusal payload) (cond (notStereo payload) 2 0)
 
 -- document 01, "The words of demand 3" (M4): reading accepts an entropy payload when none of the
 -- refusals about it applies

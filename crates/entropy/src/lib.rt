@@ -37,20 +37,11 @@ pub struct MedianAnswer {
     pub medians: [AdaptiveMedians; 2],
 }
 
-impl EntropyInfo {
-    // Answers whether the right medians are all 0, which counts as mono. Refuses nothing.
-    pub fn is_mono(self) -> bool
-        ensures { λ r. ⌜ r ≡ isMono self ⌝ }
-    {
-        let right = self.medians_right;
-        if right[0] != 0 {
-            return false;
-        }
-        if right[1] != 0 {
-            return false;
-        }
-        right[2] == 0
-    }
+// Whether an entropy payload is mono. Its length alone tells: a right set of zeros is a right set.
+fn is_mono(payload: &[u8]) -> bool
+    ensures { λ r. ⌜ r ≡ isMono (now (payload .entry)) ⌝ }
+{
+    payload.len() == 6
 }
 
 // Three log words, from the first six bytes.
@@ -69,7 +60,7 @@ pub fn expand_entropy(payload: &[u8]) -> EntropyAnswer
     ensures outcome { λ r. ⌜ outcomeNumber (r .outcome) ≡ entropyRefusal (now (payload .entry)) ⌝ }
     ensures info { λ r. ⌜ r .info ≡ entropyInfo (now (payload .entry)) ⌝ }
 {
-    if payload.len() == 6 {
+    if is_mono(payload) {
         let left = read_median_set(payload);
         let info = EntropyInfo {
             medians_left: left,
@@ -115,13 +106,15 @@ fn any_negative(set: [i32; 3]) -> bool
     set[2] < 0
 }
 
-// The test behind refusal 2: whether a payload is mono, or holds a negative median.
-fn is_not_stereo(info: EntropyInfo) -> bool
-    ensures { λ r. ⌜ r ≡ notStereo info ⌝ }
+// The test behind refusal 2: whether a payload is mono, or holds a negative median. `info` is what
+// it expands to.
+fn is_not_stereo(payload: &[u8], info: EntropyInfo) -> bool
+    requires { ⌜ info ≡ entropyInfo (now payload) ⌝ }
+    ensures { λ r. ⌜ r ≡ notStereo (now (payload .entry)) ⌝ }
 {
     let left = info.medians_left;
     let right = info.medians_right;
-    if info.is_mono() {
+    if is_mono(payload) {
         return true;
     }
     if any_negative(left) {
@@ -164,7 +157,7 @@ pub fn stereo_pair_from_entropy(payload: &[u8]) -> MedianAnswer
     let Outcome::Accepted = outcome else {
         return no_seed(outcome);
     };
-    if is_not_stereo(info) {
+    if is_not_stereo(payload, info) {
         return no_seed(Outcome::Refused(Refusal::NotStereo));
     }
     let left = info.medians_left;

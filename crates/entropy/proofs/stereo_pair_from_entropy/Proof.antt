@@ -1,7 +1,7 @@
 -- `entropy::stereo_pair_from_entropy` meets its contract: one law for each of its three answers.
 -- Assumes nothing.
 use mathlib.Core.Path.{sym, _∙_}
-use Rattle.entropy.proofs.SeedLaws.{length-refused-raw, not-stereo-raw, accepted-raw, stereo}
+use Rattle.entropy.proofs.SeedLaws.{length-refused-raw, not-stereo-raw, accepted-raw, stereo-raw}
 use borrow.Author.Needs.{needs}
 use Rattle.entropy.proofs.stereo_pair_from_entropy.Statement.{statement}
 use Rattle.entropy.proofs.stereo_pair_from_entropy.Tie as tie
@@ -17,20 +17,22 @@ returns-2 c =
     let after-expand-entropy : tie.After-expand-entropy = search needs in
     let after-enum-told : tie.After-enum-told = search needs in
     let x = after-expand-entropy .expand-entropy in
-    not-stereo-raw _ _ _ _ _ (c .no-seed2 .ensures .0) (after-enum-told .enum-told .given .1) (x .ensures .0) (x .ensures .1)
+    not-stereo-raw _ _ _ _ (c .no-seed2 .ensures .0) (after-enum-told .enum-told .given .1) (x .ensures .0)
     (sym (c .before .before .is-not-stereo .ensures) ∙ c .before .if1 .taken)
     (c .no-seed2 .ensures .1)
 
 seed-set-requires : tie.Need-seed-set-requires
 seed-set-requires c κs =
+    let after-expand-entropy : tie.After-expand-entropy = search needs in
     let after-is-not-stereo : tie.After-is-not-stereo = search needs in
-    stereo _ (sym (after-is-not-stereo .is-not-stereo .ensures) ∙ c .before .before .if1 .left) .left
+    stereo-raw _ _ (after-expand-entropy .expand-entropy .ensures .1) (sym (after-is-not-stereo .is-not-stereo .ensures) ∙ c .before .before .if1 .left) .left
 
 seed-set-requires-2 : tie.Need-seed-set-requires-2
 seed-set-requires-2 c κs =
+    let after-expand-entropy : tie.After-expand-entropy = search needs in
     let after-is-not-stereo : tie.After-is-not-stereo = search needs in
     let else1 : tie.Else1 = search needs in
-    stereo _ (sym (after-is-not-stereo .is-not-stereo .ensures) ∙ else1 .if1 .left) .right
+    stereo-raw _ _ (after-expand-entropy .expand-entropy .ensures .1) (sym (after-is-not-stereo .is-not-stereo .ensures) ∙ else1 .if1 .left) .right
 
 returns-3 : tie.Need-returns-3
 returns-3 c =
