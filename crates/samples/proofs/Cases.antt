@@ -1,5 +1,5 @@
--- Worked cases of document 01, over the definitions: the two starred inputs of `wvpair`, and the
--- fields at their caps.
+-- Worked cases over the definitions: the two starred inputs of `wvpair` and the fields at their caps
+-- (document 01), and a right set of zeros (document 02, §2).
 -- Assumes nothing.
 use mathlib.Core.Path.{_≡_, refl}
 use mathlib.Core.Bool.{Bool, true, false}
@@ -11,6 +11,7 @@ use lib.ListN.{replicate}
 use Rattle.bits.specs.Bits.{low, num, bitsOf, ones}
 use Rattle.bits.specs.Fields.{getBits, unary}
 use Rattle.bits.specs.declared.Field.the-variants.{Value, Truncated}
+use Rattle.entropy.specs.Medians.{mediansOf, zeroSet}
 use Rattle.entropy.specs.Entropy.{wordSet, entropyInfo, entropyRefusal, isMono}
 use Rattle.entropy.specs.Seed.{anyNegative, notStereo, seedRefusal, seedMedians}
 use Rattle.fields.specs.Code.{bitLength, codeOf, truncatedBinary}
@@ -58,6 +59,19 @@ refused-first = (refl, refl)
 pub no-frames : told (readEntry seeds [] 0 []) ≡ (0, 0, 0, [])
 unfolding readEntry readRefusal seedRefusal seedMedians entropyRefusal entropyInfo wordSet isMono anyNegative notStereo logWord magnitude mantissa exp2Table reading overlay bitsOf
 no-frames = refl
+
+-- document 02, §2 (Q2.3): the same frame where the right set is zero, the log words 256 256 256 0 0
+-- 0; the right medians stay 0
+pub silent-right :
+    let r = readEntry (0 ∷ 1 ∷ 0 ∷ 1 ∷ 0 ∷ 1 ∷ replicate 6 0) (126 ∷ 2 ∷ []) 1 (blank 2) in
+    (told r ≡ (0, 10, 2, pos 3 ∷ negsuc 0 ∷ [])) × (r .medians .right ≡ mediansOf zeroSet)
+unfolding readEntry readRefusal seedRefusal seedMedians entropyRefusal entropyInfo wordSet isMono anyNegative notStereo logWord magnitude mantissa exp2Table reading overlay word fresh plain value paid inRun unbroken cleared flagged after runDue adapt up down lowOf highOf prefix escaped runLength counted truncatedBinary codeOf bitLength leadingZeros getBits unary low num bitsOf ones
+silent-right = (refl, refl)
+
+-- (Q2.2): 6 bytes are refused with 2, and nothing is written
+pub six-bytes : told (readEntry (0 ∷ 1 ∷ 0 ∷ 1 ∷ 0 ∷ 1 ∷ []) (126 ∷ 2 ∷ []) 1 (blank 2)) ≡ (2, 0, 0, blank 2)
+unfolding readEntry readRefusal seedRefusal entropyRefusal notStereo isMono
+six-bytes = refl
 
 -- c ones and a zero, and 40 zeros behind them
 abbrev field : ℕ → List Bool
