@@ -48,8 +48,22 @@ fn blocks() -> Vec<Block> {
     while !file.is_empty() {
         blocks.push(take_block(&mut file).expect("valid terms and seeds"));
     }
-    assert_eq!(blocks.len(), 72);
+    assert_eq!(blocks.len(), 117);
     blocks
+}
+
+#[test]
+fn zero_right_sets_start_a_reading() -> Result<(), Refusal> {
+    let (mut zero, mut heard) = (0, 0);
+    for block in blocks() {
+        if WordState::from_entropy(&block.entropy)?.medians[1] == [0; 3] {
+            zero += 1;
+            heard += usize::from(block.samples.iter().skip(1).step_by(2).any(|&right| right != 0));
+        }
+    }
+    // Of the 45 blocks with a zero right set 27 hold right samples that are not 0.
+    assert_eq!((zero, heard), (45, 27));
+    Ok(())
 }
 
 #[test]

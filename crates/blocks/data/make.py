@@ -1,5 +1,6 @@
 #!/usr/bin/env python3
 """make.py FILE: writes the blocks that README.md beside this file describes. Needs Debian's `wavpack` 5.6.0."""
+import itertools
 import math
 import os
 import random
@@ -11,6 +12,8 @@ import wave
 
 SEED = 20261115
 MODES = ["", "-f", "-h", "-hh", "-x2", "-f -x4", "-h -x4", "-x6", "-hh -x6"]
+# In these modes the medians of a block are found from its own residuals: they are 0 where the right channel is soft.
+FOUND_ANEW = MODES[5:]
 # Flags of what the rules leave out: mono, hybrid, joint stereo, floats, wide integers, shifts, false stereo, DSD.
 LEFT_OUT = 1 << 2 | 1 << 3 | 1 << 4 | 1 << 7 | 1 << 8 | 31 << 13 | 1 << 30 | 1 << 31
 
@@ -59,7 +62,31 @@ def square(rng, i):
     return (20000 if i % 61 < 30 else -20000) + rng.gauss(0, 3), (32767 if i % 45 < 20 else -32768)
 
 
+def silence(rng, i, level):
+    return 0, 0
+
+
+def left_only(rng, i, level):
+    return tones(rng, i)[0], 0
+
+
+def lone_clicks(rng, i, level):
+    """Clicks that ring off into silence, in the right channel from frame 600 on."""
+    left, right = (math.exp(-since / 8) * math.sin(since * 1.3) for since in (i % 173, (i - 600) % 211))
+    return 12000 * left, level * right if i >= 600 else 0
+
+
+def late(rng, i, level):
+    return tones(rng, i)[0], level * (math.sin(i * 0.029 + 1) + rng.gauss(0, 0.02)) if i >= 600 else 0
+
+
+def fade_in(rng, i, level):
+    left, right = tones(rng, i)
+    return (i / 2000) ** 4 * left, (i / 2000) ** 4 * right / 5
+
+
 RECORDINGS = [tones, clicks, loud, quiet, stretches, leaning, opposed, square]
+SILENT_AT_FIRST = [silence, left_only, lone_clicks, late, fade_in]
 
 
 def encode(folder, frames, mode, block):
@@ -117,27 +144,49 @@ def record(label, frames, parts):
     return head + b"".join(made) + samples + payload
 
 
-def accepted(flags, parts):
-    """Whether the rules cover the block: nothing left out, and right medians that are not all 0 (a log word below 256 is 0)."""
-    return not flags & LEFT_OUT and 9 not in parts and any(w > 255 for w in struct.unpack("<HHH", parts[5][6:]))
+def pack(folder, frames, mode, size):
+    """The blocks that hold nothing left out, each as its samples and its sub-blocks."""
+    for first, count, flags, parts in blocks(encode(folder, frames, mode, size)):
+        if not flags & LEFT_OUT and 9 not in parts:
+            yield frames[first:first + count], parts
+
+
+def zero_right(parts):
+    """Whether the right medians are all 0 (a log word below 256 is 0)."""
+    return all(w < 256 for w in struct.unpack("<HHH", parts[5][6:]))
+
+
+def sounding(folder, rng, make, mode):
+    """The blocks of a recording whose right medians are not all 0."""
+    size = 1500 if mode == "-f" else rng.randint(200, 500)
+    start, count = rng.randint(0, 5000), size if mode in ("-f", "-h") else 2 * size
+    frames = [tuple(clip(x) for x in make(rng, start + i)) for i in range(count)]
+    return [(mine, parts) for mine, parts in pack(folder, frames, mode, size) if not zero_right(parts)]
+
+
+def silent_at_first(folder, rng, make, mode):
+    """The blocks of a recording whose right medians are all 0, with right sound in them where the recording has any."""
+    size, start, level = rng.randint(150, 300), rng.randint(0, 300), 1.2 if mode in FOUND_ANEW else 8000
+    frames = [tuple(clip(x) for x in make(rng, start + i, level)) for i in range(5 * size)]
+    heard = any(right for _, right in frames)
+    return [(mine, parts) for mine, parts in pack(folder, frames, mode, size)
+            if zero_right(parts) and any(right for _, right in mine) == heard]
 
 
 def main():
-    rng = random.Random(SEED)
-    records, terms = [], set()
+    made = []
     with tempfile.TemporaryDirectory() as folder:
-        for make in RECORDINGS:
-            for mode in MODES:
-                size = 1500 if mode == "-f" else rng.randint(200, 500)
-                start, count = rng.randint(0, 5000), size if mode in ("-f", "-h") else 2 * size
-                frames = [tuple(clip(x) for x in make(rng, start + i)) for i in range(count)]
-                found = [b for b in blocks(encode(folder, frames, mode, size)) if accepted(*b[2:])]
-                for first, n, flags, parts in found[-1:]:
-                    records.append(record(f"{make.__name__} {mode}", frames[first:first + n], parts))
-                    terms |= {(b & 31) - 5 for b in parts.get(2, b"")}
+        for find, makes, seed in (sounding, RECORDINGS, SEED), (silent_at_first, SILENT_AT_FIRST, SEED + 1):
+            rng = random.Random(seed)
+            for make, mode in itertools.product(makes, MODES):
+                found = []
+                while not found:
+                    found = find(folder, rng, make, mode)
+                made.append((f"{make.__name__} {mode}", *found[-1]))
     with open(sys.argv[1], "wb") as file:
-        file.write(b"".join(records))
-    print(len(records), "blocks, terms", sorted(terms))
+        file.write(b"".join(record(*block) for block in made))
+    terms = {(b & 31) - 5 for _, _, parts in made for b in parts.get(2, b"")}
+    print(len(made), "blocks, terms", sorted(terms))
 
 
 main()
