@@ -64,6 +64,7 @@ def main():
     pack("deep.wv", pcm(sound(128, 251), 3), (24, 2), one)
     late = [(left, right if i > 300 else 0) for i, (left, right) in enumerate(long)]
     pack("silent_right.wv", pcm(late), stereo, three, "-j0")
+    pack("silence.wv", pcm([(0, 0)] * 640), stereo, three)
     pack("mono.wv", pcm([(left,) for left, _ in short]), (16, 1), one)
     pack("hybrid.wv", pcm(short), stereo, one, "-b4")
     floats = [struct.pack("<ff", left / 32768, right / 32768) for left, right in short]
