@@ -1,5 +1,5 @@
-// Document 01, "Proved cases (*) and others" (C10): the cases that are run only, and fields through
-// a reader. Each prints a line, what it is, the refusal number (0 means accepted) and the values
+// Document 01, "Proved cases (*) and others" (C10): the cases that are run only, fields through a
+// reader, and a right set of zeros (document 02, §2: Q2.1 to Q2.3). Each prints a line, what it is, the refusal number (0 means accepted) and the values
 // that were answered. What is printed is held to the file `stdout`.
 use answers::outcome_number;
 use bit_reader::field_at;
@@ -7,7 +7,9 @@ use bits::BitAnswer;
 use decorrelation::DecorrPass;
 use decorrelation::decorrelate_array;
 use libc::STDOUT_FILENO;
+use packing::writing::encode_packed_samples_stereo_from_entropy;
 use samples::reading::decode_packed_samples_stereo_from_entropy;
+use wrapping::casts::u8_to_usize;
 
 // A number, with a space before it.
 fn print_value(value: i32) {
@@ -62,17 +64,35 @@ fn run_entropy(name: &[u8], payload: &[u8]) {
     print_values(&values);
 }
 
-// One frame of a packed payload whose seed medians are all 1: the bits used, the samples written,
-// and the list, which held 77 before.
-fn run_reading(name: &[u8], payload: &[u8]) {
-    let entropy = [0, 1, 0, 1, 0, 1, 0, 1, 0, 1, 0, 1];
+// One frame of a packed payload: the bits used, the samples written, and the list, which held 77
+// before.
+fn run_reading_from(name: &[u8], entropy: &[u8], payload: &[u8]) {
     let mut list = [77, 77];
-    let answer = decode_packed_samples_stereo_from_entropy(&entropy, payload, 1, &mut list);
+    let answer = decode_packed_samples_stereo_from_entropy(entropy, payload, 1, &mut list);
     let outcome = answer.outcome;
     print_case(name, outcome_number(outcome));
     print_count(b" bits ", answer.bits);
     print_count(b" written ", answer.written);
     print_values(&list);
+}
+
+// The same where the seed medians are all 1.
+fn run_reading(name: &[u8], payload: &[u8]) {
+    let entropy = [0, 1, 0, 1, 0, 1, 0, 1, 0, 1, 0, 1];
+    run_reading_from(name, &entropy, payload);
+}
+
+// The frame 3 -1, packed: the bits written, and the first two bytes of the buffer, which held 77
+// before.
+fn run_packing(name: &[u8], entropy: &[u8]) {
+    let mut out = [77u8; 28];
+    let answer = encode_packed_samples_stereo_from_entropy(&[3, -1], entropy, 1, &mut out);
+    let outcome = answer.outcome;
+    print_case(name, outcome_number(outcome));
+    print_count(b" bits ", answer.bits);
+    print_count(b" bytes ", u8_to_usize(out[0]));
+    print_count(b" ", u8_to_usize(out[1]));
+    io::write_all(STDOUT_FILENO, b"\n");
 }
 
 // A field of a payload, through a reader: its value and the place after it.
@@ -128,4 +148,9 @@ fn main() {
     run_field(b"9 bits at place 1", &word, 1, 9);
     run_field(b"9 bits at place 8", &word, 8, 9);
     run_field(b"33 bits at place 0", &word, 0, 33);
+    let left_only = [0, 1, 0, 1, 0, 1, 0, 0, 0, 0, 0, 0];
+    run_reading_from(b"right medians 0, read", &left_only, &word);
+    run_packing(b"right medians 0, packed", &left_only);
+    run_reading_from(b"6 entropy bytes, read", &left_only[..6], &word);
+    run_packing(b"6 entropy bytes, packed", &left_only[..6]);
 }
