@@ -15,6 +15,11 @@ pub trait Case: Clone + Debug {
     /// The refusal number on which both sides agree, or what differs.
     fn compare(&self) -> Result<u32, String>;
     fn smaller(&self) -> Smaller<'_, Self>;
+    /// Whether a right set of zeros is read or packed, which is counted apart: there the Rust's own
+    /// entries are handed the medians.
+    fn silent_right(&self) -> bool {
+        false
+    }
 }
 
 /// Simpler inputs, made one after the other.
@@ -43,18 +48,28 @@ pub fn same_list<T: PartialEq + Debug>(what: &str, ours: &[T], theirs: &[T]) -> 
     }
 }
 
-/// The run of one kind: where its inputs come from, and on how many of them both sides agreed, for
-/// each refusal number.
+/// On how many inputs both sides agreed, for each refusal number.
+type Agreed = BTreeMap<u32, u64>;
+
+/// The run of one kind: where its inputs come from, and on how many of them both sides agreed;
+/// those with a right set of zeros once more by themselves.
 pub struct Run {
     pub random: Random,
     pub scale: usize,
-    agreed: BTreeMap<u32, u64>,
+    agreed: Agreed,
+    silent_right: Agreed,
     apart: bool,
+}
+
+/// How many there are, by refusal number.
+fn counts(agreed: &Agreed) -> String {
+    let numbers: Vec<String> = agreed.iter().map(|(number, count)| format!("{number}: {count}")).collect();
+    format!("by refusal number {}", numbers.join(", "))
 }
 
 impl Run {
     pub fn new(seed: u64, scale: usize) -> Run {
-        Run { random: Random::new(seed), scale, agreed: BTreeMap::new(), apart: false }
+        Run { random: Random::new(seed), scale, agreed: Agreed::new(), silent_right: Agreed::new(), apart: false }
     }
 
     /// From now on each input is first compared in a child of its own, which shows whether a stray
@@ -63,10 +78,11 @@ impl Run {
         self.apart = true;
     }
 
-    /// How far it has come, in numbers that `go_on` takes: the state of its random numbers and how
-    /// often it agreed.
+    /// How far it has come, in numbers that `go_on` takes: the state of its random numbers, and for
+    /// each refusal number how often it agreed, in all and with a right set of zeros.
     pub fn progress(&self) -> Vec<u64> {
-        let agreed = self.agreed.iter().flat_map(|(&number, &count)| [u64::from(number), count]);
+        let silent = |number| self.silent_right.get(number).copied().unwrap_or_default();
+        let agreed = self.agreed.iter().flat_map(|(number, &count)| [u64::from(*number), count, silent(number)]);
         once(self.random.state()).chain(agreed).collect()
     }
 
@@ -76,15 +92,19 @@ impl Run {
             unreachable!("a run tells the state of its random numbers first");
         };
         self.random = Random::new(*state);
-        self.agreed = agreed.chunks_exact(2).map(|pair| (pair[0] as u32, pair[1])).collect();
+        let told = |place: usize| agreed.chunks_exact(3).map(move |told| (told[0] as u32, told[place]));
+        self.agreed = told(1).collect();
+        self.silent_right = told(2).filter(|&(_, count)| count > 0).collect();
     }
 
     /// Says on how many inputs of a kind both sides agreed, and tells how many.
     pub fn report(&self, name: &str, began: Instant) -> u64 {
-        let agreed: u64 = self.agreed.values().sum();
-        let refusals: Vec<String> = self.agreed.iter().map(|(number, count)| format!("{number}: {count}")).collect();
+        let [agreed, silent]: [u64; 2] = [&self.agreed, &self.silent_right].map(|agreed| agreed.values().sum());
         let seconds = began.elapsed().as_secs_f64();
-        println!("compare: {name}: {agreed} agree, by refusal number {} ({seconds:.1} s)", refusals.join(", "));
+        println!("compare: {name}: {agreed} agree, {} ({seconds:.1} s)", counts(&self.agreed));
+        if silent > 0 {
+            println!("compare:   of these {silent} with a right set of zeros, {}", counts(&self.silent_right));
+        }
         agreed
     }
 
@@ -103,6 +123,9 @@ impl Run {
         match case.compare() {
             Ok(refusal) => {
                 *self.agreed.entry(refusal).or_default() += 1;
+                if case.silent_right() {
+                    *self.silent_right.entry(refusal).or_default() += 1;
+                }
                 Ok(())
             }
             Err(said) => {

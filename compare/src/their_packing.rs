@@ -1,7 +1,6 @@
 //! What the published Rust packs, told as the rules (docs/PROVED.md) tell it.
-use crate::theirs::{MAX_FRAMES, read};
-use reference::entropy::expand_entropy;
-use reference::samples::{AdaptiveMedians, encode_packed_samples_stereo};
+use crate::theirs::{MAX_FRAMES, read, seeds};
+use reference::samples::encode_packed_samples_stereo;
 use wavpack_stereo::{Packed, Reading, Slots};
 
 /// Packing takes residuals from -SPAN up to but without SPAN.
@@ -18,8 +17,7 @@ pub fn pack(residuals: &[i32], entropy: &[u8], frames: usize, room: usize) -> Re
     if residuals.len() != 2 * frames {
         return Err(6);
     }
-    let info = expand_entropy(entropy).map_err(|_| 1u32)?;
-    let mut medians = AdaptiveMedians::stereo_pair_from_entropy(&info).ok_or(2u32)?;
+    let mut medians = seeds(entropy)?;
     if room < 28 * frames {
         return Err(11);
     }

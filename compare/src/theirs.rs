@@ -4,11 +4,11 @@
 //! changed medians and flags, the rules hand back the old ones (D1.4). A reading's bits and medians
 //! are those after its last accepted word.
 use reference::PackedSamples;
-use reference::entropy::expand_entropy;
+use reference::entropy::{EntropyInfo, expand_entropy};
 use reference::error::Error;
 use reference::samples::{
-    AdaptiveMedians, BitReader, RunState, StereoDecodeState, Zone, decode_packed_samples_stereo_from_entropy,
-    decode_sample_stateful_stereo, read_folded_ones_count,
+    AdaptiveMedians, BitReader, RunState, StereoDecodeState, Zone, decode_packed_samples_stereo,
+    decode_packed_samples_stereo_from_entropy, decode_sample_stateful_stereo, read_folded_ones_count,
 };
 use wavpack_stereo::{Reading, Slots, WordState};
 
@@ -94,6 +94,45 @@ pub fn word(payload: &[u8], state: &State) -> Result<Word, u32> {
     Ok(Word { sample, state, report: report.expect("an accepted word has a zone") })
 }
 
+/// What an entropy payload expands to and the medians that it seeds, or why it is refused.
+///
+/// Its length alone tells mono from stereo (Q2.1). The Rust takes a right set of zeros for mono: its
+/// own seeds are none there, and must be these everywhere else.
+fn expanded(entropy: &[u8]) -> Result<(EntropyInfo, [AdaptiveMedians; 2]), u32> {
+    let info = expand_entropy(entropy).map_err(|_| 1u32)?;
+    let sets = [info.medians_left, info.medians_right].map(AdaptiveMedians::from_seed_values);
+    let seeds = if let [Some(left), Some(right)] = sets { Some([left, right]) } else { None };
+    assert_eq!(AdaptiveMedians::stereo_pair_from_entropy(&info), seeds.filter(|_| !info.is_mono()));
+    seeds.filter(|_| entropy.len() != 6).map(|seeds| (info, seeds)).ok_or(2)
+}
+
+/// The medians that an entropy payload seeds, or why it is refused.
+pub fn seeds(entropy: &[u8]) -> Result<[AdaptiveMedians; 2], u32> {
+    expanded(entropy).map(|(_, seeds)| seeds)
+}
+
+/// Whether an entropy payload that is accepted has a right set of zeros.
+pub fn silent_right(entropy: &[u8]) -> bool {
+    seeds(entropy).is_ok_and(|[_, right]| right.values == [0; 3])
+}
+
+/// The samples of the Rust's own reading. Its entry for an entropy payload refuses a right set of
+/// zeros as mono: there the medians are handed in.
+fn whole(
+    payload: &[u8],
+    info: &EntropyInfo,
+    mut seeds: [AdaptiveMedians; 2],
+    frames: usize,
+) -> Result<Vec<i32>, Error> {
+    let payload = PackedSamples::new(payload);
+    let samples = decode_packed_samples_stereo_from_entropy(&payload, info, frames);
+    if !info.is_mono() {
+        return samples;
+    }
+    assert_eq!(samples, Err(Error::InvalidEntropyInfoForStereo));
+    decode_packed_samples_stereo(&payload, &mut seeds, frames)
+}
+
 /// A reading: its refusal number, the eight numbers of its answer, and the samples that were read.
 pub fn read(entropy: &[u8], payload: &[u8], frames: usize, length: usize) -> (u32, [u32; 8], Vec<i32>) {
     let before = |refusal| (refusal, [0; 8], Vec::new());
@@ -103,13 +142,11 @@ pub fn read(entropy: &[u8], payload: &[u8], frames: usize, length: usize) -> (u3
     if length != 2 * frames {
         return before(6);
     }
-    let Ok(info) = expand_entropy(entropy) else {
-        return before(1);
+    let (info, seeds) = match expanded(entropy) {
+        Ok(told) => told,
+        Err(refusal) => return before(refusal),
     };
-    let Some(mut medians) = AdaptiveMedians::stereo_pair_from_entropy(&info) else {
-        return before(2);
-    };
-    let (mut reader, mut flags) = (BitReader::new(payload), StereoDecodeState::new());
+    let (mut reader, mut flags, mut medians) = (BitReader::new(payload), StereoDecodeState::new(), seeds);
     let (mut refusal, mut state, mut samples) = (Ok(()), packed(0, &flags, &medians), Vec::with_capacity(length));
     while samples.len() < length && refusal.is_ok() {
         match decode_sample_stateful_stereo(&mut reader, &mut medians, &mut flags) {
@@ -120,9 +157,8 @@ pub fn read(entropy: &[u8], payload: &[u8], frames: usize, length: usize) -> (u3
             Err(error) => refusal = Err(error),
         }
     }
-    // The Rust's own entry answers the same samples, or refuses for the same reason.
-    let whole = decode_packed_samples_stereo_from_entropy(&PackedSamples::new(payload), &info, frames);
-    assert_eq!(whole, refusal.clone().map(|()| samples.clone()));
+    // The Rust's own reading answers the same samples, or refuses for the same reason.
+    assert_eq!(whole(payload, &info, seeds, frames), refusal.clone().map(|()| samples.clone()));
     let told = Reading { bits_used: state.place, medians: state.medians, written: samples.len() };
     (refusal.map_or_else(number, |()| 0), told.slots(), samples)
 }

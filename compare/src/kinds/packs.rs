@@ -1,12 +1,12 @@
 //! Packing: residuals of every loudness under every kind of entropy payload, at the ends of the
-//! span, short and largest.
+//! span, short and largest; each also with a right set of zeros.
 use crate::case::{Case, Failed, Run, Smaller, plainer, same, shorter};
 use crate::lent::Lent;
 use crate::ours;
-use crate::payloads::{entropy, entropy_of, residuals};
+use crate::payloads::{entropy, entropy_of, residuals, silent_right};
 use crate::random::Random;
 use crate::their_packing::{self, SPAN};
-use crate::theirs::MAX_FRAMES;
+use crate::theirs::{self, MAX_FRAMES};
 use std::fmt;
 
 #[derive(Clone)]
@@ -64,6 +64,10 @@ impl Case for Pack {
         let entropies = plainer(&self.entropy).map(|entropy| Pack { entropy, ..self.clone() });
         Box::new(lists.chain(plain).chain(entropies))
     }
+
+    fn silent_right(&self) -> bool {
+        theirs::silent_right(&self.entropy)
+    }
 }
 
 /// All of a list, with just the room that it needs.
@@ -87,35 +91,48 @@ pub fn list(random: &mut Random, count: usize) -> Vec<i32> {
     out
 }
 
-pub fn run(run: &mut Run) -> Result<(), Failed> {
-    for _ in 0..100_000 * run.scale {
-        let random = &mut run.random;
-        let frames = random.below(30);
-        let mut case = whole_pack(list(random, 2 * frames), entropy(random));
-        match random.below(40) {
-            0 => case.entropy.truncate(random.below(13)),
-            1 => case.residuals.truncate(random.below(60)),
-            2 => case.room = random.below(28 * frames + 40),
-            3 => case.slots = random.below(10),
-            4 if frames > 0 => {
-                case.residuals[random.below(2 * frames)] = random.pick(&[SPAN, -SPAN - 1, i32::MAX, i32::MIN])
-            }
-            5 => case.frames = random.pick(&[frames + 1, MAX_FRAMES + 1, usize::MAX]),
-            6 => case.room += random.below(40),
-            _ => {}
+/// A packing, at times with one thing that is refused.
+fn random_pack(random: &mut Random, entropy: fn(&mut Random) -> Vec<u8>) -> Pack {
+    let frames = random.below(30);
+    let mut case = whole_pack(list(random, 2 * frames), entropy(random));
+    match random.below(40) {
+        0 => case.entropy.truncate(random.below(13)),
+        1 => case.residuals.truncate(random.below(60)),
+        2 => case.room = random.below(28 * frames + 40),
+        3 => case.slots = random.below(10),
+        4 if frames > 0 => {
+            case.residuals[random.below(2 * frames)] = random.pick(&[SPAN, -SPAN - 1, i32::MAX, i32::MIN])
         }
-        run.agree(case)?;
+        5 => case.frames = random.pick(&[frames + 1, MAX_FRAMES + 1, usize::MAX]),
+        6 => case.room += random.below(40),
+        _ => {}
     }
-    largest(run)
+    case
+}
+
+pub fn run(run: &mut Run) -> Result<(), Failed> {
+    for (entropy, rounds) in [(entropy as fn(&mut Random) -> Vec<u8>, 100_000), (silent_right, 50_000)] {
+        for _ in 0..rounds * run.scale {
+            let case = random_pack(&mut run.random, entropy);
+            run.agree(case)?;
+        }
+    }
+    largest(run, [1500, 1400, 1300, 1600, 1500, 1400])?;
+    largest(run, [1500, 1400, 1300, 0, 0, 0])?;
+    // The widest words.
+    for words in [[0, 0, 0, 256, 0, 0], [0; 6]] {
+        run.agree(whole_pack([SPAN - 1, -SPAN].repeat(MAX_FRAMES), entropy_of(words)))?;
+    }
+    Ok(())
 }
 
 /// 131,072 frames, and one more.
-fn largest(run: &mut Run) -> Result<(), Failed> {
-    let entropy = entropy_of([1500, 1400, 1300, 1600, 1500, 1400]);
+fn largest(run: &mut Run, words: [i16; 6]) -> Result<(), Failed> {
+    let entropy = entropy_of(words);
     for bits in [0, 1, 4, 12, 24, 30] {
         let values = residuals(&mut run.random, 2 * MAX_FRAMES, bits, 500);
         run.agree(whole_pack(values.clone(), entropy.clone()))?;
         run.agree(whole_pack([values, vec![1, 2]].concat(), entropy.clone()))?;
     }
-    run.agree(whole_pack([SPAN - 1, -SPAN].repeat(MAX_FRAMES), entropy_of([0, 0, 0, 256, 0, 0])))
+    Ok(())
 }

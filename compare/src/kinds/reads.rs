@@ -1,13 +1,13 @@
 //! Whole readings: every payload of up to 2 bytes, random, damaged and cut payloads, and the
-//! largest sizes.
+//! largest sizes; each also with a right set of zeros.
 use crate::case::{Case, Failed, Run, Smaller, plainer, same, shorter};
 use crate::fields;
 use crate::lent::Lent;
 use crate::ours;
-use crate::payloads::{encoded, entropy, entropy_of, residuals};
+use crate::payloads::{encoded, entropy, entropy_of, residuals, silent_right};
+use crate::random::Random;
 use crate::theirs::{self, MAX_BYTES, MAX_FRAMES};
-use reference::entropy::expand_entropy;
-use reference::samples::encode_packed_samples_stereo_from_entropy;
+use reference::samples::encode_packed_samples_stereo;
 use std::fmt;
 
 #[derive(Clone)]
@@ -58,16 +58,32 @@ impl Case for Read {
         let entropies = plainer(&self.entropy).map(|entropy| Read { entropy, ..self.clone() });
         Box::new(frames.chain(payloads).chain(entropies))
     }
+
+    fn silent_right(&self) -> bool {
+        theirs::silent_right(&self.entropy)
+    }
 }
 
 fn agree_on(run: &mut Run, entropy: &[u8], payload: Vec<u8>, frames: usize) -> Result<(), Failed> {
     run.agree(Read { entropy: entropy.to_vec(), payload, frames, length: 2 * frames, slots: 8 })
 }
 
+/// Six words of each kind: small, middling, largest, and with a right set of zeros.
+const WORDS: [[i16; 6]; 9] = [
+    [0, 0, 0, 256, 0, 0],
+    [256; 6],
+    [0, 0, 0, 0, 0, 300],
+    [1000, 900, 800, 1100, 1000, 900],
+    [8191; 6],
+    [0; 6],
+    [256, 256, 256, 0, 0, 0],
+    [1000, 900, 800, 255, -255, 8448],
+    [8191, 8191, 8191, 0, 0, 0],
+];
+
 /// Every payload of up to two bytes.
 fn short_payloads(run: &mut Run) -> Result<(), Failed> {
-    for words in [[0, 0, 0, 256, 0, 0], [256; 6], [0, 0, 0, 0, 0, 300], [1000, 900, 800, 1100, 1000, 900], [8191; 6]] {
-        let entropy = entropy_of(words);
+    for entropy in WORDS.map(entropy_of) {
         for both in 0..=u16::MAX {
             agree_on(run, &entropy, both.to_le_bytes().to_vec(), 3)?;
             if both < 256 {
@@ -78,30 +94,40 @@ fn short_payloads(run: &mut Run) -> Result<(), Failed> {
     Ok(())
 }
 
+/// A reading of a payload that was encoded, or of fields; at times the lists have other lengths.
+fn random_read(random: &mut Random, mut entropy: Vec<u8>, is_encoded: bool) -> Read {
+    let (frames, length) = (random.below(24), random.below(60));
+    let payload = if is_encoded { encoded(random, &entropy, frames) } else { None };
+    let payload = payload.unwrap_or_else(|| fields::payload(random, length));
+    if random.once_in(16) {
+        entropy.truncate(random.below(13));
+    }
+    let length = if random.once_in(16) { random.below(60) } else { 2 * frames };
+    let slots = if random.once_in(16) { random.below(11) } else { 8 };
+    Read { entropy, payload, frames, length, slots }
+}
+
 pub fn run(run: &mut Run) -> Result<(), Failed> {
     short_payloads(run)?;
-    for round in 0..100_000 * run.scale {
-        let random = &mut run.random;
-        let (mut entropy, frames, length) = (entropy(random), random.below(24), random.below(60));
-        let payload = if round % 2 == 0 { encoded(random, &entropy, frames) } else { None };
-        let payload = payload.unwrap_or_else(|| fields::payload(random, length));
-        if random.once_in(16) {
-            entropy.truncate(random.below(13));
+    for (make, rounds) in [(entropy as fn(&mut Random) -> Vec<u8>, 100_000), (silent_right, 50_000)] {
+        for round in 0..rounds * run.scale {
+            let entropy = make(&mut run.random);
+            let case = random_read(&mut run.random, entropy, round % 2 == 0);
+            run.agree(case)?;
         }
-        let length = if random.once_in(16) { random.below(60) } else { 2 * frames };
-        let slots = if random.once_in(16) { random.below(11) } else { 8 };
-        run.agree(Read { entropy, payload, frames, length, slots })?;
     }
-    largest(run)
+    largest(run, [1500, 1400, 1300, 1600, 1500, 1400])?;
+    largest(run, [1500, 1400, 1300, 0, 0, 0])?;
+    largest(run, [0; 6])
 }
 
 /// Frames and bytes at their limits and one above.
-fn largest(run: &mut Run) -> Result<(), Failed> {
-    let entropy = entropy_of([1500, 1400, 1300, 1600, 1500, 1400]);
+fn largest(run: &mut Run, words: [i16; 6]) -> Result<(), Failed> {
+    let entropy = entropy_of(words);
     for bits in [0, 1, 4, 12, 24, 31] {
-        let info = expand_entropy(&entropy).unwrap();
         let values = residuals(&mut run.random, 2 * MAX_FRAMES, bits, 500);
-        let payload = encode_packed_samples_stereo_from_entropy(&values, &info).unwrap();
+        let mut seeds = theirs::seeds(&entropy).expect("it is accepted");
+        let payload = encode_packed_samples_stereo(&values, &mut seeds).unwrap();
         agree_on(run, &entropy, payload.clone(), MAX_FRAMES)?;
         agree_on(run, &entropy, payload, MAX_FRAMES + 1)?;
     }

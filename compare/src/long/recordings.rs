@@ -1,7 +1,7 @@
 //! What damage starts from: recordings as the library packs them, loud, quiet, with clicks, silent
-//! and mixed.
+//! and mixed; one in four with a right set of zeros.
 use crate::kinds::packs;
-use crate::payloads::{entropy, residuals};
+use crate::payloads::{entropy, residuals, silent_right};
 use crate::random::Random;
 use crate::their_packing::SPAN;
 use crate::theirs::{MAX_FRAMES, State};
@@ -49,7 +49,8 @@ fn walk(payload: &[u8], mut state: WordState, words: usize) -> Vec<State> {
 
 fn recording(random: &mut Random, frames: usize) -> Recording {
     loop {
-        let (entropy, residuals) = (entropy(random), sound(random, 2 * frames));
+        let entropy = if random.once_in(4) { silent_right(random) } else { entropy(random) };
+        let residuals = sound(random, 2 * frames);
         debug_assert!(residuals.iter().all(|residual| (-SPAN..SPAN).contains(residual)));
         let mut payload = vec![0; BYTES_PER_FRAME * frames];
         // An entropy payload that is not taken makes no recording; there is always another.

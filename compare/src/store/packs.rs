@@ -6,11 +6,12 @@ use crate::random::Random;
 use crate::their_packing;
 
 /// Packings: frames, 12 entropy bytes, 16 residuals, refusal, answer, the packed bytes in room for
-/// eight frames.
+/// eight frames. The last 100 have a right set of zeros.
 pub fn packs() -> Records {
     let (random, mut out) = (&mut Random::new(SEED), Records::default());
-    for round in 0..300 {
-        let (entropy, frames) = (payloads::entropy(random), random.below(9));
+    for round in 0..400 {
+        let entropy = if round < 300 { payloads::entropy(random) } else { payloads::silent_right(random) };
+        let frames = random.below(9);
         let mut residuals = packs::list(random, 2 * frames);
         if round % 32 == 0 && frames > 0 {
             residuals[random.below(2 * frames)] = their_packing::SPAN;

@@ -30,11 +30,12 @@ pub fn words() -> Records {
 }
 
 /// Readings: payload length, frames, 12 entropy bytes, 48 payload bytes, refusal, answer, 32
-/// samples.
+/// samples. The last 100 have a right set of zeros.
 pub fn readings() -> Records {
     let (random, mut out) = (&mut Random::new(SEED), Records::default());
-    for round in 0..400 {
-        let (entropy, frames, length) = (payloads::entropy(random), random.below(17), random.below(49));
+    for round in 0..500 {
+        let entropy = if round < 400 { payloads::entropy(random) } else { payloads::silent_right(random) };
+        let (frames, length) = (random.below(17), random.below(49));
         let payload = if round % 2 == 0 { payloads::encoded(random, &entropy, frames) } else { None };
         let mut payload = payload.unwrap_or_else(|| fields::payload(random, length));
         payload.truncate(48);
