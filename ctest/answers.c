@@ -1,15 +1,12 @@
 /* Calls the library from C, through its header, and checks answers that follow from the rules of
    docs/PROVED.md. Prints each answer that is not the expected one; the exit status is 0 when there
-   is none. */
-#include <stddef.h>
-#include <stdint.h>
+   is none. Sound files are in waves.c. */
 #include <stdio.h>
-#include <string.h>
-#include "wavpack_stereo.h"
+#include "answers.h"
 
 static int failures;
 
-static void expect(const char *what, long long got, long long wanted)
+void expect(const char *what, long long got, long long wanted)
 {
     if (got != wanted) {
         printf("ctest: %s is %lld, not %lld\n", what, got, wanted);
@@ -17,7 +14,7 @@ static void expect(const char *what, long long got, long long wanted)
     }
 }
 
-static void expect_list(const char *what, const int32_t *got, const int32_t *wanted, size_t count)
+void expect_list(const char *what, const int32_t *got, const int32_t *wanted, size_t count)
 {
     for (size_t i = 0; i < count; i++) {
         char place[64];
@@ -137,96 +134,26 @@ static void packing(void)
     expect("wv_pack into 27 bytes", wv_pack(residuals, 2, ones, 12, 1, out, 27, answer, 7), 11);
 }
 
-/* A sound file of one frame, 3 and -1, at 44,100 frames a second. */
-static const uint8_t sound[48] = {
-    'R', 'I', 'F', 'F', 40, 0, 0, 0, 'W', 'A', 'V', 'E', 'f', 'm', 't', ' ', 16, 0, 0, 0, 1, 0, 2, 0,
-    0x44, 0xac, 0, 0, 0x10, 0xb1, 2, 0, 4, 0, 16, 0, 'd', 'a', 't', 'a', 4, 0, 0, 0, 3, 0, 0xff, 0xff};
-
-/* The largest sound file and its samples, and one more of each. */
-enum { MOST_SAMPLES = 262144, MOST_BYTES = 524332 };
-static int32_t many[MOST_SAMPLES + 1];
-static uint8_t file[MOST_BYTES + 1];
-
-static void exporting(void)
+/* A right set of zeros is read and packed as any other; a negative median in it is not, nor are 6 bytes. */
+static void silent_right(void)
 {
-    uint32_t answer[2] = {77, 77};
-    file[48] = 77;
-    expect("wv_wave_export", wv_wave_export(44100, (const int32_t[]){3, -1}, 2, file, 49, answer, 1), 0);
-    for (size_t i = 0; i < 48; i++)
-        expect("a byte of a sound file", file[i], sound[i]);
-    expect("the byte behind a sound file", file[48], 77);
-    expect("the bytes of a sound file", answer[0], 48);
-    expect("the number behind them", answer[1], 77);
-    expect("wv_wave_export of no frames", wv_wave_export(1, many, 0, file, 44, answer, 1), 0);
-    expect("the bytes of no frames", answer[0], 44);
-    many[0] = 32767;
-    many[1] = -32768;
-    expect("wv_wave_export of all frames", wv_wave_export(192000, many, MOST_SAMPLES, file, MOST_BYTES, answer, 1), 0);
-    expect("the bytes of all frames", answer[0], MOST_BYTES);
-    many[0] = many[1] = 0;
-    expect("wv_wave_import of all frames", wv_wave_import(file, MOST_BYTES, many, MOST_SAMPLES, answer, 2), 0);
-    expect("the rate of all frames", answer[0], 192000);
-    expect("the samples of all frames", answer[1], MOST_SAMPLES);
-    expect_list("the first frame", many, (const int32_t[]){32767, -32768}, 2);
-}
-
-/* A row has the faults of the rows below it too, so that the order of the tests shows. */
-static void refused_exports(void)
-{
-    static const struct { size_t slots, samples, bytes; uint32_t rate, refusal; } rows[8] = {
-        {0, MOST_SAMPLES + 1, 47, 0, 6}, {1, MOST_SAMPLES + 1, 47, 0, 5}, {1, MOST_SAMPLES - 1, 47, 0, 6}, {1, 3, 47, 0, 6},
-        {1, 2, 47, 0, 11}, {1, 2, 48, 0, 14}, {1, 2, 48, 192001, 14}, {1, 2, 48, 192000, 13}};
-    static const int32_t outside[2] = {32768, -32769};
-    uint32_t answer[1] = {77};
-    memset(file, 77, 48);
-    for (size_t i = 0; i < 16; i++) {
-        many[1] = outside[i % 2];
-        uint32_t refusal = wv_wave_export(rows[i / 2].rate, many, rows[i / 2].samples, file, rows[i / 2].bytes, answer,
-                                          rows[i / 2].slots);
-        expect("wv_wave_export of a row", refusal, rows[i / 2].refusal);
-    }
-    for (size_t i = 0; i < 48; i++)
-        expect("a byte after a refusal", file[i], 77);
-    expect("the answer after a refusal", answer[0], 77);
-}
-
-static void importing(void)
-{
-    int32_t samples[3] = {77, 77, 77};
-    uint32_t answer[3] = {77, 77, 77};
-    expect("wv_wave_import", wv_wave_import(sound, 48, samples, 3, answer, 2), 0);
-    expect_list("samples of a sound file", samples, (const int32_t[]){3, -1, 77}, 3);
-    expect("the rate of a sound file", answer[0], 44100);
-    expect("the samples of a sound file", answer[1], 2);
-    expect("the number behind them", answer[2], 77);
-}
-
-static void refused_imports(void)
-{
-    int32_t samples[2] = {77, 77};
-    uint32_t answer[2] = {77, 77};
-    memcpy(file, sound, 48);
-    expect("wv_wave_import into one slot", wv_wave_import(file, MOST_BYTES + 1, samples, 1, answer, 1), 6);
-    expect("wv_wave_import of a long file", wv_wave_import(file, MOST_BYTES + 1, samples, 1, answer, 2), 5);
-    expect("wv_wave_import of other lengths", wv_wave_import(file, MOST_BYTES, samples, 1, answer, 2), 14);
-    for (size_t length = 0; length < 53; length++)
-        expect("wv_wave_import of another length", wv_wave_import(file, length, samples, 1, answer, 2), length == 48 ? 11 : 14);
-    for (size_t i = 0; i < 44; i++) {
-        file[i] ^= 1;
-        expect("wv_wave_import of another header", wv_wave_import(file, 48, samples, 1, answer, 2), 14);
-        file[i] ^= 1;
-    }
-    memcpy(file + 24, (const uint8_t[]){0x01, 0xee, 2, 0, 0x04, 0xb8, 0x0b, 0}, 8);
-    expect("wv_wave_import at 192,001", wv_wave_import(file, 48, samples, 1, answer, 2), 14);
-    memset(file + 24, 0, 8);
-    expect("wv_wave_import at 0", wv_wave_import(file, 48, samples, 1, answer, 2), 14);
-    memcpy(file, sound, 48);
-    file[4] = 38;
-    file[40] = 2;
-    expect("wv_wave_import of half a frame", wv_wave_import(file, 46, samples, 1, answer, 2), 14);
+    static const uint8_t left_only[12] = {0, 1, 0, 1, 0, 1}, silence[12] = {0}, negative[12] = {0, 1, 0, 1, 0, 1, 0, 0, 0, 0, 0, 0xff};
+    int32_t samples[4] = {77, 77, 77, 77};
+    uint8_t out[28] = {0};
+    uint32_t answer[8];
+    expect("wv_read of a negative right median", wv_read(negative, 12, payload, 2, 1, samples, 2, answer, 8), 2);
     expect_list("samples after a refusal", samples, (const int32_t[]){77, 77}, 2);
-    expect("the rate after a refusal", answer[0], 77);
-    expect("the samples after a refusal", answer[1], 77);
+    expect("wv_read of a silent right", wv_read(left_only, 12, payload, 2, 1, samples, 2, answer, 8), 0);
+    expect_list("samples of a silent right", samples, (const int32_t[]){3, -1, 77}, 3);
+    expect("the bits of a silent right", answer[0], 10);
+    expect("a right median after it", answer[4], 0);
+    expect("wv_pack of a silent right", wv_pack(samples, 2, left_only, 12, 1, out, 28, answer, 7), 0);
+    expect("a packed byte", out[0], 0x7e);
+    expect("a packed byte", out[1], 0x02);
+    expect("wv_pack of a mono payload", wv_pack(samples, 2, left_only, 6, 1, out, 28, answer, 7), 2);
+    expect("wv_read of silence", wv_read(silence, 12, (const uint8_t[]){7}, 1, 2, samples, 4, answer, 8), 0);
+    expect_list("samples of silence", samples, (const int32_t[]){0, 0, 0, 0}, 4);
+    expect("the bits of silence", answer[0], 6);
 }
 
 int main(void)
@@ -238,10 +165,8 @@ int main(void)
     reading();
     passes();
     packing();
-    exporting();
-    refused_exports();
-    importing();
-    refused_imports();
+    silent_right();
+    sound_files();
     if (failures == 0)
         puts("ctest: every answer is the expected one");
     return failures != 0;

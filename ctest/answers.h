@@ -1,0 +1,16 @@
+/* What the files of this program share. */
+#ifndef ANSWERS_H
+#define ANSWERS_H
+
+#include <stddef.h>
+#include <stdint.h>
+#include "wavpack_stereo.h"
+
+/* Says so where a number is not the expected one. */
+void expect(const char *what, long long got, long long wanted);
+void expect_list(const char *what, const int32_t *got, const int32_t *wanted, size_t count);
+
+/* Checks the two calls of sound files. */
+void sound_files(void);
+
+#endif
