@@ -30,7 +30,7 @@ extern "C" {
 #define WV_ACCEPTED 0u
 /* the entropy payload is neither 6 nor 12 bytes long */
 #define WV_ENTROPY_LENGTH 1u
-/* the entropy payload is mono (a zero right set counts as mono) or holds a negative median */
+/* the entropy payload is mono (6 bytes) or holds a negative median */
 #define WV_NOT_STEREO 2u
 /* a bit past the end is needed, or a count or a prefix value is over its cap */
 #define WV_TRUNCATED 3u
@@ -92,7 +92,8 @@ uint32_t wv_weight_byte(uint8_t byte, int32_t *out, size_t out_len);
 uint32_t wv_entropy(const uint8_t *entropy, size_t entropy_len, int32_t *medians, size_t medians_len);
 
 /* Reads the packed payload of a stereo block: `frames` frames, left then right, into samples, which
- * has 2 times frames elements.
+ * has 2 times frames elements. An entropy payload of 12 bytes is stereo whatever it holds: three right
+ * medians of 0 are a right channel that starts silent.
  * answer: bits used, left medians 0, 1, 2, right medians 0, 1, 2 after the last word, samples
  *   written.
  * Refuses WV_LIST_LENGTH for answer, with nothing written.

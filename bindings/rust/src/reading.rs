@@ -46,6 +46,9 @@ impl From<ReadError> for Refusal {
 /// Reads the packed payload of a stereo block: `frames` frames, left then right, into `samples`,
 /// which has 2 times `frames` elements.
 ///
+/// An entropy payload of 12 bytes is stereo whatever it holds: three right medians of 0 are a right
+/// channel that starts silent.
+///
 /// Refuses [`Refusal::TooLarge`], [`Refusal::ListLength`], [`Refusal::EntropyLength`] and
 /// [`Refusal::NotStereo`], with `samples` as it was; then, in a word, [`Refusal::Truncated`] or
 /// [`Refusal::EndOfStream`], with the samples of the words before it in `samples` and, behind them,
@@ -57,6 +60,10 @@ impl From<ReadError> for Refusal {
 /// let mut samples = [0; 2];
 /// let reading = read(&entropy, &[0x7e, 0x02], 1, &mut samples)?;
 /// assert_eq!((samples, reading.bits_used), ([3, -1], 10));
+///
+/// let left_only = [0, 1, 0, 1, 0, 1, 0, 0, 0, 0, 0, 0];
+/// let reading = read(&left_only, &[0x7e, 0x02], 1, &mut samples)?;
+/// assert_eq!((samples, reading.medians), ([3, -1], [[6; 3], [0; 3]]));
 ///
 /// let mut samples = [77; 8];
 /// let error = read(&entropy, &[0x7e, 0x02], 4, &mut samples).unwrap_err();

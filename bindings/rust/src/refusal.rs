@@ -59,7 +59,7 @@ macro_rules! refusals {
 
 refusals! {
     1 EntropyLength "the entropy payload is neither 6 nor 12 bytes long",
-    2 NotStereo "the entropy payload is mono (a zero right set counts as mono) or holds a negative median",
+    2 NotStereo "the entropy payload is mono (6 bytes) or holds a negative median",
     3 Truncated "a bit past the end is needed, or a count or a prefix value is over its cap",
     4 EndOfStream "end of stream: the second count of a prefix is 33",
     5 TooLarge "over 131,072 frames, 262,144 elements, 4,194,304 payload bytes or 524,332 bytes of a sound file",

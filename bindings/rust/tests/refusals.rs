@@ -30,6 +30,24 @@ fn readings() {
 }
 
 #[test]
+fn a_silent_right_stem_is_read_and_packed() -> Result<(), Refusal> {
+    let left_only = [0, 1, 0, 1, 0, 1, 0, 0, 0, 0, 0, 0];
+    let (mut samples, mut out) = ([77; 2], [77; 28]);
+    let reading = read(&left_only, &PAYLOAD, 1, &mut samples)?;
+    assert_eq!((samples, reading.bits_used, reading.medians), ([3, -1], 10, [[6; 3], [0; 3]]));
+    assert_eq!(pack(&samples, &left_only, 1, &mut out)?.medians, reading.medians);
+    assert_eq!(out[..3], [0x7e, 0x02, 77]);
+    assert_eq!(WordState::from_entropy(&[0; 12])?, WordState::default());
+    // A negative median is refused in either set.
+    for word in [4, 10] {
+        let mut negative = left_only;
+        negative[word + 1] = 0xff;
+        assert_eq!(unread(&negative, &PAYLOAD, 1, 2), Refusal::NotStereo);
+    }
+    Ok(())
+}
+
+#[test]
 fn a_word_ends_a_reading() {
     let mut samples = [77; 2];
     let error = read(&ONES, &[0x7e], 1, &mut samples).unwrap_err();
