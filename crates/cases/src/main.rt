@@ -8,6 +8,7 @@ use decorrelation::DecorrPass;
 use decorrelation::decorrelate_array;
 use libc::STDOUT_FILENO;
 use packing::writing::encode_packed_samples_stereo_from_entropy;
+use roundtrip::round_trip;
 use samples::reading::decode_packed_samples_stereo_from_entropy;
 use wrapping::casts::u8_to_usize;
 
@@ -109,22 +110,46 @@ fn run_field(name: &[u8], payload: &[u8], place: usize, count: u32) {
     io::write_all(STDOUT_FILENO, b"\n");
 }
 
-// Decorrelation of two frames by `count` passes that are all alike, and the buffer after it.
-fn run_passes(name: &[u8], count: usize) {
-    let pass = DecorrPass {
+// The pass of which every list here is made.
+fn some_pass() -> DecorrPass {
+    DecorrPass {
         term: 17,
         delta: 2,
         weight_a: 256,
         weight_b: -256,
         history_a: [0i32; 8],
         history_b: [0i32; 8],
-    };
+    }
+}
+
+// Decorrelation of two frames by `count` passes that are all alike, and the buffer after it.
+fn run_passes(name: &[u8], count: usize) {
+    let pass = some_pass();
     let passes = [pass; 16];
     let mut buffer = [1000, -1000, 100, 50];
     let answer = decorrelate_array(passes, count, &mut buffer);
     let outcome = answer.outcome;
     print_case(name, outcome_number(outcome));
     print_values(&buffer);
+}
+
+// Two frames analysed by one pass, packed, read and decorrelated: the bits, and whether they came
+// back.
+fn run_trip(name: &[u8], entropy: &[u8]) {
+    let pass = some_pass();
+    let passes = [pass; 16];
+    let mut scratch = [0i32; 4];
+    let mut packed = [0u8; 56];
+    let recording = [1000, -1000, 100, 50];
+    let answer = round_trip(passes, 1, &recording, entropy, &mut scratch, &mut packed);
+    let outcome = answer.outcome;
+    print_case(name, outcome_number(outcome));
+    print_count(b" bits ", answer.bits);
+    if answer.same {
+        io::write_all(STDOUT_FILENO, b" came back\n");
+    } else {
+        io::write_all(STDOUT_FILENO, b" did not come back\n");
+    }
 }
 
 fn main() {
@@ -151,6 +176,7 @@ fn main() {
     let left_only = [0, 1, 0, 1, 0, 1, 0, 0, 0, 0, 0, 0];
     run_reading_from(b"right medians 0, read", &left_only, &word);
     run_packing(b"right medians 0, packed", &left_only);
+    run_trip(b"right medians 0, round trip", &left_only);
     run_reading_from(b"6 entropy bytes, read", &left_only[..6], &word);
     run_packing(b"6 entropy bytes, packed", &left_only[..6]);
 }
