@@ -15,7 +15,7 @@ pub trait Case: Clone + Debug {
     /// The refusal number on which both sides agree, or what differs.
     fn compare(&self) -> Result<u32, String>;
     fn smaller(&self) -> Smaller<'_, Self>;
-    /// Whether a right set of zeros is read or packed, which is counted apart: there the Rust's own
+    /// Whether a zero right set is read or packed, which is counted apart: there the Rust's own
     /// entries are handed the medians.
     fn silent_right(&self) -> bool {
         false
@@ -52,7 +52,7 @@ pub fn same_list<T: PartialEq + Debug>(what: &str, ours: &[T], theirs: &[T]) -> 
 type Agreed = BTreeMap<u32, u64>;
 
 /// The run of one kind: where its inputs come from, and on how many of them both sides agreed;
-/// those with a right set of zeros once more by themselves.
+/// those with a zero right set once more by themselves.
 pub struct Run {
     pub random: Random,
     pub scale: usize,
@@ -79,7 +79,7 @@ impl Run {
     }
 
     /// How far it has come, in numbers that `go_on` takes: the state of its random numbers, and for
-    /// each refusal number how often it agreed, in all and with a right set of zeros.
+    /// each refusal number how often it agreed, in all and with a zero right set.
     pub fn progress(&self) -> Vec<u64> {
         let silent = |number| self.silent_right.get(number).copied().unwrap_or_default();
         let agreed = self.agreed.iter().flat_map(|(number, &count)| [u64::from(*number), count, silent(number)]);
@@ -103,7 +103,7 @@ impl Run {
         let seconds = began.elapsed().as_secs_f64();
         println!("compare: {name}: {agreed} agree, {} ({seconds:.1} s)", counts(&self.agreed));
         if silent > 0 {
-            println!("compare:   of these {silent} with a right set of zeros, {}", counts(&self.silent_right));
+            println!("compare:   of these {silent} with a zero right set, {}", counts(&self.silent_right));
         }
         agreed
     }

@@ -96,7 +96,7 @@ pub fn word(payload: &[u8], state: &State) -> Result<Word, u32> {
 
 /// What an entropy payload expands to and the medians that it seeds, or why it is refused.
 ///
-/// Its length alone tells mono from stereo (Q2.1). The Rust takes a right set of zeros for mono: its
+/// Its length alone tells mono from stereo (Q2.1). The Rust takes a zero right set for mono: its
 /// own seeds are none there, and must be these everywhere else.
 fn expanded(entropy: &[u8]) -> Result<(EntropyInfo, [AdaptiveMedians; 2]), u32> {
     let info = expand_entropy(entropy).map_err(|_| 1u32)?;
@@ -111,13 +111,13 @@ pub fn seeds(entropy: &[u8]) -> Result<[AdaptiveMedians; 2], u32> {
     expanded(entropy).map(|(_, seeds)| seeds)
 }
 
-/// Whether an entropy payload that is accepted has a right set of zeros.
+/// Whether an entropy payload that is accepted has a zero right set.
 pub fn silent_right(entropy: &[u8]) -> bool {
     seeds(entropy).is_ok_and(|[_, right]| right.values == [0; 3])
 }
 
-/// The samples of the Rust's own reading. Its entry for an entropy payload refuses a right set of
-/// zeros as mono: there the medians are handed in.
+/// The samples of the Rust's own reading. Its entry for an entropy payload refuses a zero right set
+/// as mono: there the medians are handed in.
 fn whole(
     payload: &[u8],
     info: &EntropyInfo,

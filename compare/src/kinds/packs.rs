@@ -1,5 +1,5 @@
 //! Packing: residuals of every loudness under every kind of entropy payload, at the ends of the
-//! span, short and largest; each also with a right set of zeros.
+//! span, short and largest; each also with a zero right set.
 use crate::case::{Case, Failed, Run, Smaller, plainer, same, shorter};
 use crate::lent::Lent;
 use crate::ours;

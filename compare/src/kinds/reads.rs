@@ -1,5 +1,5 @@
 //! Whole readings: every payload of up to 2 bytes, random, damaged and cut payloads, and the
-//! largest sizes; each also with a right set of zeros.
+//! largest sizes; each also with a zero right set.
 use crate::case::{Case, Failed, Run, Smaller, plainer, same, shorter};
 use crate::fields;
 use crate::lent::Lent;
@@ -68,7 +68,7 @@ fn agree_on(run: &mut Run, entropy: &[u8], payload: Vec<u8>, frames: usize) -> R
     run.agree(Read { entropy: entropy.to_vec(), payload, frames, length: 2 * frames, slots: 8 })
 }
 
-/// Six words of each kind: small, middling, largest, and with a right set of zeros.
+/// Six words of each kind: small, middling, largest, and with a zero right set.
 const WORDS: [[i16; 6]; 9] = [
     [0, 0, 0, 256, 0, 0],
     [256; 6],

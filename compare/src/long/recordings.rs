@@ -1,5 +1,5 @@
 //! What damage starts from: recordings as the library packs them, loud, quiet, with clicks, silent
-//! and mixed; one in four with a right set of zeros.
+//! and mixed; one in four with a zero right set.
 use crate::kinds::packs;
 use crate::payloads::{entropy, residuals, silent_right};
 use crate::random::Random;

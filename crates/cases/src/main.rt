@@ -1,6 +1,7 @@
 // Document 01, "Proved cases (*) and others" (C10): the cases that are run only, fields through a
-// reader, and a right set of zeros (document 02, §2: Q2.1 to Q2.3). Each prints a line, what it is, the refusal number (0 means accepted) and the values
-// that were answered. What is printed is held to the file `stdout`.
+// reader, and a zero right set (document 02, §2: Q2.1 to Q2.3). Each prints a line, what it is, the
+// refusal number (0 means accepted) and the values that were answered. What is printed is held to
+// the file `stdout`.
 use answers::outcome_number;
 use bit_reader::field_at;
 use bits::BitAnswer;

@@ -37,7 +37,7 @@ pub struct MedianAnswer {
     pub medians: [AdaptiveMedians; 2],
 }
 
-// Whether an entropy payload is mono. Its length alone tells: a right set of zeros is a right set.
+// Whether an entropy payload is mono. Its length alone tells: a zero right set is a right set.
 fn is_mono(payload: &[u8]) -> bool
     ensures { λ r. ⌜ r ≡ isMono (now (payload .entry)) ⌝ }
 {

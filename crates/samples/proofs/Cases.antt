@@ -1,5 +1,5 @@
 -- Worked cases over the definitions: the two starred inputs of `wvpair` and the fields at their caps
--- (document 01), and a right set of zeros (document 02, §2).
+-- (document 01), and a zero right set (document 02, §2).
 -- Assumes nothing.
 use mathlib.Core.Path.{_≡_, refl}
 use mathlib.Core.Bool.{Bool, true, false}
