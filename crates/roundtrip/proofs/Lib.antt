@@ -5,3 +5,4 @@ pub mod WordTrips
 pub mod ReadTrips
 pub mod TripLaws
 pub mod DemandLaws
+pub mod SilentLaws

@@ -1,2 +1,3 @@
 pub mod Demand
 pub mod Trip
+pub mod Silent
