@@ -62,16 +62,16 @@ no-frames = refl
 
 -- document 02, §2 (Q2.3): the same frame where the right set is zero, the log words 256 256 256 0 0
 -- 0; the right medians stay 0
-pub silent-right :
+pub silent-right-read :
     let r = readEntry (0 ∷ 1 ∷ 0 ∷ 1 ∷ 0 ∷ 1 ∷ replicate 6 0) (126 ∷ 2 ∷ []) 1 (blank 2) in
     (told r ≡ (0, 10, 2, pos 3 ∷ negsuc 0 ∷ [])) × (r .medians .right ≡ mediansOf zeroSet)
 unfolding readEntry readRefusal seedRefusal seedMedians entropyRefusal entropyInfo wordSet isMono anyNegative notStereo logWord magnitude mantissa exp2Table reading overlay word fresh plain value paid inRun unbroken cleared flagged after runDue adapt up down lowOf highOf prefix escaped runLength counted truncatedBinary codeOf bitLength leadingZeros getBits unary low num bitsOf ones
-silent-right = (refl, refl)
+silent-right-read = (refl, refl)
 
 -- (Q2.2): 6 bytes are refused with 2, and nothing is written
-pub six-bytes : told (readEntry (0 ∷ 1 ∷ 0 ∷ 1 ∷ 0 ∷ 1 ∷ []) (126 ∷ 2 ∷ []) 1 (blank 2)) ≡ (2, 0, 0, blank 2)
+pub six-bytes-refused : told (readEntry (0 ∷ 1 ∷ 0 ∷ 1 ∷ 0 ∷ 1 ∷ []) (126 ∷ 2 ∷ []) 1 (blank 2)) ≡ (2, 0, 0, blank 2)
 unfolding readEntry readRefusal seedRefusal entropyRefusal notStereo isMono
-six-bytes = refl
+six-bytes-refused = refl
 
 -- c ones and a zero, and 40 zeros behind them
 abbrev field : ℕ → List Bool
