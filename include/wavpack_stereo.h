@@ -1,8 +1,8 @@
 /* The C interface of the stereo WavPack decoder. Link with libcapi.a.
  *
  * Every function answers WV_ACCEPTED or the number of a refusal. The rules behind the refusals are
- * the rows X1 to X9, Q1.3 and Q1.4 of docs/PROVED.md; each function below has its own in the order in
- * which it tests.
+ * the rows X1 to X9, Q1.3, Q1.4 and Q2.2 of docs/PROVED.md; each function below has its own in the
+ * order in which it tests.
  *
  * A list is a pointer to its first element and its number of elements; a list of 0 elements still
  * wants a pointer that is not null and is aligned for its type. A function reads and writes nothing
