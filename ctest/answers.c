@@ -134,10 +134,12 @@ static void packing(void)
     expect("wv_pack into 27 bytes", wv_pack(residuals, 2, ones, 12, 1, out, 27, answer, 7), 11);
 }
 
-/* A zero right set is read and packed as any other; a negative median in it is not, nor are 6 bytes. */
+/* A zero right set is read and packed as any other; a negative median in it is not, nor are 6
+   bytes. */
 static void silent_right(void)
 {
-    static const uint8_t left_only[12] = {0, 1, 0, 1, 0, 1}, silence[12] = {0}, negative[12] = {0, 1, 0, 1, 0, 1, 0, 0, 0, 0, 0, 0xff};
+    static const uint8_t left_only[12] = {0, 1, 0, 1, 0, 1}, silence[12] = {0};
+    static const uint8_t negative[12] = {0, 1, 0, 1, 0, 1, 0, 0, 0, 0, 0, 0xff};
     int32_t samples[4] = {77, 77, 77, 77};
     uint8_t out[28] = {0};
     uint32_t answer[8];

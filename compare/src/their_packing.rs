@@ -1,6 +1,7 @@
 //! What the published Rust packs, told as the rules (docs/PROVED.md) tell it.
-use crate::theirs::{MAX_FRAMES, read, seeds};
-use reference::samples::encode_packed_samples_stereo;
+use crate::theirs::{MAX_FRAMES, expanded, read};
+use reference::error::Error;
+use reference::samples::{encode_packed_samples_stereo, encode_packed_samples_stereo_from_entropy};
 use wavpack_stereo::{Packed, Reading, Slots};
 
 /// Packing takes residuals from -SPAN up to but without SPAN.
@@ -17,7 +18,7 @@ pub fn pack(residuals: &[i32], entropy: &[u8], frames: usize, room: usize) -> Re
     if residuals.len() != 2 * frames {
         return Err(6);
     }
-    let mut medians = seeds(entropy)?;
+    let (info, mut medians) = expanded(entropy)?;
     if room < 28 * frames {
         return Err(11);
     }
@@ -25,6 +26,9 @@ pub fn pack(residuals: &[i32], entropy: &[u8], frames: usize, room: usize) -> Re
         return Err(10);
     }
     let mut bytes = encode_packed_samples_stereo(residuals, &mut medians).expect("the span is encodable");
+    // Its entry for an entropy payload packs the same bytes, and refuses a zero right set as mono.
+    let whole = encode_packed_samples_stereo_from_entropy(residuals, &info);
+    assert_eq!(whole, if info.is_mono() { Err(Error::InvalidEntropyInfoForStereo) } else { Ok(bytes.clone()) });
     let (refusal, read, samples) = read(entropy, &bytes, frames, 2 * frames);
     assert!(refusal == 0 && samples == residuals, "the Rust reads back what it wrote");
     let bits_written = Reading::from_slots(read).bits_used;

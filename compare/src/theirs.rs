@@ -98,7 +98,7 @@ pub fn word(payload: &[u8], state: &State) -> Result<Word, u32> {
 ///
 /// Its length alone tells mono from stereo (Q2.1). The Rust takes a zero right set for mono: its
 /// own seeds are none there, and must be these everywhere else.
-fn expanded(entropy: &[u8]) -> Result<(EntropyInfo, [AdaptiveMedians; 2]), u32> {
+pub fn expanded(entropy: &[u8]) -> Result<(EntropyInfo, [AdaptiveMedians; 2]), u32> {
     let info = expand_entropy(entropy).map_err(|_| 1u32)?;
     let sets = [info.medians_left, info.medians_right].map(AdaptiveMedians::from_seed_values);
     let seeds = if let [Some(left), Some(right)] = sets { Some([left, right]) } else { None };
