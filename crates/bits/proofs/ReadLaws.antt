@@ -4,7 +4,7 @@
 use mathlib.Core.Path.{_≡_, refl, sym, ap, _∙_}
 use mathlib.Core.Bool.{Bool, true, false, cond}
 use mathlib.Core.List.{List, _∷_, _++_}
-use Prim.Native.Nat.{ℕ, zero, suc, _+_, _-_, _*_, _/_, _%_, _^_, _≤_, _<_}
+use Prim.Native.Nat.{ℕ, suc, _+_, _-_, _*_, _/_, _%_, _^_, _≤_, _<_}
 use native.Mathlib.Nat.{lt-of-lt-of-le}
 use native.Mathlib.Omega.{arith}
 use borrow.Author.Tests.{lt-ltb, le-ltb, le-leb, lt-leb, leb-true, leb-false, ltb-false}
@@ -112,25 +112,3 @@ bit-read s p h =
     let d = bit-there s p h in
     let x = getD s (p / 8) 0 / 2 ^ (p % 8) in
     bits-yes (bitsOf s) p 1 (omega (arith, ap length d)) ∙ ap (λ (v : ℕ). Value v (p + 1)) (ap (λ (l : List Bool). num (take 1 l)) d ∙ omega (arith, val-mod x))
-
--- what a bit x at p says of the ones from p on
-pub record Passed (bits : List Bool) (p x : ℕ) : Type 0 where
-  pub left : length (drop p bits) ≡ 1 + length (drop (p + 1) bits)
-  pub stop : x ≡ 0 → ones (drop p bits) ≡ 0
-  pub on : (x ≡ 0 → ⊥) → ones (drop p bits) ≡ 1 + ones (drop (p + 1) bits)
-
--- so it is for the bit of the byte there
-pub passed : (s : List ℕ) (p : ℕ) → p / 8 < length s → Passed (bitsOf s) p (getD s (p / 8) 0 / 2 ^ (p % 8) % 2)
-unfolding ones
-passed s p h =
-    let d = bit-there s p h in
-    let x = getD s (p / 8) 0 / 2 ^ (p % 8) in
-    record {
-      left = ap length d ∙ omega arith;
-      stop = λ e. ap ones d ∙ rw e;
-      on = λ e. ap ones d ∙ set (drop (p + 1) (bitsOf s)) (x % 2) e;
-    }
-  where
-    set : (l : List Bool) (y : ℕ) → (y ≡ 0 → ⊥) → ones (bitOf y ∷ l) ≡ 1 + ones l
-    set l zero e = absurd (e refl)
-    set l (suc y) e = omega arith

@@ -109,15 +109,25 @@ take-min l n = go (decLe n (length l))
     go (yes h) = let e : min n (length l) ≡ n = omega arith in rw e
     go (no h) = let e : min n (length l) ≡ length l = omega arith in rw e (take-all n l (omega arith) ∙ sym (take-all (length l) l (omega arith)))
 
--- up to eight bytes from the byte of p on, fewer at the end, are a window at p
+-- n whole bytes from the byte of p on are a window at p
+pub place-window : (s : List ℕ) (p n w : ℕ) → p / 8 + n ≤ length s → 0 < n → w ≡ num (bitsOf (take n (drop (p / 8) s)))
+    → Window (bitsOf s) p (8 * n - p % 8) (w / 2 ^ (p % 8))
+place-window s p n w h l e =
+    let q : 8 * (p / 8) + p % 8 ≡ p = omega arith in
+    subst (λ (m : ℕ). Window (bitsOf s) m (8 * n - p % 8) (w / 2 ^ (p % 8))) q (window s (p / 8) n (p % 8) w h (omega arith) e)
+
+-- so is the byte of p alone
+pub byte-window : (s : List ℕ) (p : ℕ) → p / 8 < length s → getD s (p / 8) 0 < 256 → Window (bitsOf s) p (8 * 1 - p % 8) (getD s (p / 8) 0 / 2 ^ (p % 8))
+byte-window s p h l = place-window s p 1 (getD s (p / 8) 0) (omega arith) (omega arith) (sym (one-byte s (p / 8) h l))
+
+-- and up to eight bytes, fewer at the end
 pub tail-window : (s : List ℕ) (p w : ℕ) → p / 8 < length s → w ≡ num (bitsOf (take 8 (drop (p / 8) s)))
     → Window (bitsOf s) p (8 * min 8 (length s - p / 8) - p % 8) (w / 2 ^ (p % 8))
 tail-window s p w h e =
     let i = p / 8 in
     let n = min 8 (length s - i) in
-    let q : 8 * i + p % 8 ≡ p = omega arith in
-    let f : w ≡ num (bitsOf (take n (drop i s))) = e ∙ ap (λ (l : List ℕ). num (bitsOf l)) (take-min (drop i s) 8) ∙ ap (λ (m : ℕ). num (bitsOf (take (min 8 m) (drop i s)))) (length-drop i s) in
-    subst (λ (m : ℕ). Window (bitsOf s) m (8 * n - p % 8) (w / 2 ^ (p % 8))) q (window s i n (p % 8) w (omega arith) (omega arith) f)
+    place-window s p n w (omega arith) (omega arith)
+    (e ∙ ap (λ (l : List ℕ). num (bitsOf l)) (take-min (drop i s) 8) ∙ ap (λ (m : ℕ). num (bitsOf (take (min 8 m) (drop i s)))) (length-drop i s))
 
 -- the number w of j bytes and the byte b behind them, joined in 64 bits
 pub record More (s : List ℕ) (i j w b : ℕ) : Type 0 where

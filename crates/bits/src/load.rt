@@ -20,7 +20,7 @@ fn four(s: &[u8], i: usize) -> u64
     two(s, i) + (two(s, i + 2) << 16)
 }
 
-fn eight(s: &[u8], i: usize) -> u64
+pub fn eight(s: &[u8], i: usize) -> u64
     requires { ⌜ i + 8 ≤ length (now s) ⌝ }
     ensures { λ r. ⌜ r ≡ num (bitsOf (take 8 (drop i (now (s .entry))))) ⌝ }
 {

@@ -1,58 +1,108 @@
--- `get_unary` meets its contract: the loop has passed ones only, and the bit at p ends it or is
--- passed too.
+-- `get_unary` meets its contract: the loop has passed ones only, and by `counted` the window at p
+-- ends them or is passed too. Behind the last whole window `get_unary_in_bytes` counts on.
 -- Assumes nothing.
 use borrow.Author.Needs.{needs}
 use native.Mathlib.Omega.{arith}
-use mathlib.Core.Path.{_≡_, sym, ap₂, _∙_}
-use Prim.Native.Nat.{_+_, _/_, _%_, _^_, _≤_}
+use mathlib.Core.Path.{_≡_, sym, _∙_}
+use Prim.Native.Nat.{_+_, _-_, _*_, _/_, _%_, _^_, _≤_}
 use denote.Ref.{now}
-use lib.ListN.{length, drop, getD, length-drop}
-use Rattle.bits.specs.Bits.{bitsOf, ones}
-use Rattle.bits.specs.declared.Field.the-variants.{Value}
+use lib.Count.{trailingZeros}
+use lib.ListN.{length, length-drop}
+use Rattle.bits.specs.Bits.{bitsOf}
 use Rattle.bits.proofs.BitLaws.{length-bits}
-use Rattle.bits.proofs.ReadLaws.{Passed, passed, unary-yes, unary-no}
+use Rattle.bits.proofs.OnesLaws.{Counted, counted, Passed, passed-none, passed-on, passed-stop, Whole, passed-whole, passed-missing}
+use Rattle.bits.proofs.Window.{place-window}
 use Rattle.bits.proofs.read.get_unary.Statement.{statement}
 use Rattle.bits.proofs.read.get_unary.Tie as tie
 
--- from at up to p stand ones only
 abbrev Inv-loop : tie.InvT-loop
-Inv-loop s at p₀ p =
-    (at ≤ p)
-    × (at + length (drop at (bitsOf s)) ≡ p + length (drop p (bitsOf s)))
-    × (at + ones (drop at (bitsOf s)) ≡ p + ones (drop p (bitsOf s)))
+Inv-loop s at p₀ p = Passed (bitsOf s) at p
 
 abbrev μ-loop : tie.MeasureT-loop
-μ-loop s at p₀ p = length (drop p (bitsOf s))
+μ-loop s at p₀ p = 8 * length s - p
 
--- what the bit at p says
-here : (c : tie.After-shared-slice-known Inv-loop μ-loop) →
-    let s = now (c .before .before .before .args .s) in
+-- p stays within a usize, since it never passes the payload's end
+add-loop : tie.Need-add-loop Inv-loop μ-loop
+add-loop c =
+    let start : tie.Start Inv-loop μ-loop = search needs in
+    let a = start .args in
+    let bits = bitsOf (now (a .s)) in
+    omega (arith, length-drop (a .at) bits, length-bits (now (a .s)))
+
+-- what the count of the window at p says
+here : (c : tie.After-eight Inv-loop μ-loop) →
     let p = c .before .before .loop .p in
-    Passed (bitsOf s) p (getD s (p / 8) 0 / 2 ^ (p % 8) % 2)
+    Counted (bitsOf (now (c .before .before .before .before .args .s))) p (8 * 8 - p % 8) (trailingZeros 64 (2 ^ 64 - 1 - c .eight .result / 2 ^ (p % 8)))
 here c =
     let start : tie.Start Inv-loop μ-loop = search needs in
-    passed (now (start .args .s)) (c .before .before .loop .p) (omega arith)
+    let at-loop : tie.At-loop Inv-loop μ-loop = search needs in
+    let s = now (start .args .s) in
+    let p = at-loop .loop .p in
+    counted (bitsOf s) p (8 * 8 - p % 8) 64 _ (place-window s p 8 _ (omega arith) (omega arith) (c .eight .ensures)) (omega arith)
+
+cast-n : tie.Need-cast-n Inv-loop μ-loop
+cast-n c = let h = here c in omega arith
+
+add-if1 : tie.Need-add-if1 Inv-loop μ-loop
+add-if1 c = let h = here c in omega arith
+
+add-t17 : tie.Need-add-t17 Inv-loop μ-loop
+add-t17 c = let h = here (c .before) in omega arith
+
+sub-t18 : tie.Need-sub-t18 Inv-loop μ-loop
+sub-t18 c = let h = here (c .before) in omega arith
+
+cast-t19 : tie.Need-cast-t19 Inv-loop μ-loop
+cast-t19 c = let h = here (c .before) in omega arith
+
+add-t21 : tie.Need-add-t21 Inv-loop μ-loop
+add-t21 c = let h = here (c .before) in omega arith
 
 returns : tie.Need-returns Inv-loop μ-loop
 returns c =
-    let start : tie.Start Inv-loop μ-loop = search needs in
-    let a = start .args in
-    let b = here (c .before) in
-    let z = b .stop (c .if1 .taken) in
-    sym (unary-yes (bitsOf (now (a .s))) (a .at) (omega arith) ∙ ap₂ Value (omega arith) (omega arith))
+    let h = here (c .before) in
+    let at-loop : tie.At-loop Inv-loop μ-loop = search needs in
+    sym (passed-stop (at-loop .loop .inv) h (omega arith))
 
 loop-less : tie.Need-loop-less Inv-loop μ-loop
-loop-less c = let b = here (c .before) in omega arith
+loop-less c = omega arith
 
 loop-again : tie.Need-loop-again Inv-loop μ-loop
-loop-again c = let b = here (c .before) in omega (arith, b .on (c .if1 .left))
+loop-again c =
+    let h = here (c .before) in
+    let at-loop : tie.At-loop Inv-loop μ-loop = search needs in
+    passed-on _ (at-loop .loop .inv) h (omega arith) (omega arith)
 
 returns-2 : tie.Need-returns-2 Inv-loop μ-loop
 returns-2 c =
-    let a = c .before .before .args in
-    let p = c .before .loop .p in
-    let bits = bitsOf (now (a .s)) in
-    sym (unary-no bits (a .at) (omega (arith, length-drop p bits, length-bits (now (a .s)))))
+    let after-get-unary-in-bytes : tie.After-get-unary-in-bytes Inv-loop μ-loop = search needs in
+    let after-loop : tie.After-loop Inv-loop μ-loop = search needs in
+    sym (passed-missing (after-loop .before .loop .inv) (sym (after-get-unary-in-bytes .get-unary-in-bytes .ensures) ∙ c .enum-told .given .1))
+
+-- the whole count, where the last bytes have a zero
+whole : (c : tie.After-known-told Inv-loop μ-loop) →
+    let a = c .before .before .before .before .before .before .before .args in
+    let found = c .before .n .given .0 in
+    Whole (bitsOf (now (a .s))) (a .at) (c .before .before .before .before .before .loop .p) (found .0) (found .1 .0)
+whole c =
+    let after-get-unary-in-bytes : tie.After-get-unary-in-bytes Inv-loop μ-loop = search needs in
+    let after-loop : tie.After-loop Inv-loop μ-loop = search needs in
+    passed-whole (after-loop .before .loop .inv) (sym (after-get-unary-in-bytes .get-unary-in-bytes .ensures) ∙ c .before .n .given .1)
+
+cast-t24 : tie.Need-cast-t24 Inv-loop μ-loop
+cast-t24 c =
+    let w = whole c in
+    let start : tie.Start Inv-loop μ-loop = search needs in
+    omega (arith, length-bits (now (start .args .s)))
+
+add-t25 : tie.Need-add-t25 Inv-loop μ-loop
+add-t25 c =
+    let w = whole c in
+    let start : tie.Start Inv-loop μ-loop = search needs in
+    omega (arith, length-bits (now (start .args .s)))
+
+returns-3 : tie.Need-returns-3 Inv-loop μ-loop
+returns-3 c = sym (whole c .same)
 
 pub get-unary-spec : {M : Type 1} → statement M
 get-unary-spec =
@@ -60,15 +110,27 @@ get-unary-spec =
     (tie.spec
     Inv-loop
     μ-loop
-    (λ c. omega arith)
-    (λ c. omega arith)
-    (λ c. omega arith)
-    (λ c. omega arith)
-    (λ c. omega arith)
-    (λ c. omega arith)
-    (λ c. omega arith)
+    (λ c. passed-none _ _)
+    add-loop
+    (λ c κs. search needs)
+    (λ c. search needs)
+    cast-n
+    add-if1
+    add-t17
+    sub-t18
+    cast-t19
+    add-t17
+    add-t21
     returns
-    (λ c. omega arith)
+    (λ c. search needs)
+    (λ c. search needs)
     loop-less
     loop-again
-    returns-2)
+    (λ c κs. search needs)
+    (λ c. search needs)
+    (λ c. search needs)
+    returns-2
+    (λ c. search needs)
+    cast-t24
+    add-t25
+    returns-3)

@@ -1,0 +1,101 @@
+-- `get_unary_in_bytes` meets its contract: the loop has passed ones only, and by `counted` the
+-- byte of p ends them or is passed too.
+-- Assumes nothing.
+use borrow.Author.Needs.{needs}
+use native.Mathlib.Omega.{arith}
+use mathlib.Core.Path.{_≡_, sym}
+use Prim.Native.Nat.{_+_, _-_, _*_, _/_, _%_, _^_, _≤_}
+use denote.Ref.{now}
+use lib.Count.{trailingZeros}
+use lib.ListN.{length, drop, getD, length-drop}
+use Rattle.bits.specs.Bits.{bitsOf}
+use Rattle.bits.proofs.BitLaws.{length-bits}
+use Rattle.bits.proofs.OnesLaws.{Counted, counted, Passed, passed-none, passed-on, passed-stop, passed-end}
+use Rattle.bits.proofs.Window.{byte-window}
+use Rattle.bits.proofs.read.get_unary_in_bytes.Statement.{statement}
+use Rattle.bits.proofs.read.get_unary_in_bytes.Tie as tie
+
+abbrev Inv-loop : tie.InvT-loop
+Inv-loop s at p₀ p = Passed (bitsOf s) at p
+
+abbrev μ-loop : tie.MeasureT-loop
+μ-loop s at p₀ p = 8 * length s - p
+
+-- what the count of the byte of p says
+here : (c : tie.After-shared-slice-known Inv-loop μ-loop) →
+    let s = now (c .before .before .before .args .s) in
+    let p = c .before .before .loop .p in
+    Counted (bitsOf s) p (8 * 1 - p % 8) (trailingZeros 8 (2 ^ 8 - 1 - getD s (p / 8) 0 / 2 ^ (p % 8)))
+here c =
+    let start : tie.Start Inv-loop μ-loop = search needs in
+    let s = now (start .args .s) in
+    let p = c .before .before .loop .p in
+    counted (bitsOf s) p (8 * 1 - p % 8) 8 _ (byte-window s p (omega arith) (omega (arith, c .shared-slice-known .given (p / 8)))) (omega arith)
+
+cast-n-2 : tie.Need-cast-n-2 Inv-loop μ-loop
+cast-n-2 c = let h = here c in omega arith
+
+add-if1 : tie.Need-add-if1 Inv-loop μ-loop
+add-if1 c = let h = here c in omega arith
+
+add-t15 : tie.Need-add-t15 Inv-loop μ-loop
+add-t15 c = let h = here (c .before) in omega arith
+
+sub-t16 : tie.Need-sub-t16 Inv-loop μ-loop
+sub-t16 c = let h = here (c .before) in omega arith
+
+cast-t17 : tie.Need-cast-t17 Inv-loop μ-loop
+cast-t17 c = let h = here (c .before) in omega arith
+
+add-t19 : tie.Need-add-t19 Inv-loop μ-loop
+add-t19 c = let h = here (c .before) in omega arith
+
+returns : tie.Need-returns Inv-loop μ-loop
+returns c =
+    let h = here (c .before) in
+    sym (passed-stop (c .before .before .before .loop .inv) h (omega arith))
+
+add-p : tie.Need-add-p Inv-loop μ-loop
+add-p c = let h = here (c .before) in omega arith
+
+loop-less : tie.Need-loop-less Inv-loop μ-loop
+loop-less c =
+    let h = here (c .before) in
+    let start : tie.Start Inv-loop μ-loop = search needs in
+    omega (arith, length-bits (now (start .args .s)))
+
+loop-again : tie.Need-loop-again Inv-loop μ-loop
+loop-again c =
+    let h = here (c .before) in
+    passed-on _ (c .before .before .before .loop .inv) h (omega arith) (omega arith)
+
+returns-2 : tie.Need-returns-2 Inv-loop μ-loop
+returns-2 c =
+    let start : tie.Start Inv-loop μ-loop = search needs in
+    let a = start .args in
+    let p = c .before .loop .p in
+    let bits = bitsOf (now (a .s)) in
+    sym (passed-end (c .before .loop .inv) (omega (arith, length-drop p bits, length-bits (now (a .s)))))
+
+pub get-unary-in-bytes-spec : {M : Type 1} → statement M
+get-unary-in-bytes-spec =
+    tie.close
+    (tie.spec
+    Inv-loop
+    μ-loop
+    (λ c. passed-none _ _)
+    (λ c. search needs)
+    (λ c. search needs)
+    (λ c. search needs)
+    cast-n-2
+    add-if1
+    add-t15
+    sub-t16
+    cast-t17
+    add-t15
+    add-t19
+    returns
+    add-p
+    loop-less
+    loop-again
+    returns-2)
