@@ -1,6 +1,7 @@
 //! The kinds of comparison, one module each.
 use crate::case::{Failed, Run};
 
+mod counts;
 pub mod entropy;
 mod log_words;
 pub mod making;
@@ -22,6 +23,7 @@ pub const KINDS: &[Kind] = &[
     ("weight bytes", pass_bytes::run_weights),
     ("entropy payloads", entropy::run),
     ("words", words::run),
+    ("counts", counts::run),
     ("readings", reads::run),
     ("pass making", making::run),
     ("decorrelation and analysis", passes::run),
