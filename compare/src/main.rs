@@ -41,7 +41,8 @@ const SEED: u64 = 20_261_115;
 
 const USAGE: &str =
     "usage: compare [SEED [SCALE]] | compare long [SEED [MILLIONS [MINUTES]]] | compare store | compare bench
-     | compare count ours|theirs reading|packing|export|import
+     | compare count ours|theirs reading|packing [loud|middling|quiet|clicks|many|silence]
+     | compare count ours|theirs export|import
      | compare count ours|theirs decorrelation|analysis TERM|sixteen";
 
 fn compare(seed: u64, scale: usize) -> Result<(), Failed> {
@@ -76,7 +77,7 @@ fn run(words: &[&str]) -> Option<Result<(), Failed>> {
             bench::run(SEED);
             Some(Ok(()))
         }
-        ["count", call @ ..] => bench::count::run(call, SEED).then_some(Ok(())),
+        ["count", call @ ..] => bench::count::run(call, SEED).map(Ok),
         ["long", bounds @ ..] => {
             let (millions, minutes) = (number(bounds, 1, 10.0)?, number(bounds, 2, 60.0)?);
             let time = Duration::try_from_secs_f64(60.0 * minutes).ok()?;

@@ -19,9 +19,9 @@ fn counted<T>(call: impl FnOnce() -> T) -> T {
     std::hint::black_box(call())
 }
 
-/// Reading, or packing, of the loud sound.
-fn loud(random: &mut Random, packing: bool, ours: bool) {
-    let sound = sounds(random).swap_remove(0);
+/// Reading, or packing, of the sound with this name; none where there is no such sound.
+fn sound(random: &mut Random, name: &str, packing: bool, ours: bool) -> Option<()> {
+    let sound = sounds(random).into_iter().find(|sound| sound.name.split(' ').next() == Some(name))?;
     let info = expand_entropy(&sound.entropy).unwrap();
     let payload = encode_packed_samples_stereo_from_entropy(&sound.residuals, &info).unwrap();
     let (mut samples, mut out) = (vec![0x5a; 2 * MAX_FRAMES], vec![0x5a; BYTES_PER_FRAME * MAX_FRAMES]);
@@ -45,6 +45,7 @@ fn loud(random: &mut Random, packing: bool, ours: bool) {
             assert!(written.unwrap() == payload);
         }
     }
+    Some(())
 }
 
 /// Decorrelation, or analysis, of the largest buffer.
@@ -74,28 +75,24 @@ fn sound_file(random: &mut Random, import: bool, ours: bool) {
     }
 }
 
-/// Makes the call that the words name: `ours` or `theirs`; `reading`, `packing`, `export`,
-/// `import`, `decorrelation` or `analysis`; for the last two a term, or `sixteen` for 16 passes.
-/// False where they name none.
-pub fn run(words: &[&str], seed: u64) -> bool {
+/// Makes the call that the words name: `ours` or `theirs`; `reading` or `packing`, of the loud sound
+/// or of the one that they name; `export` or `import`; `decorrelation` or `analysis`, of a term or,
+/// by `sixteen`, of 16 passes. None where they name none.
+pub fn run(words: &[&str], seed: u64) -> Option<()> {
     let random = &mut Random::new(seed);
-    let [side @ ("ours" | "theirs"), what, rest @ ..] = words else {
-        return false;
+    let [side @ ("ours" | "theirs"), ref call @ ..] = *words else {
+        return None;
     };
-    let ours = *side == "ours";
-    let terms = match rest {
-        [] => None,
-        ["sixteen"] => Some(sixteen()),
-        [term, ..] => term.parse().ok().map(|term: i8| vec![term]),
-    };
-    match (*what, terms) {
-        ("reading", None) => loud(random, false, ours),
-        ("packing", None) => loud(random, true, ours),
-        ("export", None) => sound_file(random, false, ours),
-        ("import", None) => sound_file(random, true, ours),
-        ("decorrelation", Some(terms)) => run_passes(random, &terms, false, ours),
-        ("analysis", Some(terms)) => run_passes(random, &terms, true, ours),
-        _ => return false,
+    let ours = side == "ours";
+    match *call {
+        [what @ ("reading" | "packing")] => sound(random, "loud", what == "packing", ours)?,
+        [what @ ("reading" | "packing"), name] => sound(random, name, what == "packing", ours)?,
+        [what @ ("export" | "import")] => sound_file(random, what == "import", ours),
+        [what @ ("decorrelation" | "analysis"), terms] => {
+            let terms = if terms == "sixteen" { sixteen() } else { vec![terms.parse().ok()?] };
+            run_passes(random, &terms, what == "analysis", ours);
+        }
+        _ => return None,
     }
-    true
+    Some(())
 }
