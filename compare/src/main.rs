@@ -3,8 +3,9 @@
 //! `compare` compares them on every kind of input. `compare SEED SCALE` does so with other random
 //! inputs, SCALE times as many. The seed is printed; the same seed gives the same inputs. `compare
 //! store` writes the answers of the published Rust that the program `replay` carries. `compare
-//! bench` prints a table of both sides' speed, and `compare count` makes one call, whose
-//! instructions a tool can count. `compare long` runs millions of damaged inputs.
+//! bench` prints a table of both sides' speed, built with the feature `before` also that of an
+//! earlier archive, and `compare count` makes one call, whose instructions a tool can count.
+//! `compare long` runs millions of damaged inputs.
 //!
 //! Sound files are no part of the published Rust: there a plain statement of their rules stands for
 //! it, and in the table a plain loop.

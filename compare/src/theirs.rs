@@ -26,7 +26,8 @@ pub struct Word {
     pub report: [u32; 2],
 }
 
-fn number(error: Error) -> u32 {
+/// The refusal number of a word's error.
+pub fn number(error: Error) -> u32 {
     match error {
         Error::Truncated => 3,
         Error::EndOfStream => 4,

@@ -1,0 +1,24 @@
+//! Reading by an earlier archive, which the feature `before` links beside today's (`build.rs`).
+#![allow(unsafe_code)]
+
+#[rustfmt::skip]
+unsafe extern "C" {
+    fn before_wv_read(
+        entropy: *const u8, entropy_len: usize, payload: *const u8, payload_len: usize, frames: usize,
+        samples: *mut i32, samples_len: usize, answer: *mut u32, answer_len: usize,
+    ) -> u32;
+}
+
+#[rustfmt::skip]
+pub fn read(entropy: &[u8], payload: &[u8], frames: usize, samples: &mut [i32]) -> u32 {
+    let mut answer = [0; 8];
+    // SAFETY: as `wv_read`, whose other name it is, it reads and writes nothing beyond the elements
+    // that it is given and keeps no pointer. All four are slices, whose lengths are told; only
+    // `samples`, lent to this call alone, and `answer` are written.
+    unsafe {
+        before_wv_read(
+            entropy.as_ptr(), entropy.len(), payload.as_ptr(), payload.len(), frames,
+            samples.as_mut_ptr(), samples.len(), answer.as_mut_ptr(), answer.len(),
+        )
+    }
+}
