@@ -18,6 +18,11 @@ six-ones : unaryRead (0x7e ∷ 0x02 ∷ []) 1 ≡ 0 ∷ 6 ∷ 8 ∷ []
 unfolding unaryRead unary ones bitsOf low
 six-ones = refl
 
+-- ones from the fifth bit of eight bytes on, and one more behind them
+across-a-window : unaryRead (0xf0 ∷ 0xff ∷ 0xff ∷ 0xff ∷ 0xff ∷ 0xff ∷ 0xff ∷ 0xff ∷ 0x01 ∷ []) 4 ≡ 0 ∷ 61 ∷ 66 ∷ []
+unfolding unaryRead unary ones bitsOf low
+across-a-window = refl
+
 -- a field across two bytes, low bit first
 across : bitsRead (0x7e ∷ 0x02 ∷ []) 6 4 ≡ 0 ∷ 9 ∷ 10 ∷ []
 unfolding bitsRead getBits num bitsOf low

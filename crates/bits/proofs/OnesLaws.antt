@@ -2,20 +2,23 @@
 -- that stand at its place.
 -- Assumes nothing.
 use mathlib.Core.Path.{_≡_, refl, sym, ap, ap₂, _∙_}
-use mathlib.Core.Bool.{Bool, true, false}
+use mathlib.Core.Bool.{Bool, true, false, cond}
 use mathlib.Core.List.{List, [], _∷_, _++_}
 use Prim.Native.Nat.{ℕ, zero, suc, _+_, _-_, _*_, _/_, _%_, _^_, _≤_, _<_}
 use native.Mathlib.Nat.{pow-suc, lt-of-lt-of-le}
 use native.Mathlib.Decide.{decLt}
 use native.Mathlib.Omega.{arith}
 use lib.Count.{trailingZeros, under}
-use lib.ListN.{length, drop, length-append, length-drop}
+use lib.Dec.{eqb}
+use lib.ListN.{length, take, drop, length-append, length-drop}
 use lib.Pow.{pow-mono}
-use Rattle.bits.specs.Bits.{bitOf, low, ones}
-use Rattle.bits.specs.Fields.{unary}
+use lib.Seq.{drop-drop}
+use Rattle.bits.specs.Bits.{bitOf, low, num, ones}
+use Rattle.bits.specs.BitByBit.{BitByBit, oneMore}
+use Rattle.bits.specs.Fields.{getBits, unary, andThen}
 use Rattle.bits.specs.declared.Field.the-variants.{Value, Truncated}
 use Rattle.bits.proofs.BitLaws.{length-low, low-shifted}
-use Rattle.bits.proofs.ReadLaws.{unary-yes, unary-no, unary-missing}
+use Rattle.bits.proofs.ReadLaws.{bits-yes, bits-no, unary-yes, unary-no, unary-missing}
 use Rattle.bits.proofs.Window.{Window}
 
 -- ---- the ones of joined bits
@@ -146,3 +149,38 @@ passed-whole {bits} {at} {p} {n} {q} d e = go (decLt (ones (drop p bits)) (lengt
 -- where none is found from p on, none is from at on
 pub passed-missing : {bits : List Bool} {at p : ℕ} → Passed bits at p → unary bits p ≡ Truncated → unary bits at ≡ Truncated
 passed-missing {bits} {at} {p} d e = unary-no bits at (omega (arith, d .since, d .left, d .ones-are, unary-missing bits p e))
+
+-- ---- bit by bit
+
+-- where a one stands at p, the count is one more than from the next place on
+one-more : (bits : List Bool) (p : ℕ) (t : List Bool) → drop p bits ≡ true ∷ t → unary bits p ≡ oneMore (unary bits (p + 1))
+unfolding ones
+one-more bits p t e = go (decLt (ones (drop (p + 1) bits)) (length (drop (p + 1) bits)))
+  where
+    d : drop (p + 1) bits ≡ t
+    d = sym (drop-drop 1 p bits) ∙ ap (drop 1) e
+
+    o : ones (drop p bits) ≡ 1 + ones (drop (p + 1) bits)
+    o = ap ones e ∙ omega (arith, ap ones d)
+
+    l : length (drop p bits) ≡ 1 + length (drop (p + 1) bits)
+    l = ap length e ∙ omega (arith, ap length d)
+
+    go : Dec (ones (drop (p + 1) bits) < length (drop (p + 1) bits)) → unary bits p ≡ oneMore (unary bits (p + 1))
+    go (yes h) = rw (unary-yes bits (p + 1) h, unary-yes bits p (omega (arith, o, l))) (ap₂ Value (omega (arith, o)) (omega (arith, o)))
+    go (no h) = rw (unary-no bits (p + 1) (omega arith), unary-no bits p (omega (arith, o, l)))
+
+-- Q3.1: every count is that of counting bit by bit
+pub bit-by-bit : BitByBit
+unfolding ones num
+bit-by-bit bits p = go (drop p bits) refl
+  where
+    go : (l : List Bool) → drop p bits ≡ l → unary bits p ≡ andThen (getBits bits p 1) (λ bit next. cond (eqb bit 0) (Value 0 next) (oneMore (unary bits next)))
+    go [] e = rw (unary-no bits p (omega (arith, ap length e)), bits-no bits p 1 (omega (arith, ap length e)))
+    go (false ∷ t) e =
+        let v : num (take 1 (drop p bits)) ≡ 0 = ap (λ (x : List Bool). num (take 1 x)) e in
+        rw (bits-yes bits p 1 (omega (arith, ap length e)), v)
+        (unary-yes bits p (omega (arith, ap length e, ap ones e)) ∙ ap₂ Value (ap ones e) (omega (arith, ap ones e)))
+    go (true ∷ t) e =
+        let v : num (take 1 (drop p bits)) ≡ 1 = ap (λ (x : List Bool). num (take 1 x)) e in
+        rw (bits-yes bits p 1 (omega (arith, ap length e)), v) (one-more bits p t e)

@@ -1,4 +1,5 @@
 pub mod Bits
 pub mod Fields
+pub mod BitByBit
 pub mod Laid
 pub mod Checked
