@@ -2,6 +2,7 @@
    docs/PROVED.md. Prints each answer that is not the expected one; the exit status is 0 when there
    is none. Sound files are in waves.c. */
 #include <stdio.h>
+#include <string.h>
 #include "answers.h"
 
 static int failures;
@@ -103,6 +104,22 @@ static void reading(void)
     expect("wv_read of a mono payload", wv_read(ones, 6, payload, 2, 1, samples, 2, answer, 8), 2);
 }
 
+/* A count through the longest payload: of ones alone, and ended by a zero in its last byte. */
+static void longest_count(void)
+{
+    static uint8_t longest[4194305];
+    const size_t most = 4194304;
+    int32_t samples[2] = {77, 77}, sample[1];
+    uint32_t answer[8], report[2], state[13] = {5, 0, 0, 0, 0, 1, 1, 0, 0, 0, 0, 0, 0};
+    memset(longest, 0xff, sizeof longest);
+    expect("wv_read of ones", wv_read(ones, 12, longest, most, 1, samples, 2, answer, 8), 3);
+    expect("wv_read of one byte more", wv_read(ones, 12, longest, most + 1, 1, samples, 2, answer, 8), 5);
+    expect_list("samples of ones", samples, (const int32_t[]){77, 77}, 2);
+    longest[most - 1] = 0x1f;
+    expect("wv_word of ones", wv_word(longest, most, state, 13, sample, 1, report, 2), 0);
+    expect("the place behind the last bit", state[0], 33554432);
+}
+
 static void passes(void)
 {
     static const int32_t seed_a[2] = {10, 4}, seed_b[2] = {1, -2};
@@ -165,6 +182,7 @@ int main(void)
     entropy();
     one_word();
     reading();
+    longest_count();
     passes();
     packing();
     silent_right();
