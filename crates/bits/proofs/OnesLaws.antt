@@ -4,7 +4,7 @@
 use mathlib.Core.Path.{_≡_, refl, sym, ap, ap₂, _∙_}
 use mathlib.Core.Bool.{Bool, true, false, cond}
 use mathlib.Core.List.{List, [], _∷_, _++_}
-use Prim.Native.Nat.{ℕ, zero, suc, _+_, _-_, _*_, _/_, _%_, _^_, _≤_, _<_}
+use Prim.Native.Nat.{ℕ, zero, suc, _+_, _-_, _/_, _%_, _^_, _≤_, _<_}
 use native.Mathlib.Nat.{pow-suc, lt-of-lt-of-le}
 use native.Mathlib.Decide.{decLt}
 use native.Mathlib.Omega.{arith}
@@ -54,7 +54,7 @@ ones-zeros (true ∷ a) i = ap suc (ones-zeros a i)
 
 -- ---- the language's count
 
--- the digit above r is the complement's: a one is passed, a zero stops
+-- where the lowest bit is r the complement has 1 - r: a one is passed, a zero stops the count
 under-bit : (r : ℕ) (l : List Bool) → r < 2 → under (1 - r) (ones l) ≡ ones (bitOf r ∷ l)
 unfolding ones
 under-bit zero l h = refl

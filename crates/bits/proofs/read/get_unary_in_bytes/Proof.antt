@@ -3,11 +3,11 @@
 -- Assumes nothing.
 use borrow.Author.Needs.{needs}
 use native.Mathlib.Omega.{arith}
-use mathlib.Core.Path.{_≡_, sym}
-use Prim.Native.Nat.{_+_, _-_, _*_, _/_, _%_, _^_, _≤_}
+use mathlib.Core.Path.{sym}
+use Prim.Native.Nat.{_-_, _*_, _/_, _%_, _^_}
 use denote.Ref.{now}
 use lib.Count.{trailingZeros}
-use lib.ListN.{length, drop, getD, length-drop}
+use lib.ListN.{length, getD, length-drop}
 use Rattle.bits.specs.Bits.{bitsOf}
 use Rattle.bits.proofs.BitLaws.{length-bits}
 use Rattle.bits.proofs.OnesLaws.{Counted, counted, Passed, passed-none, passed-on, passed-stop, passed-end}

@@ -2,7 +2,6 @@
 -- Assumes nothing.
 use Prim.Native.Nat.{_≤_, _-_}
 use borrow.Author.Needs.{needs}
-use native.Mathlib.Omega.{arith}
 use Rattle.counts.proofs.payloads.with_a_zero.Statement.{statement}
 use Rattle.counts.proofs.payloads.with_a_zero.Tie as tie
 
