@@ -40,32 +40,11 @@ here c =
     let p = at-loop .loop .p in
     counted (bitsOf s) p (8 * 8 - p % 8) 64 _ (place-window s p 8 _ (omega arith) (omega arith) (c .eight .ensures)) (omega arith)
 
-cast-n : tie.Need-cast-n Inv-loop μ-loop
-cast-n c = let h = here c in omega arith
-
-add-if1 : tie.Need-add-if1 Inv-loop μ-loop
-add-if1 c = let h = here c in omega arith
-
-add-t17 : tie.Need-add-t17 Inv-loop μ-loop
-add-t17 c = let h = here (c .before) in omega arith
-
-sub-t18 : tie.Need-sub-t18 Inv-loop μ-loop
-sub-t18 c = let h = here (c .before) in omega arith
-
-cast-t19 : tie.Need-cast-t19 Inv-loop μ-loop
-cast-t19 c = let h = here (c .before) in omega arith
-
-add-t21 : tie.Need-add-t21 Inv-loop μ-loop
-add-t21 c = let h = here (c .before) in omega arith
-
 returns : tie.Need-returns Inv-loop μ-loop
 returns c =
     let h = here (c .before) in
     let at-loop : tie.At-loop Inv-loop μ-loop = search needs in
     sym (passed-stop (at-loop .loop .inv) h (omega arith))
-
-loop-less : tie.Need-loop-less Inv-loop μ-loop
-loop-less c = omega arith
 
 loop-again : tie.Need-loop-again Inv-loop μ-loop
 loop-again c =
@@ -114,17 +93,17 @@ get-unary-spec =
     add-loop
     (λ c κs. search needs)
     (λ c. search needs)
-    cast-n
-    add-if1
-    add-t17
-    sub-t18
-    cast-t19
-    add-t17
-    add-t21
+    (λ c. let h = here c in omega arith)
+    (λ c. let h = here c in omega arith)
+    (λ c. let h = here (c .before) in omega arith)
+    (λ c. let h = here (c .before) in omega arith)
+    (λ c. let h = here (c .before) in omega arith)
+    (λ c. let h = here (c .before) in omega arith)
+    (λ c. let h = here (c .before) in omega arith)
     returns
     (λ c. search needs)
     (λ c. search needs)
-    loop-less
+    (λ c. omega arith)
     loop-again
     (λ c κs. search needs)
     (λ c. search needs)

@@ -32,31 +32,10 @@ here c =
     let p = c .before .before .loop .p in
     counted (bitsOf s) p (8 * 1 - p % 8) 8 _ (byte-window s p (omega arith) (omega (arith, c .shared-slice-known .given (p / 8)))) (omega arith)
 
-cast-n-2 : tie.Need-cast-n-2 Inv-loop μ-loop
-cast-n-2 c = let h = here c in omega arith
-
-add-if1 : tie.Need-add-if1 Inv-loop μ-loop
-add-if1 c = let h = here c in omega arith
-
-add-t15 : tie.Need-add-t15 Inv-loop μ-loop
-add-t15 c = let h = here (c .before) in omega arith
-
-sub-t16 : tie.Need-sub-t16 Inv-loop μ-loop
-sub-t16 c = let h = here (c .before) in omega arith
-
-cast-t17 : tie.Need-cast-t17 Inv-loop μ-loop
-cast-t17 c = let h = here (c .before) in omega arith
-
-add-t19 : tie.Need-add-t19 Inv-loop μ-loop
-add-t19 c = let h = here (c .before) in omega arith
-
 returns : tie.Need-returns Inv-loop μ-loop
 returns c =
     let h = here (c .before) in
     sym (passed-stop (c .before .before .before .loop .inv) h (omega arith))
-
-add-p : tie.Need-add-p Inv-loop μ-loop
-add-p c = let h = here (c .before) in omega arith
 
 loop-less : tie.Need-loop-less Inv-loop μ-loop
 loop-less c =
@@ -87,15 +66,15 @@ get-unary-in-bytes-spec =
     (λ c. search needs)
     (λ c. search needs)
     (λ c. search needs)
-    cast-n-2
-    add-if1
-    add-t15
-    sub-t16
-    cast-t17
-    add-t15
-    add-t19
+    (λ c. let h = here c in omega arith)
+    (λ c. let h = here c in omega arith)
+    (λ c. let h = here (c .before) in omega arith)
+    (λ c. let h = here (c .before) in omega arith)
+    (λ c. let h = here (c .before) in omega arith)
+    (λ c. let h = here (c .before) in omega arith)
+    (λ c. let h = here (c .before) in omega arith)
     returns
-    add-p
+    (λ c. let h = here (c .before) in omega arith)
     loop-less
     loop-again
     returns-2)
