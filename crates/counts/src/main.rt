@@ -29,8 +29,9 @@ fn print_tally(made: usize, agreed: usize) {
     io::write_all(STDOUT_FILENO, b" as bit by bit\n");
 }
 
-// All payloads of `length` bytes, from every bit and from nine places past the last one. The number
-// of a case tells its fill, the place of its zero and its starting bit.
+// Payloads of `length` bytes with the zero in every place, or behind them, from every bit and from
+// ten places past the last one. The number of a case tells its fill, the place of its zero and its
+// starting bit.
 fn run_length(length: usize)
     requires { ⌜ length ≤ 20 ⌝ }
 {
