@@ -3,7 +3,7 @@
 -- Assumes nothing.
 use borrow.Author.Needs.{needs}
 use native.Mathlib.Omega.{arith}
-use mathlib.Core.Path.{sym, _∙_}
+use mathlib.Core.Path.{_≡_, sym, _∙_}
 use Prim.Native.Nat.{_-_, _*_, _/_, _%_, _^_}
 use denote.Ref.{now}
 use lib.Count.{trailingZeros}
@@ -58,30 +58,22 @@ returns-2 c =
     let after-loop : tie.After-loop Inv-loop μ-loop = search needs in
     sym (passed-missing (after-loop .before .loop .inv) (sym (after-get-unary-in-bytes .get-unary-in-bytes .ensures) ∙ c .enum-told .given .1))
 
--- the whole count, where the last bytes have a zero
+-- the whole count, where the last bytes have a zero, and how many bits there are
 whole : (c : tie.After-known-told Inv-loop μ-loop) →
     let a = c .before .before .before .before .before .before .before .args in
     let found = c .before .n .given .0 in
     Whole (bitsOf (now (a .s))) (a .at) (c .before .before .before .before .before .loop .p) (found .0) (found .1 .0)
+    × (length (bitsOf (now (a .s))) ≡ 8 * length (now (a .s)))
 whole c =
+    let start : tie.Start Inv-loop μ-loop = search needs in
     let after-get-unary-in-bytes : tie.After-get-unary-in-bytes Inv-loop μ-loop = search needs in
-    let after-loop : tie.After-loop Inv-loop μ-loop = search needs in
-    passed-whole (after-loop .before .loop .inv) (sym (after-get-unary-in-bytes .get-unary-in-bytes .ensures) ∙ c .before .n .given .1)
-
-cast-t24 : tie.Need-cast-t24 Inv-loop μ-loop
-cast-t24 c =
-    let w = whole c in
-    let start : tie.Start Inv-loop μ-loop = search needs in
-    omega (arith, length-bits (now (start .args .s)))
-
-add-t25 : tie.Need-add-t25 Inv-loop μ-loop
-add-t25 c =
-    let w = whole c in
-    let start : tie.Start Inv-loop μ-loop = search needs in
-    omega (arith, length-bits (now (start .args .s)))
+    let after-loop : tie.After-loop Inv-loop μ-loop = search needs in (
+      passed-whole (after-loop .before .loop .inv) (sym (after-get-unary-in-bytes .get-unary-in-bytes .ensures) ∙ c .before .n .given .1),
+      length-bits (now (start .args .s)),
+    )
 
 returns-3 : tie.Need-returns-3 Inv-loop μ-loop
-returns-3 c = sym (whole c .same)
+returns-3 c = sym (whole c .0 .same)
 
 pub get-unary-spec : {M : Type 1} → statement M
 get-unary-spec =
@@ -110,6 +102,6 @@ get-unary-spec =
     (λ c. search needs)
     returns-2
     (λ c. search needs)
-    cast-t24
-    add-t25
+    (λ c. let w = whole c in omega (arith, w .0 .inside, w .1))
+    (λ c. let w = whole c in omega (arith, w .0 .inside, w .1))
     returns-3)
