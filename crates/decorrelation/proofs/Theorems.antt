@@ -3,7 +3,7 @@
 -- and histories hold. Assumes nothing.
 use mathlib.Core.Path.{_≡_, refl, sym, ap, _∙_}
 use mathlib.Core.Bool.{Bool, true, false, cond}
-use mathlib.Core.List.{List, _++_}
+use mathlib.Core.List.{List, [], _∷_, _++_}
 use Prim.Native.Nat.{ℕ, zero, suc, _≤_}
 use native.Mathlib.Omega.{arith}
 use borrow.Author.Tests.{le-ltb, ltb-false}
@@ -13,7 +13,7 @@ use lib.ListN.{length, take, drop, take-append-drop}
 use lib.Seq.{length-take-le}
 use Rattle.answers.specs.Guard.{unlessRefused}
 use Rattle.answers.specs.Limits.{maxElements, maxPasses}
-use Rattle.passes.specs.Run.{Fit, Chain, decorrelated, analysed}
+use Rattle.passes.specs.Run.{Fit, passed, Chain, decorrelated, analysed}
 use Rattle.passes.specs.declared.DecorrPass.{DecorrPass}
 use Rattle.passes.proofs.RunInverse.{analysed-fit, analysed-length, decorrelated-length, decorrelated-analysed, analysed-decorrelated}
 use Rattle.passes.proofs.Unique.{residuals-unique}
@@ -100,6 +100,29 @@ decorrelation-bounded ps l h = bounded-by (listNumber (allValid ps) (length ps) 
 pub analysis-bounded : (ps : List DecorrPass) (l : List ℤ) → AllBounded ps → AllBounded (analysis ps l .passes)
 unfolding listed
 analysis-bounded ps l h = bounded-by (listNumber (allValid ps) (length ps) (length l)) (analysed ps l) ps l h (analysed-bounded ps l h)
+
+-- ---- how many passes are left
+
+decorrelated-count : (ps : List DecorrPass) (l : List ℤ) → length (decorrelated ps l .passes) ≡ length ps
+decorrelated-count [] l = refl
+decorrelated-count (p ∷ ps) l = ap suc (decorrelated-count ps (passed Decorrelation p l .buffer))
+
+analysed-count : (ps : List DecorrPass) (l : List ℤ) → length (analysed ps l .passes) ≡ length ps
+analysed-count [] l = refl
+analysed-count (p ∷ ps) l = ap suc (analysed-count ps l)
+
+chained-count : (dir : Direction) (ps : List DecorrPass) (l : List ℤ) → length (chained dir ps l .passes) ≡ length ps
+chained-count Decorrelation ps l = decorrelated-count ps l
+chained-count Analysis ps l = analysed-count ps l
+
+count-by : (k : ℕ) (c : Chain) (ps : List DecorrPass) (l : List ℤ) → length (c .passes) ≡ length ps → length (unlessRefused k (refuseList ps l) (done c) .passes) ≡ length ps
+count-by zero c ps l h = h
+count-by (suc k) c ps l h = refl
+
+-- a call leaves as many passes as it was given
+pub listed-count : (dir : Direction) (ps : List DecorrPass) (l : List ℤ) → length (listed dir ps l .passes) ≡ length ps
+unfolding listed
+listed-count dir ps l = count-by (numberBy dir (allValid ps) (length ps) (length l)) (chained dir ps l) ps l (chained-count dir ps l)
 
 -- ---- the array form
 -- the passes of an answer, followed by those that are not run

@@ -2,7 +2,7 @@
 -- Assumes nothing.
 use mathlib.Core.Path.{_≡_, refl, sym, ap, _∙_}
 use mathlib.Core.Bool.{Bool, true, false}
-use mathlib.Core.List.{List, [], _∷_, _++_}
+use mathlib.Core.List.{List, _++_}
 use Prim.Native.Nat.{ℕ, zero, suc, _/_, _%_, _≤_, _<_}
 use native.Mathlib.Omega.{arith}
 use lib.Dec.{eqb}
@@ -16,37 +16,14 @@ use Rattle.answers.specs.declared.Refusal.{Refusal}
 use Rattle.answers.specs.Numbers.{outcomeNumber}
 use Rattle.answers.proofs.NumberLaws.{number-positive}
 use Rattle.answers.proofs.GuardLaws.{guard-refused}
-use Rattle.passes.specs.Run.{passed, Chain, decorrelated, analysed}
+use Rattle.passes.specs.Run.{Chain}
 use Rattle.passes.specs.declared.DecorrPass.{DecorrPass}
 use Rattle.passes.specs.declared.Direction.{Direction}
-use Rattle.passes.specs.declared.Direction.the-variants.{Decorrelation, Analysis}
 use Rattle.decorrelation.specs.Lists.{allValid, listNumber, numberBy, Answer, done, refuseList, chained, listed, arrayAnswer}
 use Rattle.decorrelation.proofs.Answers.{number-by, many-number, many-positive}
-use Rattle.decorrelation.proofs.Theorems.{extended, array-as-list}
+use Rattle.decorrelation.proofs.Theorems.{listed-count, extended, array-as-list}
 use Rattle.pass_slots.specs.PassSlots.{passesOf, listSlots, PassesLeft, leavePasses, passesCall}
 use Rattle.pass_slots.proofs.PassSlotLaws.{passes-length}
-
--- ---- a list of passes keeps its length
-
-decorrelated-count : (ps : List DecorrPass) (l : List ℤ) → length (decorrelated ps l .passes) ≡ length ps
-decorrelated-count [] l = refl
-decorrelated-count (p ∷ ps) l = ap suc (decorrelated-count ps (passed Decorrelation p l .buffer))
-
-analysed-count : (ps : List DecorrPass) (l : List ℤ) → length (analysed ps l .passes) ≡ length ps
-analysed-count [] l = refl
-analysed-count (p ∷ ps) l = ap suc (analysed-count ps l)
-
-chained-count : (dir : Direction) (ps : List DecorrPass) (l : List ℤ) → length (chained dir ps l .passes) ≡ length ps
-chained-count Decorrelation ps l = decorrelated-count ps l
-chained-count Analysis ps l = analysed-count ps l
-
-count-by : (k : ℕ) (c : Chain) (ps : List DecorrPass) (l : List ℤ) → length (c .passes) ≡ length ps → length (unlessRefused k (refuseList ps l) (done c) .passes) ≡ length ps
-count-by zero c ps l h = h
-count-by (suc k) c ps l h = refl
-
-listed-count : (dir : Direction) (ps : List DecorrPass) (l : List ℤ) → length (listed dir ps l .passes) ≡ length ps
-unfolding listed
-listed-count dir ps l = count-by (numberBy dir (allValid ps) (length ps) (length l)) (chained dir ps l) ps l (chained-count dir ps l)
 
 -- ---- the calls
 

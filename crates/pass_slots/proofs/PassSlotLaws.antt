@@ -101,7 +101,7 @@ pub taken-more : (i : ℕ) (ps : List DecorrPass) (p : DecorrPass) (s : List ℤ
 taken-more i ps p s h e f = rw (take-suc-set ps i p h, e, f) (sym (passes-more i s))
 
 -- slots of two lists, one behind the other
-slots-append : (ps qs : List DecorrPass) → listSlots (ps ++ qs) ≡ listSlots ps ++ listSlots qs
+pub slots-append : (ps qs : List DecorrPass) → listSlots (ps ++ qs) ≡ listSlots ps ++ listSlots qs
 slots-append [] qs = refl
 slots-append (p ∷ ps) qs = rw (slots-append ps qs, append-assoc (slotsOf p) (listSlots ps) (listSlots qs))
 
