@@ -1,7 +1,11 @@
 // Document 01, "Proved cases (*) and others" (C10): the cases that are run only, fields through a
-// reader, and a zero right set (document 02, §2: Q2.1 to Q2.3). Each prints a line, what it is, the
-// refusal number (0 means accepted) and the values that were answered. What is printed is held to
-// the file `stdout`.
+// reader, a zero right set (document 02, §2: Q2.1 to Q2.3) and pass lists joined (§4). Each prints a
+// line, what it is, the refusal number (0 means accepted) and the values that were answered. What is
+// printed is held to the file `stdout`.
+mod joined;
+
+use crate::joined::run_joined;
+use crate::joined::run_seventeen;
 use answers::outcome_number;
 use bit_reader::field_at;
 use bits::BitAnswer;
@@ -32,7 +36,7 @@ fn size(value: i32) -> u64 {
 }
 
 // The name of a case, and the refusal that it answered.
-fn print_case(name: &[u8], refusal: u32) {
+pub(crate) fn print_case(name: &[u8], refusal: u32) {
     io::write_all(STDOUT_FILENO, name);
     io::write_all(STDOUT_FILENO, b": refusal ");
     io::print_decimal(STDOUT_FILENO, refusal as u64);
@@ -44,13 +48,18 @@ fn print_count(name: &[u8], count: usize) {
     io::print_decimal(STDOUT_FILENO, count as u64);
 }
 
-// The values of a case, to the end of its line.
-fn print_values(values: &[i32]) {
+// Numbers one behind the other.
+pub(crate) fn print_list(values: &[i32]) {
     let mut i = 0;
     while i < values.len() {
         print_value(values[i]);
         i += 1;
     }
+}
+
+// The values of a case, to the end of its line.
+pub(crate) fn print_values(values: &[i32]) {
+    print_list(values);
     io::write_all(STDOUT_FILENO, b"\n");
 }
 
@@ -112,7 +121,7 @@ fn run_field(name: &[u8], payload: &[u8], place: usize, count: u32) {
 }
 
 // The pass of which every list here is made.
-fn some_pass() -> DecorrPass {
+pub(crate) fn some_pass() -> DecorrPass {
     DecorrPass {
         term: 17,
         delta: 2,
@@ -180,4 +189,6 @@ fn main() {
     run_trip(b"right medians 0, round trip", &left_only);
     run_reading_from(b"6 entropy bytes, read", &left_only[..6], &word);
     run_packing(b"6 entropy bytes, packed", &left_only[..6]);
+    run_joined();
+    run_seventeen();
 }
