@@ -1,6 +1,6 @@
 /* Calls the library from C, through its header, and checks answers that follow from the rules of
    docs/PROVED.md. Prints each answer that is not the expected one; the exit status is 0 when there
-   is none. Sound files are in waves.c. */
+   is none. Pass lists joined are in joined.c, sound files in waves.c. */
 #include <stdio.h>
 #include <string.h>
 #include "answers.h"
@@ -184,6 +184,7 @@ int main(void)
     reading();
     longest_count();
     passes();
+    joined_lists();
     packing();
     silent_right();
     sound_files();

@@ -133,11 +133,16 @@ uint32_t wv_pass(int8_t term, int32_t delta, int32_t weight_a, int32_t weight_b,
  *   call, and then after it.
  * Refuses WV_LIST_LENGTH for a passes_len that is no multiple of WV_PASS_SLOTS; then WV_TOO_LARGE,
  * WV_TOO_MANY_PASSES and WV_INVALID_TERM, also for a term outside 8 bits; with both lists as they
- * were. */
+ * were.
+ * Two accepted calls, by one list and then by a second, leave in buffer and in the slots of both
+ * lists what one call by the second list's slots behind the first's leaves, where both have at most
+ * 16 passes together. */
 uint32_t wv_decorrelate(int32_t *passes, size_t passes_len, int32_t *buffer, size_t buffer_len);
 
 /* Analysis, the inverse: turns the samples of buffer into the residuals that decorrelate to them,
- * and leaves the passes as decorrelation would. Refuses as `wv_decorrelate` does. */
+ * and leaves the passes as decorrelation would. Refuses as `wv_decorrelate` does.
+ * Of two lists the second is undone before the first: then the two calls leave what one call by the
+ * second list's slots behind the first's leaves. */
 uint32_t wv_analyse(int32_t *passes, size_t passes_len, int32_t *buffer, size_t buffer_len);
 
 /* Packs the residuals of a stereo block: `frames` frames, left then right, 2 times frames

@@ -110,12 +110,33 @@ impl Pass {
 /// assert_eq!((buffer, passes[0].weights()), ([14, 1], [Weight(1026), Weight(1022)]));
 /// # Ok::<(), Refusal>(())
 /// ```
+///
+/// A list for the microphone and then one for the stem come to what one call comes to with the
+/// second appended to the first, in samples and in all pass states, while both have at most
+/// [`MAX_PASSES`] together. That is proved (rows Q4.1 and Q4.2 of docs/PROVED.md).
+///
+/// ```
+/// use wavpack_stereo::{Delta, Pass, Refusal, Weight, decorrelate};
+/// let microphone = Pass::new(18, Delta(2), [Weight(1024); 2], [&[10, 4], &[1, -2]])?;
+/// let stem = Pass::new(-1, Delta(3), [Weight(256), Weight(1023)], [&[40], &[8]])?;
+/// let (mut apart, mut buffer) = ([microphone, stem], [1, -1, 100, 50]);
+/// let (mut joined, mut samples) = (apart.clone(), buffer);
+/// let (first, second) = apart.split_at_mut(1);
+/// decorrelate(first, &mut buffer)?;
+/// decorrelate(second, &mut buffer)?;
+/// decorrelate(&mut joined, &mut samples)?;
+/// assert_eq!((apart, buffer), (joined, samples));
+/// # Ok::<(), Refusal>(())
+/// ```
 pub fn decorrelate(passes: &mut [Pass], buffer: &mut [i32]) -> Result<(), Refusal> {
     Refusal::outcome(ffi::decorrelate(ffi::slots(passes), buffer))
 }
 
 /// Analysis, the inverse: turns the samples of `buffer` into the residuals that decorrelate to
 /// them, and leaves the passes as decorrelation would. Refuses as [`decorrelate`] does.
+///
+/// Of two lists the second is undone before the first: analysis by it and then by the first comes
+/// to one call with the second appended to the first (row Q4.3).
 ///
 /// ```
 /// use wavpack_stereo::{Delta, Pass, Refusal, Weight, analyse, decorrelate};

@@ -1,11 +1,12 @@
 //! Decorrelation and analysis of the largest number of frames: each term alone, five passes and
-//! sixteen.
+//! sixteen, these in one call and in two.
 use super::{row, timed};
 use crate::ours;
 use crate::random::Random;
 use crate::their_passes::{Pass, TERMS, made};
 use crate::theirs::MAX_FRAMES;
 use reference::decorrelation::{DecorrPass, decorrelate_stereo, recorrelate_stereo};
+use std::ops::Range;
 use wavpack_stereo::{analyse, decorrelate};
 
 pub fn pass(random: &mut Random, term: i8) -> Pass {
@@ -15,7 +16,9 @@ pub fn pass(random: &mut Random, term: i8) -> Pass {
     pass
 }
 
-fn turn(name: &str, back: bool, passes: &[Pass], buffer: &[i32]) {
+/// Both sides by a list of passes, of which each call takes a part. What they leave is compared with
+/// what the Rust leaves in one call.
+fn turn(name: &str, back: bool, passes: &[Pass], calls: &[Range<usize>], buffer: &[i32]) {
     let theirs_made: Vec<DecorrPass> = passes.iter().map(made).collect();
     let ours_way = if back { analyse } else { decorrelate };
     let their_way = if back { recorrelate_stereo } else { decorrelate_stereo };
@@ -26,14 +29,15 @@ fn turn(name: &str, back: bool, passes: &[Pass], buffer: &[i32]) {
     let ours = || {
         let mut list = ours::passes(passes);
         ours_out.copy_from_slice(buffer);
-        let (time, ()) = timed(|| ours_way(&mut list, &mut ours_out).unwrap());
+        let (time, ()) =
+            timed(|| calls.iter().for_each(|call| ours_way(&mut list[call.clone()], &mut ours_out).unwrap()));
         assert!(ours_out == expected, "{name}: the outputs differ");
         time
     };
     let theirs = || {
         let mut list = theirs_made.clone();
         their_out.copy_from_slice(buffer);
-        timed(|| their_way(&mut list, &mut their_out).unwrap()).0
+        timed(|| calls.iter().for_each(|call| their_way(&mut list[call.clone()], &mut their_out).unwrap())).0
     };
     row(name, ours, theirs);
 }
@@ -50,15 +54,16 @@ pub fn sixteen() -> Vec<i8> {
 
 pub fn run(random: &mut Random) {
     let buffer = buffer(random);
-    let usual: [i8; 5] = [18, 18, 2, 17, 3];
-    let sixteen = sixteen();
     for (what, back) in [("decorrelation", false), ("analysis", true)] {
         for term in TERMS {
-            turn(&format!("{what}, term {term}"), back, &[pass(random, term)], &buffer);
+            turn(&format!("{what}, term {term}"), back, &[pass(random, term)], &[0..1], &buffer);
         }
-        for terms in [&usual[..], &sixteen] {
-            let list: Vec<Pass> = terms.iter().map(|&term| pass(random, term)).collect();
-            turn(&format!("{what}, {} passes", list.len()), back, &list, &buffer);
-        }
+        let mut list = |terms: &[i8]| -> Vec<Pass> { terms.iter().map(|&term| pass(random, term)).collect() };
+        let (five, sixteen) = (list(&[18, 18, 2, 17, 3]), list(&sixteen()));
+        turn(&format!("{what}, 5 passes"), back, &five, &[0..5], &buffer);
+        turn(&format!("{what}, 16 passes"), back, &sixteen, &[0..16], &buffer);
+        // In analysis the second list is undone before the first.
+        let calls = if back { [5..16, 0..5] } else { [0..5, 5..16] };
+        turn(&format!("{what}, 16 passes in two calls"), back, &sixteen, &calls, &buffer);
     }
 }

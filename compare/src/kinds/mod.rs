@@ -3,6 +3,7 @@ use crate::case::{Failed, Run};
 
 mod counts;
 pub mod entropy;
+mod joined;
 mod log_words;
 pub mod making;
 pub mod packs;
@@ -27,6 +28,7 @@ pub const KINDS: &[Kind] = &[
     ("readings", reads::run),
     ("pass making", making::run),
     ("decorrelation and analysis", passes::run),
+    ("pass lists joined", joined::run),
     ("packing", packs::run),
     ("exports of sound files", wave_exports::run),
     ("imports of sound files", wave_imports::run),

@@ -59,17 +59,21 @@ impl Case for Passes {
         let lists = shorter(&self.passes).map(|passes| Passes { passes, ..self.clone() });
         let buffers = shorter(&self.buffer).chain(plainer(&self.buffer));
         let buffers = buffers.map(|buffer| Passes { buffer, ..self.clone() });
-        // Within a pass the term stays as it is: without it there would be no pass.
-        let plain = (0..self.passes.len()).flat_map(move |i| {
-            let simpler = plainer(&self.passes[i]).filter(move |pass| pass[0] == self.passes[i][0]);
-            simpler.map(move |pass| {
-                let mut out = self.clone();
-                out.passes[i].copy_from_slice(&pass);
-                out
-            })
-        });
+        let plain = plainer_passes(&self.passes).map(|passes| Passes { passes, ..self.clone() });
         Box::new(lists.chain(buffers).chain(plain))
     }
+}
+
+/// Lists with a part of one pass made 0. Its term stays as it is: without it there would be no pass.
+pub fn plainer_passes(list: &[Pass]) -> impl Iterator<Item = Vec<Pass>> {
+    (0..list.len()).flat_map(move |i| {
+        let simpler = plainer(&list[i]).filter(move |pass| pass[0] == list[i][0]);
+        simpler.map(move |pass| {
+            let mut out = list.to_vec();
+            out[i].copy_from_slice(&pass);
+            out
+        })
+    })
 }
 
 /// A pass as files hold them: a small delta, weights within 1024, modest histories.

@@ -40,14 +40,12 @@ module _ (ps qs : List DecorrPass) (l : List ℤ) where
   joined-accepts h v few =
       record { well-made = rw (valid-joined ps qs, h .well-made, v); few = omega (arith, length-append ps qs); short = h .short }
 
-  -- a joined list that is accepted is accepted in parts, over any buffer of that length
-  pub parts-accept : (m : List ℤ) → length m ≡ length l → Accepted (ps ++ qs) l → Accepted ps m × Accepted qs m
-  parts-accept m e h =
+  -- a joined list that is accepted is accepted in parts
+  pub parts-accept : Accepted (ps ++ qs) l → Accepted ps l × Accepted qs l
+  parts-accept h =
       let v = both (allValid ps) (allValid qs) (sym (valid-joined ps qs) ∙ h .well-made) in
-      let n : length (ps ++ qs) ≡ length ps + length qs = length-append ps qs in (
-        record { well-made = v .0; few = omega (arith, h .few); short = omega (arith, h .short) },
-        record { well-made = v .1; few = omega (arith, h .few); short = omega (arith, h .short) },
-      )
+      let n : length (ps ++ qs) ≡ length ps + length qs = length-append ps qs in
+      (record { well-made = v .0; few = omega (arith, h .few); short = h .short }, record { well-made = v .1; few = omega (arith, h .few); short = h .short })
 
   -- over 16 passes together are refused with 9, whatever they are
   pub nine-together : (dir : Direction) → length l ≤ maxElements → maxPasses < length ps + length qs → listed dir (ps ++ qs) l ≡ refuseList (ps ++ qs) l 9

@@ -10,7 +10,7 @@ use Rattle.answers.specs.Limits.{maxPasses}
 use Rattle.passes.specs.declared.DecorrPass.{DecorrPass}
 use Rattle.passes.specs.declared.Direction.the-variants.{Decorrelation, Analysis}
 use Rattle.decorrelation.specs.Lists.{Answer, decorrelation, analysis}
-use Rattle.joined_lists.specs.Joined.{Joinable, Same, decorrelatedApart, analysedApart}
+use Rattle.joined_lists.specs.Joined.{TwoCalls, decorrelatedApart, analysedApart, Joinable, Same}
 use Rattle.joined_lists.proofs.AcceptLaws.{zero-accepts}
 use Rattle.joined_lists.proofs.Together.{decorrelation-joined, analysis-joined}
 use Rattle.pass_slots.specs.PassSlots.{listSlots, PassesLeft, passesCall}
@@ -29,25 +29,26 @@ slots-of e = ap (λ (x : PassesLeft). x .passes) e
 buffer-of : {a b : PassesLeft} → a ≡ b → a .buffer ≡ b .buffer
 buffer-of e = ap (λ (x : PassesLeft). x .buffer) e
 
--- the joined call over slots leaves what the entry leaves by both lists of passes
-joined-leaves : (entry : List DecorrPass → List ℤ → Answer) (xs ys l : List ℤ) → length xs % 20 ≡ 0 → length ys % 20 ≡ 0 → entry (passesIn xs ++ passesIn ys) l .refusal ≡ 0
-    → passesCall entry (xs ++ ys) l ≡ inSlots (entry (passesIn xs ++ passesIn ys) l)
-joined-leaves entry xs ys l e f z =
-    let same : passesIn (xs ++ ys) ≡ passesIn xs ++ passesIn ys = passes-in-joined xs ys e f in
-    let call : AcceptedCall entry (xs ++ ys) l = record { whole = omega (arith, e, f, length-append xs ys); accepted = rw same z } in
-    call-leaves entry (xs ++ ys) l call ∙ ap (λ (ps : List DecorrPass). inSlots (entry ps l)) same
+module _ (entry : List DecorrPass → List ℤ → Answer) (xs ys l : List ℤ) (whole-xs : length xs % 20 ≡ 0) (whole-ys : length ys % 20 ≡ 0) where
+  -- the joined call over slots leaves what the entry leaves by both lists of passes
+  joined-leaves : entry (passesIn xs ++ passesIn ys) l .refusal ≡ 0 → passesCall entry (xs ++ ys) l ≡ inSlots (entry (passesIn xs ++ passesIn ys) l)
+  joined-leaves z =
+      let same : passesIn (xs ++ ys) ≡ passesIn xs ++ passesIn ys = passes-in-joined xs ys whole-xs whole-ys in
+      let call : AcceptedCall entry (xs ++ ys) l = record { whole = omega (arith, length-append xs ys); accepted = rw same z } in
+      call-leaves entry (xs ++ ys) l call ∙ ap (λ (ps : List DecorrPass). inSlots (entry ps l)) same
 
--- equal passes and an equal buffer, in slots
-same-in-slots : (apart : SlotCalls) (joined : PassesLeft) (a b c : Answer) → apart .first ≡ inSlots a → apart .second ≡ inSlots b → joined ≡ inSlots c
-    → c .buffer ≡ apart .left → c .passes ≡ a .passes ++ b .passes → SameSlots apart joined
-same-in-slots apart joined a b c e f g same states =
-    record {
-      joined-accepted = refusal-of g;
-      same-buffer = buffer-of g ∙ same;
-      same-slots = slots-of g ∙ ap listSlots states ∙ slots-append (a .passes) (b .passes) ∙ sym (ap₂ _++_ (slots-of e) (slots-of f));
-    }
+  -- what is the same of passes is the same of their slots
+  same-in-slots : (apart : SlotCalls) (calls : TwoCalls) → apart .first ≡ inSlots (calls .first) → apart .second ≡ inSlots (calls .second) → apart .left ≡ calls .left
+      → Same calls (entry (passesIn xs ++ passesIn ys) l) → SameSlots apart (passesCall entry (xs ++ ys) l)
+  same-in-slots apart calls e f left same =
+      let g = joined-leaves (same .joined-accepted) in
+      record {
+        joined-accepted = refusal-of g;
+        same-buffer = buffer-of g ∙ same .same-buffer ∙ sym left;
+        same-slots = slots-of g ∙ ap listSlots (same .same-states) ∙ slots-append (calls .first .passes) (calls .second .passes) ∙ sym (ap₂ _++_ (slots-of e) (slots-of f));
+      }
 
--- at most 16 passes are in at most 320 slots
+-- at most 320 slots hold at most 16 passes
 few-passes : (xs ys : List ℤ) → length xs + length ys ≤ maxPasses * 20 → length (passesIn xs) + length (passesIn ys) ≤ maxPasses
 few-passes xs ys h = rw (passes-length (length xs / 20) xs, passes-length (length ys / 20) ys) (omega arith)
 
@@ -58,37 +59,31 @@ pub decorrelate-joined : DecorrelateJoined
 decorrelate-joined first second buffer j =
     let ps = passesIn first in
     let qs = passesIn second in
+    let apart = decorrelateApart first second buffer in
     let a = call-accepts decorrelation first buffer (j .first-accepted) in
-    let one = call-leaves decorrelation first buffer a in
+    let one : apart .first ≡ inSlots (decorrelation ps buffer) = call-leaves decorrelation first buffer a in
     let between = decorrelation ps buffer .buffer in
     let b = call-accepts decorrelation second between (rw (buffer-of one) at (j .second-accepted)) in
-    let two : decorrelateApart first second buffer .second ≡ inSlots (decorrelation qs between) =
-    rw (buffer-of one) (call-leaves decorrelation second between b) in
+    let two : apart .second ≡ inSlots (decorrelation qs between) = rw (buffer-of one) (call-leaves decorrelation second between b) in
     let h = zero-accepts Decorrelation ps buffer (a .accepted) in
     let k = zero-accepts Decorrelation qs between (b .accepted) in
     let lists : Joinable ps qs buffer =
     record { first-valid = h .well-made; second-valid = k .well-made; at-most-16 = few-passes first second (j .at-most-16); at-most-262144 = h .short } in
-    let same : Same (decorrelatedApart ps qs buffer) (decorrelation (ps ++ qs) buffer) = decorrelation-joined ps qs buffer lists in
-    let joined = joined-leaves decorrelation first second buffer (a .whole) (b .whole) (same .joined-accepted) in
-    same-in-slots (decorrelateApart first second buffer) _ (decorrelation ps buffer) (decorrelation qs between) (decorrelation (ps ++ qs) buffer)
-    one two joined (same .same-buffer ∙ sym (buffer-of two)) (same .same-states)
+    same-in-slots decorrelation first second buffer (a .whole) (b .whole) apart (decorrelatedApart ps qs buffer) one two (buffer-of two) (decorrelation-joined ps qs buffer lists)
 
 -- Q4.3
 pub analyse-joined : AnalyseJoined
 analyse-joined first second buffer j =
     let ps = passesIn first in
     let qs = passesIn second in
+    let apart = analyseApart first second buffer in
     let b = call-accepts analysis second buffer (j .second-accepted) in
-    let two = call-leaves analysis second buffer b in
+    let two : apart .second ≡ inSlots (analysis qs buffer) = call-leaves analysis second buffer b in
     let between = analysis qs buffer .buffer in
     let a = call-accepts analysis first between (rw (buffer-of two) at (j .first-accepted)) in
-    let one : analyseApart first second buffer .first ≡ inSlots (analysis ps between) =
-    rw (buffer-of two) (call-leaves analysis first between a) in
+    let one : apart .first ≡ inSlots (analysis ps between) = rw (buffer-of two) (call-leaves analysis first between a) in
     let h = zero-accepts Analysis ps between (a .accepted) in
     let k = zero-accepts Analysis qs buffer (b .accepted) in
     let lists : Joinable ps qs buffer =
     record { first-valid = h .well-made; second-valid = k .well-made; at-most-16 = few-passes first second (j .at-most-16); at-most-262144 = k .short } in
-    let same : Same (analysedApart ps qs buffer) (analysis (ps ++ qs) buffer) = analysis-joined ps qs buffer lists in
-    let joined = joined-leaves analysis first second buffer (a .whole) (b .whole) (same .joined-accepted) in
-    same-in-slots (analyseApart first second buffer) _ (analysis ps between) (analysis qs buffer) (analysis (ps ++ qs) buffer)
-    one two joined (same .same-buffer ∙ sym (buffer-of one)) (same .same-states)
+    same-in-slots analysis first second buffer (a .whole) (b .whole) apart (analysedApart ps qs buffer) one two (buffer-of one) (analysis-joined ps qs buffer lists)

@@ -1,0 +1,78 @@
+/* Pass lists joined, by the C interface: the slots of the second list behind those of the first, the
+   numbers of crates/joined_lists/specs/Example.antt. */
+#include <string.h>
+#include "answers.h"
+
+enum { MICROPHONE = WV_PASS_SLOTS, STEM = 2 * WV_PASS_SLOTS, BOTH = MICROPHONE + STEM, ELEMENTS = 5 };
+
+/* The microphone's pass, then the two of the stem: before the calls, and after them. */
+static const int32_t before[BOTH] = {
+    18, 2, 1024, 1024, 10, 4, 0, 0, 0, 0, 0, 0, 1,  -2, 0, 0, 0, 0, 0, 0, /* */
+    1,  1, 512,  -512, 20, 0, 0, 0, 0, 0, 0, 0, -6, 0,  0, 0, 0, 0, 0, 0, /* */
+    -1, 3, 256,  1023, 40, 0, 0, 0, 0, 0, 0, 0, 8,  0,  0, 0, 0, 0, 0, 0,
+};
+static const int32_t after[BOTH] = {
+    18, 2, 1028, 1024, 116, 14, 0,   0, 0, 0, 0, 0, 51, 1, 0,  0, 0, 0, 0, 0, /* */
+    1,  1, 514,  -512, 20,  24, 128, 0, 0, 0, 0, 0, -6, 4, 49, 0, 0, 0, 0, 0, /* */
+    -1, 3, 262,  1024, 187, 0,  0,   0, 0, 0, 0, 0, 8,  0, 0,  0, 0, 0, 0, 0,
+};
+static const int32_t residuals[ELEMENTS] = {1, -1, 100, 50, 7};
+static const int32_t between[ELEMENTS] = {14, 1, 116, 51, 7};
+static const int32_t samples[ELEMENTS] = {34, 38, 138, 187, 7};
+
+typedef uint32_t direction(int32_t *passes, size_t passes_len, int32_t *buffer, size_t buffer_len);
+
+/* Both lists in one call. */
+static void in_one_call(direction *call, const int32_t *from, const int32_t *to)
+{
+    int32_t passes[BOTH], buffer[ELEMENTS];
+    memcpy(passes, before, sizeof passes);
+    memcpy(buffer, from, sizeof buffer);
+    expect("a joined call", call(passes, BOTH, buffer, ELEMENTS), 0);
+    expect_list("the buffer of a joined call", buffer, to, ELEMENTS);
+    expect_list("the passes of a joined call", passes, after, BOTH);
+}
+
+/* The list whose slots begin at `at`, in a call of its own. */
+static void in_its_own_call(direction *call, int32_t *passes, size_t at, size_t slots, int32_t *buffer, const int32_t *to)
+{
+    expect("the call of one list", call(passes + at, slots, buffer, ELEMENTS), 0);
+    expect_list("the buffer of one list's call", buffer, to, ELEMENTS);
+}
+
+/* 17 passes are refused in one call and taken by two. */
+static void over_sixteen(direction *call)
+{
+    static int32_t passes[17 * WV_PASS_SLOTS], kept[17 * WV_PASS_SLOTS];
+    int32_t buffer[ELEMENTS];
+    for (size_t i = 0; i < 17; i++)
+        memcpy(passes + i * WV_PASS_SLOTS, before, MICROPHONE * sizeof *passes);
+    memcpy(kept, passes, sizeof kept);
+    memcpy(buffer, residuals, sizeof buffer);
+    expect("17 passes in one call", call(passes, 17 * WV_PASS_SLOTS, buffer, ELEMENTS), WV_TOO_MANY_PASSES);
+    expect_list("the buffer of 17 passes", buffer, residuals, ELEMENTS);
+    expect_list("17 passes", passes, kept, 17 * WV_PASS_SLOTS);
+    expect("16 passes", call(passes, 16 * WV_PASS_SLOTS, buffer, ELEMENTS), 0);
+    expect("and the seventeenth", call(passes + 16 * WV_PASS_SLOTS, WV_PASS_SLOTS, buffer, ELEMENTS), 0);
+}
+
+void joined_lists(void)
+{
+    int32_t passes[BOTH], buffer[ELEMENTS];
+    in_one_call(wv_decorrelate, residuals, samples);
+    in_one_call(wv_analyse, samples, residuals);
+
+    memcpy(passes, before, sizeof passes);
+    memcpy(buffer, residuals, sizeof buffer);
+    in_its_own_call(wv_decorrelate, passes, 0, MICROPHONE, buffer, between);
+    in_its_own_call(wv_decorrelate, passes, MICROPHONE, STEM, buffer, samples);
+    expect_list("the passes of two calls", passes, after, BOTH);
+
+    memcpy(passes, before, sizeof passes);
+    in_its_own_call(wv_analyse, passes, MICROPHONE, STEM, buffer, between);
+    in_its_own_call(wv_analyse, passes, 0, MICROPHONE, buffer, residuals);
+    expect_list("the passes of two calls of analysis", passes, after, BOTH);
+
+    over_sixteen(wv_decorrelate);
+    over_sixteen(wv_analyse);
+}
