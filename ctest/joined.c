@@ -7,18 +7,18 @@ enum { MICROPHONE = WV_PASS_SLOTS, STEM = 2 * WV_PASS_SLOTS, BOTH = MICROPHONE +
 
 /* The microphone's pass, then the two of the stem: before the calls, and after them. */
 static const int32_t before[BOTH] = {
-    18, 2, 1024, 1024, 10, 4, 0, 0, 0, 0, 0, 0, 1,  -2, 0, 0, 0, 0, 0, 0,
+    17, 2, 1024, 1024, 10, 4, 0, 0, 0, 0, 0, 0, 1,  -2, 0, 0, 0, 0, 0, 0,
     1,  1, 512,  -512, 20, 0, 0, 0, 0, 0, 0, 0, -6, 0,  0, 0, 0, 0, 0, 0,
     -1, 3, 256,  1023, 40, 0, 0, 0, 0, 0, 0, 0, 8,  0,  0, 0, 0, 0, 0, 0,
 };
 static const int32_t after[BOTH] = {
-    18, 2, 1028, 1024, 116, 14, 0,   0, 0, 0, 0, 0, 51, 1, 0,  0, 0, 0, 0, 0,
-    1,  1, 514,  -512, 20,  24, 128, 0, 0, 0, 0, 0, -6, 4, 49, 0, 0, 0, 0, 0,
-    -1, 3, 262,  1024, 187, 0,  0,   0, 0, 0, 0, 0, 8,  0, 0,  0, 0, 0, 0, 0,
+    17, 2, 1028, 1024, 124, 17, 0,   0, 0, 0, 0, 0, 55, 3, 0,  0, 0, 0, 0, 0,
+    1,  1, 514,  -512, 20,  27, 138, 0, 0, 0, 0, 0, -6, 6, 52, 0, 0, 0, 0, 0,
+    -1, 3, 262,  1024, 201, 0,  0,   0, 0, 0, 0, 0, 8,  0, 0,  0, 0, 0, 0, 0,
 };
 static const int32_t residuals[ELEMENTS] = {1, -1, 100, 50, 7};
-static const int32_t between[ELEMENTS] = {14, 1, 116, 51, 7};
-static const int32_t samples[ELEMENTS] = {34, 38, 138, 187, 7};
+static const int32_t between[ELEMENTS] = {17, 3, 124, 55, 7};
+static const int32_t samples[ELEMENTS] = {37, 43, 149, 201, 7};
 
 typedef uint32_t direction(int32_t *passes, size_t passes_len, int32_t *buffer, size_t buffer_len);
 

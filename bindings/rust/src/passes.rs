@@ -117,7 +117,7 @@ impl Pass {
 ///
 /// ```
 /// use wavpack_stereo::{Delta, Pass, Refusal, Weight, decorrelate};
-/// let microphone = Pass::new(18, Delta(2), [Weight(1024); 2], [&[10, 4], &[1, -2]])?;
+/// let microphone = Pass::new(17, Delta(2), [Weight(1024); 2], [&[10, 4], &[1, -2]])?;
 /// let stem = Pass::new(-1, Delta(3), [Weight(256), Weight(1023)], [&[40], &[8]])?;
 /// let (mut apart, mut buffer) = ([microphone, stem], [1, -1, 100, 50]);
 /// let (mut joined, mut samples) = (apart.clone(), buffer);

@@ -15,7 +15,7 @@ use libc::STDOUT_FILENO;
 // The microphone's only pass.
 fn microphone() -> DecorrPass {
     DecorrPass {
-        term: 18,
+        term: 17,
         delta: 2,
         weight_a: 1024,
         weight_b: 1024,

@@ -6,7 +6,7 @@ use native.Mathlib.Omega.{arith}
 use lib.IntN.{ℤ, pos, natAbs}
 use lib.ListN.{getD}
 use Rattle.wrapping.specs.Wrap.{wrap32, low32}
-use Rattle.weights.specs.Weights.{predict, sample, residual, source18, atMost1024, updated, updatedClip}
+use Rattle.weights.specs.Weights.{predict, sample, residual, source17, atMost1024, updated, updatedClip}
 use Rattle.passes.specs.Terms.{termOf}
 use Rattle.passes.specs.Step.{step, unstep, advanced}
 use Rattle.passes.specs.Run.{passed}
@@ -15,7 +15,7 @@ use Rattle.joined_lists.specs.Example.{ByNumbers, OrderMatters, Seventee
 
 -- two calls and one leave the same numbers
 pub by-numbers : ByNumbers
-unfolding listed listNumber termOf passed step unstep advanced sample residual source18 predict updated updatedClip atMost1024 wrap32 low32
+unfolding listed listNumber termOf passed step unstep advanced sample residual source17 predict updated updatedClip atMost1024 wrap32 low32
 by-numbers =
     record {
       microphone-first = refl;
@@ -28,12 +28,12 @@ by-numbers =
 
 -- the other order leaves other residuals
 pub order-matters : OrderMatters
-unfolding listed listNumber termOf passed unstep advanced residual source18 predict updated updatedClip atMost1024 wrap32 low32
-order-matters e = let z : _≡_ {A = ℕ} 77 100 = ap (λ (l : List ℤ). natAbs (getD l 2 (pos 0))) e in omega arith
+unfolding listed listNumber termOf passed unstep advanced residual source17 predict updated updatedClip atMost1024 wrap32 low32
+order-matters e = let z : _≡_ {A = ℕ} 69 100 = ap (λ (l : List ℤ). natAbs (getD l 2 (pos 0))) e in omega arith
 
 -- 17 passes
 pub seventeen-by-numbers : Seventeen
-unfolding listed listNumber termOf passed step advanced sample source18 predict updated wrap32 low32
+unfolding listed listNumber termOf passed step advanced sample source17 predict updated wrap32 low32
 seventeen-by-numbers =
     record {
       over-sixteen = record {

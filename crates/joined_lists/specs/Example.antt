@@ -23,7 +23,7 @@ passWith term delta weightA weightB beginsA beginsB =
 
 -- the microphone's list has one pass
 abbrev pub microphonePass : DecorrPass
-microphonePass = passWith (pos 18) (pos 2) (pos 1024) (pos 1024) (pos 10 ∷ pos 4 ∷ []) (pos 1 ∷ negℤ (pos 2) ∷ [])
+microphonePass = passWith (pos 17) (pos 2) (pos 1024) (pos 1024) (pos 10 ∷ pos 4 ∷ []) (pos 1 ∷ negℤ (pos 2) ∷ [])
 
 abbrev pub microphone : List DecorrPass
 microphone = microphonePass ∷ []
@@ -41,19 +41,19 @@ abbrev pub residuals : List ℤ
 residuals = pos 1 ∷ negℤ (pos 1) ∷ pos 100 ∷ pos 50 ∷ pos 7 ∷ []
 
 abbrev pub between : List ℤ
-between = pos 14 ∷ pos 1 ∷ pos 116 ∷ pos 51 ∷ pos 7 ∷ []
+between = pos 17 ∷ pos 3 ∷ pos 124 ∷ pos 55 ∷ pos 7 ∷ []
 
 abbrev pub samples : List ℤ
-samples = pos 34 ∷ pos 38 ∷ pos 138 ∷ pos 187 ∷ pos 7 ∷ []
+samples = pos 37 ∷ pos 43 ∷ pos 149 ∷ pos 201 ∷ pos 7 ∷ []
 
 -- both lists afterwards
 abbrev pub microphoneAfter : List DecorrPass
-microphoneAfter = passWith (pos 18) (pos 2) (pos 1028) (pos 1024) (pos 116 ∷ pos 14 ∷ []) (pos 51 ∷ pos 1 ∷ []) ∷ []
+microphoneAfter = passWith (pos 17) (pos 2) (pos 1028) (pos 1024) (pos 124 ∷ pos 17 ∷ []) (pos 55 ∷ pos 3 ∷ []) ∷ []
 
 abbrev pub stemAfter : List DecorrPass
 stemAfter =
-    passWith (pos 1) (pos 1) (pos 514) (negℤ (pos 512)) (pos 20 ∷ pos 24 ∷ pos 128 ∷ []) (negℤ (pos 6) ∷ pos 4 ∷ pos 49 ∷ [])
-    ∷ passWith (negℤ (pos 1)) (pos 3) (pos 262) (pos 1024) (pos 187 ∷ []) (pos 8 ∷ [])
+    passWith (pos 1) (pos 1) (pos 514) (negℤ (pos 512)) (pos 20 ∷ pos 27 ∷ pos 138 ∷ []) (negℤ (pos 6) ∷ pos 6 ∷ pos 52 ∷ [])
+    ∷ passWith (negℤ (pos 1)) (pos 3) (pos 262) (pos 1024) (pos 201 ∷ []) (pos 8 ∷ [])
     ∷ []
 
 -- an accepted call that leaves these passes and this buffer
@@ -83,5 +83,5 @@ sixteen = replicate 16 microphonePass
 -- (Q4.1)
 pub record Seventeen : Type 0 where
   pub over-sixteen : OverSixteen sixteen microphone residuals
-  pub left-by-two : decorrelatedApart sixteen microphone residuals .left ≡ pos 222 ∷ pos 33 ∷ pos 3024 ∷ pos 475 ∷ pos 7 ∷ []
+  pub left-by-two : decorrelatedApart sixteen microphone residuals .left ≡ pos 273 ∷ pos 67 ∷ pos 4869 ∷ pos 1223 ∷ pos 7 ∷ []
   pub left-by-one : decorrelation (sixteen ++ microphone) residuals ≡ refuseList (sixteen ++ microphone) residuals 9
