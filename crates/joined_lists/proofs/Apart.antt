@@ -10,7 +10,7 @@ use Rattle.answers.specs.Limits.{maxPasses}
 use Rattle.passes.specs.Run.{Chain}
 use Rattle.passes.specs.declared.DecorrPass.{DecorrPass}
 use Rattle.passes.specs.declared.Direction.the-variants.{Decorrelation, Analysis}
-use Rattle.decorrelation.specs.Lists.{Answer, decorrelation, analysis}
+use Rattle.decorrelation.specs.Lists.{Answer, refuseList, decorrelation, analysis}
 use Rattle.decorrelation.proofs.Theorems.{Accepted, listed-accepts}
 use Rattle.joined_lists.specs.Joined.{TwoCalls, OverSixteen, OnlyApart, Exactly, DecorrelationApart, AnalysisApart, DecorrelationAccepted, AnalysisAccepted}
 use Rattle.joined_lists.proofs.AcceptLaws.{zero-accepts, joined-accepts, parts-accept, nine-together}
@@ -24,7 +24,7 @@ each-accepts ps qs l o = (
 )
 
 -- a joined call that is refused
-apart-of : {apart : TwoCalls} {joined refused : Answer} {all : Chain} → Runs apart all → joined ≡ refused → OnlyApart apart joined refused all
+apart-of : {both : List DecorrPass} {l : List ℤ} {apart : TwoCalls} {joined : Answer} {all : Chain} → Runs apart all → joined ≡ refuseList both l 9 → OnlyApart both l apart joined all
 apart-of r e = record { first-accepted = r .first-accepted; second-accepted = r .second-accepted; joined-refused = e; all-run = r .all-run }
 
 -- Q4.1: the joined call is refused, the two calls are not

@@ -85,27 +85,25 @@ pub record OverSixteen (first second : List DecorrPass) (buffer : List ℤ) : Ty
   pub over-16 : maxPasses < length first + length second
   pub at-most-262144 : length buffer ≤ maxElements
 
--- the joined call is refused; the two calls are accepted, and leave what all the passes leave one
--- after the other (P10, P12), which no single call does
-pub record OnlyApart (apart : TwoCalls) (joined refused : Answer) (all : Chain) : Type 0 where
+-- the joined call refuses both lists with 9 and changes nothing; the two calls are accepted, and
+-- leave what all the passes leave one after the other (P10, P12), which no single call does
+pub record OnlyApart (both : List DecorrPass) (buffer : List ℤ) (apart : TwoCalls) (joined : Answer) (all : Chain) : Type 0 where
   pub first-accepted : apart .first .refusal ≡ 0
   pub second-accepted : apart .second .refusal ≡ 0
-  pub joined-refused : joined ≡ refused
+  pub joined-refused : joined ≡ refuseList both buffer 9
   pub all-run : record { passes = apart .first .passes ++ apart .second .passes; buffer = apart .left } ≡ all
 
--- with 9, and nothing changes: in decorrelation (Q4.1)
+-- in decorrelation (Q4.1)
 abbrev pub DecorrelationApart : Type 0
 DecorrelationApart =
     (first second : List DecorrPass) (buffer : List ℤ) → OverSixteen first second buffer
-    → let both = first ++ second in
-    OnlyApart (decorrelatedApart first second buffer) (decorrelation both buffer) (refuseList both buffer 9) (decorrelated both buffer)
+    → OnlyApart (first ++ second) buffer (decorrelatedApart first second buffer) (decorrelation (first ++ second) buffer) (decorrelated (first ++ second) buffer)
 
 -- and in analysis (Q4.3)
 abbrev pub AnalysisApart : Type 0
 AnalysisApart =
     (first second : List DecorrPass) (buffer : List ℤ) → OverSixteen first second buffer
-    → let both = first ++ second in
-    OnlyApart (analysedApart first second buffer) (analysis both buffer) (refuseList both buffer 9) (analysed both buffer)
+    → OnlyApart (first ++ second) buffer (analysedApart first second buffer) (analysis (first ++ second) buffer) (analysed (first ++ second) buffer)
 
 -- ---- any passes, any buffer
 
