@@ -40,20 +40,42 @@ static void in_its_own_call(direction *call, int32_t *passes, size_t at, size_t 
     expect_list("the buffer of one list's call", buffer, to, ELEMENTS);
 }
 
-/* 17 passes are refused in one call and taken by two. */
-static void over_sixteen(direction *call)
+/* 17 passes, each the microphone's, before a call. */
+static void seventeen(int32_t *passes)
 {
-    static int32_t passes[17 * WV_PASS_SLOTS], kept[17 * WV_PASS_SLOTS];
-    int32_t buffer[ELEMENTS];
     for (size_t i = 0; i < 17; i++)
         memcpy(passes + i * WV_PASS_SLOTS, before, MICROPHONE * sizeof *passes);
+}
+
+/* They are refused in one call, which changes nothing. */
+static void refused(direction *call, int32_t *passes, int32_t *buffer)
+{
+    static int32_t kept[17 * WV_PASS_SLOTS];
+    int32_t as_it_was[ELEMENTS];
     memcpy(kept, passes, sizeof kept);
-    memcpy(buffer, residuals, sizeof buffer);
+    memcpy(as_it_was, buffer, sizeof as_it_was);
     expect("17 passes in one call", call(passes, 17 * WV_PASS_SLOTS, buffer, ELEMENTS), WV_TOO_MANY_PASSES);
-    expect_list("the buffer of 17 passes", buffer, residuals, ELEMENTS);
+    expect_list("the buffer of 17 passes", buffer, as_it_was, ELEMENTS);
     expect_list("17 passes", passes, kept, 17 * WV_PASS_SLOTS);
-    expect("16 passes", call(passes, 16 * WV_PASS_SLOTS, buffer, ELEMENTS), 0);
-    expect("and the seventeenth", call(passes + 16 * WV_PASS_SLOTS, WV_PASS_SLOTS, buffer, ELEMENTS), 0);
+}
+
+/* Two calls take them, by 16 and by the seventeenth, there and back. */
+static void over_sixteen(void)
+{
+    static int32_t there[17 * WV_PASS_SLOTS], back[17 * WV_PASS_SLOTS];
+    static const int32_t left[ELEMENTS] = {273, 67, 4869, 1223, 7};
+    const size_t sixteen = 16 * WV_PASS_SLOTS;
+    int32_t buffer[ELEMENTS];
+    seventeen(there);
+    seventeen(back);
+    memcpy(buffer, residuals, sizeof buffer);
+    refused(wv_decorrelate, there, buffer);
+    expect("16 passes", wv_decorrelate(there, sixteen, buffer, ELEMENTS), 0);
+    in_its_own_call(wv_decorrelate, there, sixteen, MICROPHONE, buffer, left);
+    refused(wv_analyse, back, buffer);
+    expect("the seventeenth undone", wv_analyse(back + sixteen, MICROPHONE, buffer, ELEMENTS), 0);
+    in_its_own_call(wv_analyse, back, 0, sixteen, buffer, residuals);
+    expect_list("the 17 passes of analysis", back, there, 17 * WV_PASS_SLOTS);
 }
 
 void joined_lists(void)
@@ -73,6 +95,5 @@ void joined_lists(void)
     in_its_own_call(wv_analyse, passes, 0, MICROPHONE, buffer, residuals);
     expect_list("the passes of two calls of analysis", passes, after, BOTH);
 
-    over_sixteen(wv_decorrelate);
-    over_sixteen(wv_analyse);
+    over_sixteen();
 }

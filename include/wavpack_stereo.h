@@ -141,8 +141,9 @@ uint32_t wv_decorrelate(int32_t *passes, size_t passes_len, int32_t *buffer, siz
 
 /* Analysis, the inverse: turns the samples of buffer into the residuals that decorrelate to them,
  * and leaves the passes as decorrelation would. Refuses as `wv_decorrelate` does.
- * Of two lists the second is undone before the first: then the two calls leave what one call by the
- * second list's slots behind the first's leaves. */
+ * Of two lists the second is undone before the first: two such calls that are accepted leave what
+ * one call by the second list's slots behind the first's leaves, where both have at most 16 passes
+ * together. */
 uint32_t wv_analyse(int32_t *passes, size_t passes_len, int32_t *buffer, size_t buffer_len);
 
 /* Packs the residuals of a stereo block: `frames` frames, left then right, 2 times frames

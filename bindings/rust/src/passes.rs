@@ -111,9 +111,9 @@ impl Pass {
 /// # Ok::<(), Refusal>(())
 /// ```
 ///
-/// A list for the microphone and then one for the stem come to what one call comes to with the
-/// second appended to the first, in samples and in all pass states, while both have at most
-/// [`MAX_PASSES`] together. That is proved (rows Q4.1 and Q4.2 of docs/PROVED.md).
+/// Accepted calls by a list for the microphone and then by one for the stem leave what one call
+/// leaves with the second appended to the first, in samples and in all pass states, where both
+/// have at most [`MAX_PASSES`] together. That is proved (rows Q4.1 and Q4.2 of docs/PROVED.md).
 ///
 /// ```
 /// use wavpack_stereo::{Delta, Pass, Refusal, Weight, decorrelate};
@@ -135,8 +135,9 @@ pub fn decorrelate(passes: &mut [Pass], buffer: &mut [i32]) -> Result<(), Refusa
 /// Analysis, the inverse: turns the samples of `buffer` into the residuals that decorrelate to
 /// them, and leaves the passes as decorrelation would. Refuses as [`decorrelate`] does.
 ///
-/// Of two lists the second is undone before the first: analysis by it and then by the first comes
-/// to one call with the second appended to the first (row Q4.3).
+/// Of two lists the second is undone before the first: accepted calls by it and then by the first
+/// leave what one call leaves with the second appended to the first, where both have at most
+/// [`MAX_PASSES`] together (row Q4.3).
 ///
 /// ```
 /// use wavpack_stereo::{Delta, Pass, Refusal, Weight, analyse, decorrelate};
