@@ -10,6 +10,15 @@ pub refused-first : (n later : ℕ) → 0 < n → orElse n later ≡ n
 refused-first zero later h = absurd (omega arith)
 refused-first (suc n) later h = refl
 
+-- where the earlier test found nothing the later one decides
+pub refused-later : (n later : ℕ) → n ≡ 0 → orElse n later ≡ later
+refused-later n later e = rw e
+
+-- none is told only where neither test found anything
+pub neither-refused : (n later : ℕ) → orElse n later ≡ 0 → (n ≡ 0) × (later ≡ 0)
+neither-refused zero later e = (refl, e)
+neither-refused (suc n) later e = absurd (omega arith)
+
 module _ {A : Type 0} where
   -- a refusal keeps
   pub guard-refused : (n : ℕ) (kept : ℕ → A) (happens : A) → 0 < n → unlessRefused n kept happens ≡ kept n

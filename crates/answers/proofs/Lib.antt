@@ -1,4 +1,5 @@
 -- What other crates cite.
 pub mod NumberLaws
 pub mod GuardLaws
+pub mod ListLaws
 pub mod TestLaws

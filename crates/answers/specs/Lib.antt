@@ -1,3 +1,4 @@
 pub mod Numbers
 pub mod Guard
 pub mod Limits
+pub mod Lists

@@ -1,11 +1,11 @@
--- Bytes stored one after the other.
+-- Bytes stored and taken one after the other.
 -- Assumes nothing.
 use mathlib.Core.Path.{_≡_}
 use mathlib.Core.List.{List, [], _∷_}
 use Prim.Native.Nat.{ℕ, suc, _+_, _≤_}
 use native.Mathlib.Omega.{arith}
-use lib.ListN.{length, getD, set}
-use lib.Seq.{sets-eq}
+use lib.ListN.{length, getD, set, take, drop}
+use lib.Seq.{sets-eq, drop-cons}
 use Rattle.overlay.specs.Overlay.{overlay}
 use Rattle.little_endian.specs.LittleEndian.{littleEndian}
 
@@ -23,3 +23,20 @@ four-laid out at a b c d bytes h e =
 pub number-is : (n : ℕ) (bytes : List ℕ) → bytes ≡ littleEndian 4 n → getD bytes 0 0 ∷ getD bytes 1 0 ∷ getD bytes 2 0 ∷ getD bytes 3 0 ∷ [] ≡ littleEndian 4 n
 unfolding littleEndian
 number-is n bytes e = rw e
+
+-- four bytes of a list, one by one
+pub four-taken : (bytes : List ℕ) (at : ℕ) → at + 4 ≤ length bytes
+    → take 4 (drop at bytes) ≡ getD bytes at 0 ∷ getD bytes (at + 1) 0 ∷ getD bytes (at + 2) 0 ∷ getD bytes (at + 3) 0 ∷ []
+four-taken bytes at h =
+    let one : at + 1 ≡ suc at = omega arith in
+    let two : at + 2 ≡ suc (suc at) = omega arith in
+    let three : at + 3 ≡ suc (suc (suc at)) = omega arith in
+    rw (
+      one,
+      two,
+      three,
+      drop-cons bytes at 0 (omega arith),
+      drop-cons bytes (suc at) 0 (omega arith),
+      drop-cons bytes (suc (suc at)) 0 (omega arith),
+      drop-cons bytes (suc (suc (suc at))) 0 (omega arith),
+    )

@@ -3,60 +3,52 @@
 use mathlib.Core.Path.{_≡_, refl, sym, ap, _∙_}
 use mathlib.Core.Bool.{Bool, true, false, cond}
 use mathlib.Core.List.{List}
-use Prim.Native.Nat.{ℕ, zero, suc, _+_, _*_, _%_, _≤_, _<_}
+use Prim.Native.Nat.{ℕ, zero, suc, _+_, _*_, _<_}
 use native.Mathlib.Omega.{arith}
-use borrow.Author.Tests.{lt-ltb, le-ltb, eq-eqb, ne-eqb, ltb-false, eqb-true}
-use lib.Dec.{ltb, eqb}
 use lib.IntN.{ℤ}
 use lib.ListN.{length}
 use Rattle.answers.specs.declared.Outcome.{Outcome}
 use Rattle.answers.specs.declared.Refusal.{Refusal}
 use Rattle.answers.specs.Guard.{orElse, unlessRefused}
-use Rattle.answers.specs.Limits.{maxElements}
+use Rattle.answers.specs.Lists.{framesRefusal, Fitting}
 use Rattle.answers.specs.Numbers.{outcomeNumber}
-use Rattle.answers.proofs.GuardLaws.{guard-refused, guard-accepted}
+use Rattle.answers.proofs.GuardLaws.{refused-first, refused-later, neither-refused, guard-refused, guard-accepted}
+use Rattle.answers.proofs.ListLaws.{frames-none, frames-fit}
 use Rattle.answers.proofs.NumberLaws.{number-positive}
 use Rattle.overlay.specs.Overlay.{overlay}
 use Rattle.overlay.proofs.OverlayLaws.{overlay-two}
 use Rattle.wave_file.specs.File.{headerBytes, rateTaken, waveHeader, dataBytes, waveFile}
-use Rattle.wave.specs.Export.{Fitting, within16, lengthRefusal, soundRefusal, exportRefusal, refuseExport, tellExport, exportEntry}
+use Rattle.wave.specs.Export.{within16, fileBytes, soundRefusal, exportRefusal, refuseExport, tellExport, exportEntry}
 use Rattle.wave_file.proofs.FileLaws.{header-length, file-length}
 
--- the lengths, the rate and the samples are right
+-- the list and the buffer are right
+abbrev pub Fits : List ℤ → ℕ → Type 0
+Fits samples room = Fitting (length samples) (fileBytes (length samples)) room
+
+-- and so are the rate and the samples
 pub record Ready (rate : ℕ) (samples : List ℤ) (room : ℕ) : Type 0 where
-  pub fitting : Fitting (length samples) room
+  pub fitting : Fits samples room
   pub rate-taken : rateTaken rate ≡ true
   pub sixteen-bits : within16 samples ≡ true
 
 module _ (rate : ℕ) (samples : List ℤ) (room : ℕ) where
-  -- 5: over 262,144 samples
-  pub export-long : maxElements < length samples → 5 ≡ exportRefusal rate samples room
-  unfolding exportRefusal lengthRefusal
-  export-long h = rw (lt-ltb maxElements (length samples) h)
-
-  -- 6: an odd number of them
-  pub export-odd : length samples ≤ maxElements → (length samples % 2 ≡ 0 → ⊥) → 6 ≡ exportRefusal rate samples room
-  unfolding exportRefusal lengthRefusal
-  export-odd f h = rw (le-ltb maxElements (length samples) f, ne-eqb (length samples % 2) 0 h)
-
-  -- 11: a short buffer
-  pub export-room : length samples ≤ maxElements → length samples % 2 ≡ 0 → room < headerBytes + 2 * length samples → 11 ≡ exportRefusal rate samples room
-  unfolding exportRefusal lengthRefusal
-  export-room f e h = rw (le-ltb maxElements (length samples) f, eq-eqb (length samples % 2) 0 e, lt-ltb room (headerBytes + 2 * length samples) h)
+  -- 5, 6, 11: the list and the buffer are told of first
+  pub export-lengths : (number : ℕ) → framesRefusal (length samples) (fileBytes (length samples)) room ≡ number → 0 < number → number ≡ exportRefusal rate samples room
+  unfolding exportRefusal
+  export-lengths number e h = sym (ap (λ (n : ℕ). orElse n (soundRefusal rate samples)) e ∙ refused-first number (soundRefusal rate samples) h)
 
   -- none of these three: the rate and the samples decide
-  fits-is : Fitting (length samples) room → exportRefusal rate samples room ≡ soundRefusal rate samples
-  unfolding exportRefusal lengthRefusal
-  fits-is f =
-      rw (le-ltb maxElements (length samples) (f .few), eq-eqb (length samples % 2) 0 (f .whole-frames), le-ltb room (headerBytes + 2 * length samples) (f .enough))
+  fits-is : Fits samples room → exportRefusal rate samples room ≡ soundRefusal rate samples
+  unfolding exportRefusal
+  fits-is f = refused-later (framesRefusal (length samples) (fileBytes (length samples)) room) (soundRefusal rate samples) (frames-none (length samples) (fileBytes (length samples)) room f)
 
   -- 14: the rate is outside its span
-  pub export-rate : Fitting (length samples) room → rateTaken rate ≡ false → 14 ≡ exportRefusal rate samples room
+  pub export-rate : Fits samples room → rateTaken rate ≡ false → 14 ≡ exportRefusal rate samples room
   unfolding soundRefusal
   export-rate f r = sym (fits-is f ∙ rw r)
 
   -- 13: a sample is outside 16 bits
-  pub export-span : Fitting (length samples) room → rateTaken rate ≡ true → within16 samples ≡ false → 13 ≡ exportRefusal rate samples room
+  pub export-span : Fits samples room → rateTaken rate ≡ true → within16 samples ≡ false → 13 ≡ exportRefusal rate samples room
   unfolding soundRefusal
   export-span f r s = sym (fits-is f ∙ rw (r, s))
 
@@ -67,32 +59,18 @@ module _ (rate : ℕ) (samples : List ℤ) (room : ℕ) where
 
   -- and then all of it holds
   pub export-ready : exportRefusal rate samples room ≡ 0 → Ready rate samples room
-  unfolding exportRefusal lengthRefusal soundRefusal
-  export-ready e = long (ltb maxElements (length samples)) refl e
+  unfolding exportRefusal soundRefusal
+  export-ready e =
+      let n = neither-refused (framesRefusal (length samples) (fileBytes (length samples)) room) (soundRefusal rate samples) e in
+      sound (frames-fit (length samples) (fileBytes (length samples)) room (n .0)) (rateTaken rate) refl (n .1)
     where
-      span : Fitting (length samples) room → (t : Bool) → rateTaken rate ≡ true → within16 samples ≡ t → _≡_ {A = ℕ} (cond t 0 13) 0 → Ready rate samples room
+      span : Fits samples room → (t : Bool) → rateTaken rate ≡ true → within16 samples ≡ t → _≡_ {A = ℕ} (cond t 0 13) 0 → Ready rate samples room
       span f true r q e = record { fitting = f; rate-taken = r; sixteen-bits = q }
       span f false r q e = absurd (omega arith)
 
-      sound : Fitting (length samples) room → (t : Bool) → rateTaken rate ≡ t → _≡_ {A = ℕ} (cond t (cond (within16 samples) 0 13) 14) 0 → Ready rate samples room
+      sound : Fits samples room → (t : Bool) → rateTaken rate ≡ t → _≡_ {A = ℕ} (cond t (cond (within16 samples) 0 13) 14) 0 → Ready rate samples room
       sound f true q e = span f (within16 samples) q refl e
       sound f false q e = absurd (omega arith)
-
-      short : length samples ≤ maxElements → length samples % 2 ≡ 0 → (t : Bool) → ltb room (headerBytes + 2 * length samples) ≡ t
-          → _≡_ {A = ℕ} (orElse (cond t 11 0) (soundRefusal rate samples)) 0 → Ready rate samples room
-      short f w true q e = absurd (omega arith)
-      short f w false q e = sound (record { few = f; whole-frames = w; enough = ltb-false _ _ q }) (rateTaken rate) refl e
-
-      odd : length samples ≤ maxElements → (t : Bool) → eqb (length samples % 2) 0 ≡ t
-          → _≡_ {A = ℕ} (orElse (cond t (cond (ltb room (headerBytes + 2 * length samples)) 11 0) 6) (soundRefusal rate samples)) 0 → Ready rate samples room
-      odd f true q e = short f (eqb-true _ _ q) (ltb room (headerBytes + 2 * length samples)) refl e
-      odd f false q e = absurd (omega arith)
-
-      long : (t : Bool) → ltb maxElements (length samples) ≡ t
-          → _≡_ {A = ℕ} (orElse (cond t 5 (cond (eqb (length samples % 2) 0) (cond (ltb room (headerBytes + 2 * length samples)) 11 0) 6)) (soundRefusal rate samples)) 0
-          → Ready rate samples room
-      long true q e = absurd (omega arith)
-      long false q e = odd (ltb-false _ _ q) (eqb (length samples % 2) 0) refl e
 
 module _ (rate : ℕ) (samples : List ℤ) (out : List ℕ) where
   -- a refusal leaves the buffer

@@ -23,11 +23,6 @@ use Rattle.wave.specs.Import.{alike, fileRate, isWave, fileSamples, impo
 use Rattle.wave.proofs.SampleLaws.{samples-length}
 
 module _ (file : List ℕ) where
-  -- the four bytes of the rate
-  pub rate-at : 28 ≤ length file → take 4 (drop 24 file) ≡ getD file 24 0 ∷ getD file 25 0 ∷ getD file 26 0 ∷ getD file 27 0 ∷ []
-  rate-at h =
-      rw (drop-cons file 24 0 (omega arith), drop-cons file 25 0 (omega arith), drop-cons file 26 0 (omega arith), drop-cons file 27 0 (omega arith))
-
   -- how many samples stand behind the header
   pub file-samples : length (fileSamples file) ≡ (length file - headerBytes) / 2
   file-samples = samples-length (drop headerBytes file) ∙ ap (λ (n : ℕ). n / 2) (length-drop headerBytes file)

@@ -11,7 +11,7 @@ use Rattle.overlay.specs.Overlay.{overlay}
 use Rattle.overlay.proofs.OverlayLaws.{overlay-none, overlay-two, overlay-length}
 use Rattle.little_endian.specs.LittleEndian.{littleEndian, signedBytes}
 use Rattle.wave_file.specs.File.{headerBytes, dataBytes}
-use Rattle.wave.specs.Export.{Fitting}
+use Rattle.wave.proofs.ExportLaws.{Fits}
 use Rattle.wave_file.proofs.FileLaws.{data-length, data-suc}
 
 -- the bytes of a frame, one by one
@@ -31,7 +31,7 @@ pub record Laid (samples : List ℤ) (before out : List ℕ) (i : ℕ) : Type 0 
   pub same-length : length out ≡ length before
   pub bytes : out ≡ overlay before headerBytes (dataBytes (take (2 * i) samples))
 
-module _ (samples : List ℤ) (before : List ℕ) (f : Fitting (length samples) (length before)) where
+module _ (samples : List ℤ) (before : List ℕ) (f : Fits samples (length before)) where
   -- none of them
   pub laid-none : Laid samples before before 0
   unfolding dataBytes

@@ -1,14 +1,12 @@
 -- Document 02 §1: what export answers, and what the lent buffer then holds.
 -- Assumes nothing.
-use mathlib.Core.Path.{_≡_}
-use Prim.Native.Nat.{ℕ, _+_, _*_, _%_, _≤_}
+use Prim.Native.Nat.{ℕ, _+_, _*_}
 use mathlib.Core.Bool.{Bool, cond}
 use mathlib.Core.List.{List}
-use lib.Dec.{ltb, eqb}
 use lib.IntN.{ℤ}
 use lib.ListN.{length}
 use Rattle.answers.specs.Guard.{orElse, unlessRefused}
-use Rattle.answers.specs.Limits.{maxElements}
+use Rattle.answers.specs.Lists.{framesRefusal}
 use Rattle.answers.specs.Numbers.{outcomeNumber}
 use Rattle.overlay.specs.Overlay.{overlay}
 use Rattle.spans.specs.Spans.{within}
@@ -29,26 +27,19 @@ pub record ExportTold : Type 0 where
 abbrev pub viewExport : Exported → List ℕ → ExportTold
 viewExport r bytes = record { refusal = outcomeNumber (r .outcome); written = r .written; bytes = bytes }
 
--- "a list of over 262,144 or an odd number of samples (5, 6) and a short lent buffer (11) come
--- first" (Q1.3)
-unfoldable pub lengthRefusal : ℕ → ℕ → ℕ
-lengthRefusal elements room =
-    cond (ltb maxElements elements) 5 (cond (eqb (elements % 2) 0) (cond (ltb room (headerBytes + 2 * elements)) 11 0) 6)
-
--- none of these three
-pub record Fitting (elements room : ℕ) : Type 0 where
-  pub few : elements ≤ maxElements
-  pub whole-frames : elements % 2 ≡ 0
-  pub enough : headerBytes + 2 * elements ≤ room
-
 -- "14, .. on export a rate outside its span, which is tested before 13"; "13, a sample outside
 -- -32,768 to 32,767" (Q1.3)
 unfoldable pub soundRefusal : ℕ → List ℤ → ℕ
 soundRefusal rate samples = cond (rateTaken rate) (cond (within16 samples) 0 13) 14
 
--- the first of them that applies, 0 for none
+-- the bytes that the file of so many samples has
+abbrev pub fileBytes : ℕ → ℕ
+fileBytes elements = headerBytes + 2 * elements
+
+-- "a list of over 262,144 or an odd number of samples (5, 6) and a short lent buffer (11) come
+-- first" (Q1.3); the first refusal that applies, 0 for none
 unfoldable pub exportRefusal : ℕ → List ℤ → ℕ → ℕ
-exportRefusal rate samples room = orElse (lengthRefusal (length samples) room) (soundRefusal rate samples)
+exportRefusal rate samples room = orElse (framesRefusal (length samples) (fileBytes (length samples)) room) (soundRefusal rate samples)
 
 -- a refusal writes nothing: 13 is "tested before any byte is written"
 abbrev pub refuseExport : List ℕ → ℕ → ExportTold

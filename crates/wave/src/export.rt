@@ -13,11 +13,12 @@ ghost use mathlib.Core.Bool.{true};
 ghost use mathlib.Core.List.{_++_};
 ghost use Prim.Native.Nat.{_+_, _≤_};
 ghost use lib.ListN.{length};
+ghost use Rattle.answers.specs.Lists.{Fitting};
 ghost use Rattle.answers.specs.Numbers.{outcomeNumber};
 ghost use Rattle.overlay.specs.Overlay.{overlay};
 ghost use Rattle.little_endian.specs.LittleEndian.{signedBytes};
 ghost use Rattle.wave_file.specs.File.{headerBytes, dataBytes};
-ghost use Rattle.wave.specs.Export.{within16, Fitting, exportRefusal, viewExport, exportEntry};
+ghost use Rattle.wave.specs.Export.{within16, fileBytes, exportRefusal, viewExport, exportEntry};
 
 // A sample of 16 bits, or its complement, lies below.
 const SAMPLE_SPAN: u32 = 32768;
@@ -67,7 +68,9 @@ fn lay_frame(left: i16, right: i16, at: usize, out: &mut [u8])
 
 // Lays all frames behind the header.
 fn lay_frames(samples: &[i32], out: &mut [u8])
-    requires fits { ⌜ Fitting (length (now samples)) (length (now out)) ⌝ }
+    requires fits { ⌜
+        Fitting (length (now samples)) (fileBytes (length (now samples))) (length (now out))
+        ⌝ }
     requires within { ⌜ within16 (now samples) ≡ true ⌝ }
     ensures { λ _. ⌜
         now (out .exit) ≡ overlay (now (out .entry)) headerBytes (dataBytes (now (samples .entry)))

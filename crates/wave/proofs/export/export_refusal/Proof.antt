@@ -1,26 +1,26 @@
 -- `wave::export::export_refusal` meets its contract.
 -- Assumes nothing.
 use mathlib.Core.Path.{sym, _∙_}
+use native.Mathlib.Omega.{arith}
 use borrow.Author.Tests.{not-true, not-false}
 use denote.Ref.{now}
-use lib.ListN.{length}
 use borrow.Author.Needs.{needs}
-use Rattle.wave.specs.Export.{Fitting}
-use Rattle.wave.proofs.ExportLaws.{export-long, export-odd, export-room, export-rate, export-span, export-none}
+use Rattle.answers.proofs.ListLaws.{frames-long, frames-odd, frames-room}
+use Rattle.wave.proofs.ExportLaws.{Fits, export-lengths, export-rate, export-span, export-none}
 use Rattle.wave.proofs.export.export_refusal.Statement.{statement}
 use Rattle.wave.proofs.export.export_refusal.Tie as tie
 
 returns : tie.Need-returns
-returns c = export-long _ _ _ (c .if1 .taken)
+returns c = export-lengths _ _ _ 5 (frames-long _ _ _ (c .if1 .taken)) (omega arith)
 
 returns-2 : tie.Need-returns-2
-returns-2 c = export-odd _ _ _ (c .before .if1 .left) (c .if2 .taken)
+returns-2 c = export-lengths _ _ _ 6 (frames-odd _ _ _ (c .before .if1 .left) (c .if2 .taken)) (omega arith)
 
 returns-3 : tie.Need-returns-3
-returns-3 c = export-room _ _ _ (c .before .before .if1 .left) (c .before .if2 .left) (c .if3 .taken)
+returns-3 c = export-lengths _ _ _ 11 (frames-room _ _ _ (c .before .before .if1 .left) (c .before .if2 .left) (c .if3 .taken)) (omega arith)
 
--- the three lengths are right
-fitting : (c : tie.Else3) → let a = c .before .before .before .args in Fitting (length (now (a .samples))) (a .room)
+-- the list and the buffer are right
+fitting : (c : tie.Else3) → let a = c .before .before .before .args in Fits (now (a .samples)) (a .room)
 fitting c = record { few = c .before .before .if1 .left; whole-frames = c .before .if2 .left; enough = c .if3 .left }
 
 returns-4 : tie.Need-returns-4
