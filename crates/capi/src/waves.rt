@@ -12,7 +12,7 @@ pub extern "C" fn wv_wave_export(
     answer: &mut [u32],
 ) -> u32
     ensures { λ r. ⌜
-        record { refusal = r; bytes = now (out .exit); answer = now (answer .exit) }
+        record { refusal = r; list = now (out .exit); answer = now (answer .exit) }
         ≡ exportCall rate (now (samples .entry)) (now (out .entry)) (now (answer .entry))
         ⌝ }
 {
@@ -24,7 +24,7 @@ pub extern "C" fn wv_wave_export(
 #[no_mangle]
 pub extern "C" fn wv_wave_import(file: &[u8], samples: &mut [i32], answer: &mut [u32]) -> u32
     ensures { λ r. ⌜
-        record { refusal = r; samples = now (samples .exit); answer = now (answer .exit) }
+        record { refusal = r; list = now (samples .exit); answer = now (answer .exit) }
         ≡ importCall (now (file .entry)) (now (samples .entry)) (now (answer .entry))
         ⌝ }
 {

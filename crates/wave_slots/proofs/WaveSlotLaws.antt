@@ -1,56 +1,49 @@
--- The three answers of each call: too few slots, a refusal, and what was told.
+-- The answers of each call, by what its entry told.
 -- Assumes nothing.
-use mathlib.Core.Path.{_≡_}
+use mathlib.Core.Path.{_≡_, ap, _∙_}
 use mathlib.Core.List.{List, [], _∷_}
 use Prim.Native.Nat.{ℕ, _≤_, _<_}
-use borrow.Author.Tests.{lt-ltb, le-ltb}
 use lib.IntN.{ℤ}
 use lib.ListN.{length}
 use Rattle.answers.specs.declared.Outcome.{Outcome}
 use Rattle.answers.specs.declared.Refusal.{Refusal}
 use Rattle.answers.specs.Numbers.{outcomeNumber}
-use Rattle.answers.proofs.GuardLaws.{guard-refused}
-use Rattle.answers.proofs.NumberLaws.{number-positive}
 use Rattle.overlay.specs.Overlay.{overlay}
-use Rattle.slots.specs.Slots.{leaveValues}
+use Rattle.slots.proofs.FillLaws.{fill-short, fill-refused, fill-laid}
 use Rattle.wave.specs.Export.{exportEntry}
 use Rattle.wave.specs.Import.{importEntry}
-use Rattle.wave_slots.specs.WaveSlots.{exportCall, importCall}
-
--- the slots of a refused call keep their values
-slots-kept : (o : Outcome) (x : Refusal) (values slots : List ℕ) → o ≡ Outcome.Refused x → leaveValues (outcomeNumber o) values slots ≡ slots
-slots-kept o x values slots q = guard-refused (outcomeNumber o) (λ _. slots) (overlay slots 0 values) (rw q (number-positive x))
+use Rattle.wave_slots.specs.WaveSlots.{leaveExport, exportCall, leaveImport, importCall}
 
 module _ (rate : ℕ) (samples : List ℤ) (out answer : List ℕ) where
-  pub export-short : (r : ℕ) → r ≡ 6 → length answer < 1 → record { refusal = r; bytes = out; answer = answer } ≡ exportCall rate samples out answer
+  pub export-short : (r : ℕ) → r ≡ 6 → length answer < 1 → record { refusal = r; list = out; answer = answer } ≡ exportCall rate samples out answer
   unfolding exportCall
-  export-short r e h = rw (lt-ltb (length answer) 1 h, e)
+  export-short r e h = fill-short 1 out _ answer _ _ r e h
 
   pub export-refused : (o : Outcome) (x : Refusal) (w r : ℕ) (after : List ℕ) → 1 ≤ length answer
       → record { refusal = outcomeNumber o; written = w; bytes = after } ≡ exportEntry rate samples out → o ≡ Outcome.Refused x → r ≡ outcomeNumber o
-      → record { refusal = r; bytes = after; answer = answer } ≡ exportCall rate samples out answer
+      → record { refusal = r; list = after; answer = answer } ≡ exportCall rate samples out answer
   unfolding exportCall
-  export-refused o x w r after h e q n = rw (le-ltb (length answer) 1 h, ← e, n, slots-kept o x (w ∷ []) answer q)
+  export-refused o x w r after h e q n = fill-refused 1 out after answer (w ∷ []) o x r h q n ∙ ap (leaveExport out answer) e
 
   pub export-laid : (o : Outcome) (w : ℕ) (after laid : List ℕ) → 1 ≤ length answer
       → record { refusal = outcomeNumber o; written = w; bytes = after } ≡ exportEntry rate samples out → o ≡ Outcome.Accepted → laid ≡ overlay answer 0 (w ∷ [])
-      → record { refusal = 0; bytes = after; answer = laid } ≡ exportCall rate samples out answer
+      → record { refusal = 0; list = after; answer = laid } ≡ exportCall rate samples out answer
   unfolding exportCall
-  export-laid o w after laid h e q l = rw (le-ltb (length answer) 1 h, ← e, q, l)
+  export-laid o w after laid h e q l = fill-laid 1 out after answer (w ∷ []) o laid h q l ∙ ap (leaveExport out answer) e
 
 module _ (file : List ℕ) (samples : List ℤ) (answer : List ℕ) where
-  pub import-short : (r : ℕ) → r ≡ 6 → length answer < 2 → record { refusal = r; samples = samples; answer = answer } ≡ importCall file samples answer
+  pub import-short : (r : ℕ) → r ≡ 6 → length answer < 2 → record { refusal = r; list = samples; answer = answer } ≡ importCall file samples answer
   unfolding importCall
-  import-short r e h = rw (lt-ltb (length answer) 2 h, e)
+  import-short r e h = fill-short 2 samples _ answer _ _ r e h
 
   pub import-refused : (o : Outcome) (x : Refusal) (rate w r : ℕ) (after : List ℤ) → 2 ≤ length answer
       → record { refusal = outcomeNumber o; rate = rate; written = w; samples = after } ≡ importEntry file samples → o ≡ Outcome.Refused x → r ≡ outcomeNumber o
-      → record { refusal = r; samples = after; answer = answer } ≡ importCall file samples answer
+      → record { refusal = r; list = after; answer = answer } ≡ importCall file samples answer
   unfolding importCall
-  import-refused o x rate w r after h e q n = rw (le-ltb (length answer) 2 h, ← e, n, slots-kept o x (rate ∷ w ∷ []) answer q)
+  import-refused o x rate w r after h e q n = fill-refused 2 samples after answer (rate ∷ w ∷ []) o x r h q n ∙ ap (leaveImport samples answer) e
 
   pub import-laid : (o : Outcome) (rate w : ℕ) (after : List ℤ) (laid : List ℕ) → 2 ≤ length answer
       → record { refusal = outcomeNumber o; rate = rate; written = w; samples = after } ≡ importEntry file samples → o ≡ Outcome.Accepted
-      → laid ≡ overlay answer 0 (rate ∷ w ∷ []) → record { refusal = 0; samples = after; answer = laid } ≡ importCall file samples answer
+      → laid ≡ overlay answer 0 (rate ∷ w ∷ []) → record { refusal = 0; list = after; answer = laid } ≡ importCall file samples answer
   unfolding importCall
-  import-laid o rate w after laid h e q l = rw (le-ltb (length answer) 2 h, ← e, q, l)
+  import-laid o rate w after laid h e q l = fill-laid 2 samples after answer (rate ∷ w ∷ []) o laid h q l ∙ ap (leaveImport samples answer) e

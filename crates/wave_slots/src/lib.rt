@@ -14,7 +14,7 @@ ghost use Rattle.wave_slots.specs.WaveSlots.{exportCall, importCall};
 // `answer`, then 5, 6, 11, 14 and 13.
 pub fn export_call(rate: u32, samples: &[i32], out: &mut [u8], answer: &mut [u32]) -> u32
     ensures { λ r. ⌜
-        record { refusal = r; bytes = now (out .exit); answer = now (answer .exit) }
+        record { refusal = r; list = now (out .exit); answer = now (answer .exit) }
         ≡ exportCall rate (now (samples .entry)) (now (out .entry)) (now (answer .entry))
         ⌝ }
 {
@@ -35,7 +35,7 @@ pub fn export_call(rate: u32, samples: &[i32], out: &mut [u8], answer: &mut [u32
 // samples it has. Refuses 6 for `answer`, then 5, 14 and 11.
 pub fn import_call(file: &[u8], samples: &mut [i32], answer: &mut [u32]) -> u32
     ensures { λ r. ⌜
-        record { refusal = r; samples = now (samples .exit); answer = now (answer .exit) }
+        record { refusal = r; list = now (samples .exit); answer = now (answer .exit) }
         ≡ importCall (now (file .entry)) (now (samples .entry)) (now (answer .entry))
         ⌝ }
 {
