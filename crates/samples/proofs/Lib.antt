@@ -14,3 +14,4 @@ pub mod WordBounds
 pub mod LocalLaws
 pub mod PlaceLaws
 pub mod ToldBounds
+pub mod SilenceLaws

@@ -1,7 +1,9 @@
-// Spans of signed numbers: every number of a list is looked at, without an early end, which the
-// machine does several at once.
+// Signed numbers: their magnitude, their distance from 0, and whether all numbers of a list lie in a
+// span. Every number of the list is looked at, without an early end, which the machine does several
+// at once.
 ghost use mathlib.Core.Path.{_≡_};
 ghost use Prim.Native.Nat.{_≤_};
+ghost use lib.IntN.{natAbs};
 ghost use lib.ListN.{length};
 ghost use lib.Signed.{mag};
 ghost use Rattle.answers.specs.Limits.{maxElements};
@@ -15,6 +17,17 @@ pub fn magnitude(number: i32) -> u32
         return (-1 - number) as u32;
     }
     number as u32
+}
+
+// How far a number is from 0. That of the smallest number is one more than any magnitude.
+pub fn distance(number: i32) -> u32
+    ensures { λ r. ⌜ r ≡ natAbs number ⌝ }
+{
+    let size = magnitude(number);
+    if number < 0 {
+        return size + 1;
+    }
+    size
 }
 
 // 1 for a number outside the span, 0 for any other.

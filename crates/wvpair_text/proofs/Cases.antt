@@ -4,22 +4,10 @@ use mathlib.Core.Path.{_≡_, refl}
 use mathlib.Core.List.{[], _∷_, _++_}
 use lib.IntN.{pos, negsuc}
 use lib.ListN.{replicate}
-use Rattle.wvpair_text.specs.Decimal.{digits, decimal, signedDecimal}
+use Rattle.decimal.specs.Decimal.{digits, decimal}
+use Rattle.wvpair_text.specs.Signed.{signedDecimal}
 use Rattle.wvpair_text.specs.Lines.{frameLine, frameLines, endLine}
 use Rattle.wvpair_text.specs.Text.{wvpairText, frameCount, overLimits}
-
--- `0`, `10` and `4294967295`
-zero-is : decimal 0 ≡ 48 ∷ []
-unfolding decimal digits
-zero-is = refl
-
-ten-is : decimal 10 ≡ 49 ∷ 48 ∷ []
-unfolding decimal digits
-ten-is = refl
-
-large-is : decimal 4294967295 ≡ 52 ∷ 50 ∷ 57 ∷ 52 ∷ 57 ∷ 54 ∷ 55 ∷ 50 ∷ 57 ∷ 53 ∷ []
-unfolding decimal digits
-large-is = refl
 
 -- `-1` and `-2147483648`
 minus-one-is : signedDecimal (negsuc 0) ≡ 45 ∷ 49 ∷ []

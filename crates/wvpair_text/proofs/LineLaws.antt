@@ -8,11 +8,12 @@ use native.Mathlib.Omega.{arith}
 use lib.IntN.{ℤ, pos}
 use lib.ListN.{length, drop, getD, length-append, length-drop}
 use lib.Seq.{drop-cons}
-use Rattle.wvpair_text.specs.Decimal.{decimal, signedDecimal}
+use Rattle.decimal.specs.Decimal.{decimal}
+use Rattle.wvpair_text.specs.Signed.{signedDecimal}
 use Rattle.wvpair_text.specs.Lines.{frameLine, frameLines, endWord, bitsWord, endLine}
-use Rattle.wvpair_text.specs.TextPut.{TextPut}
-use Rattle.wvpair_text.proofs.DecimalLaws.{decimal-short}
-use Rattle.wvpair_text.proofs.PutLaws.{put-none, put-on}
+use Rattle.decimal.specs.TextPut.{TextPut}
+use Rattle.decimal.proofs.DecimalLaws.{decimal-short}
+use Rattle.decimal.proofs.PutLaws.{put-none, put-on}
 
 -- a frame's line in its four parts
 pub frame-put : {a b c d e : List ℕ} {at p q r s : ℕ} (left right : ℤ) → at ≤ length a

@@ -1,9 +1,8 @@
 -- What a reading tells of an input: small numbers, and samples that stand first in a longer list.
 -- Assumes nothing.
-use mathlib.Core.Path.{_≡_, refl, ap}
-use mathlib.Core.List.{List, _∷_, _++_}
-use Prim.Native.Nat.{ℕ, zero, suc, _*_, _≤_}
-use native.Mathlib.Omega.{arith}
+use mathlib.Core.Path.{_≡_, ap}
+use mathlib.Core.List.{List, _++_}
+use Prim.Native.Nat.{ℕ, _*_, _≤_}
 use lib.IntN.{ℤ, pos}
 use lib.ListN.{length, take, replicate}
 use lib.Seq.{take-append-le}
@@ -13,12 +12,6 @@ use Rattle.samples.specs.View.{ReadTold, viewReading}
 use Rattle.samples.specs.declared.ReadAnswer.{ReadAnswer}
 use Rattle.wvpair_text.specs.Lines.{report}
 use Rattle.wvpair_text.specs.Text.{frameCount, payloadOf, printed, readingOf}
-
--- the first of many zeros are fewer zeros
-pub take-replicate : (n m : ℕ) (v : ℤ) → n ≤ m → take n (replicate m v) ≡ replicate n v
-take-replicate zero m v h = refl
-take-replicate (suc n) zero v h = absurd (omega arith)
-take-replicate (suc n) (suc m) v h = ap (λ (l : List ℤ). v ∷ l) (take-replicate n m v (omega arith))
 
 -- the numbers that are told of an input are small
 pub reading-small : (input : List ℕ) → SmallTold (length (payloadOf input)) (frameCount input) (readingOf input)

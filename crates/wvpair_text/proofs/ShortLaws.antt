@@ -7,11 +7,11 @@ use native.Mathlib.Omega.{arith}
 use lib.IntN.{ℤ, pos}
 use lib.ListN.{length, take, getD, length-append, length-take, length-drop}
 use lib.Signed.{mag}
-use Rattle.wvpair_text.specs.Decimal.{signedDecimal}
+use Rattle.wvpair_text.specs.Signed.{signedDecimal}
 use Rattle.wvpair_text.specs.Limits.{headBytes, mostFrames, largestInput, largestText}
 use Rattle.wvpair_text.specs.Lines.{frameLine, frameLines, endLine, report}
 use Rattle.wvpair_text.specs.Text.{frameCount, readingOf, printed, wvpairText}
-use Rattle.wvpair_text.proofs.DecimalLaws.{signed-short}
+use Rattle.wvpair_text.proofs.SignLaws.{signed-short}
 use Rattle.wvpair_text.proofs.LineLaws.{end-short}
 use Rattle.wvpair_text.proofs.ReadingLaws.{reading-small}
 use Rattle.wvpair_text.proofs.TextLaws.{text-under, text-frames, text-payload, text-reading}

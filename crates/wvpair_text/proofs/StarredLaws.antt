@@ -18,7 +18,8 @@ use Rattle.samples.specs.Reading.{reading}
 use Rattle.word_state.specs.State.{paid, inRun, unbroken, cleared, flagged, after, runDue}
 use Rattle.samples.specs.View.{readRefusal, readEntry}
 use Rattle.samples.specs.Word.{value, plain, fresh, word}
-use Rattle.wvpair_text.specs.Decimal.{digits, decimal, signedDecimal}
+use Rattle.decimal.specs.Decimal.{digits, decimal}
+use Rattle.wvpair_text.specs.Signed.{signedDecimal}
 use Rattle.wvpair_text.specs.Lines.{frameLine, frameLines, endLine, report}
 use Rattle.wvpair_text.specs.Starred.{firstInput, firstText, secondInput, secondText}
 use Rattle.wvpair_text.specs.Text.{frameCount, overLimits, wvpairText}

@@ -1,6 +1,5 @@
 pub mod Limits
-pub mod TextPut
-pub mod Decimal
+pub mod Signed
 pub mod Lines
 pub mod Starred
 pub mod Text

@@ -4,7 +4,8 @@
 use mathlib.Core.List.{List, [], _∷_, _++_}
 use Prim.Native.Nat.{ℕ}
 use lib.IntN.{ℤ}
-use Rattle.wvpair_text.specs.Decimal.{decimal, signedDecimal}
+use Rattle.decimal.specs.Decimal.{decimal}
+use Rattle.wvpair_text.specs.Signed.{signedDecimal}
 
 -- the line of a frame: left, space, right, newline
 unfoldable pub frameLine : ℤ → ℤ → List ℕ

@@ -1,12 +1,12 @@
 // Implements document 01, "Proved cases" (C6, C7): what `wvpair` prints, as a function from its
-// input bytes to its output bytes. `decimal` lays numbers into a buffer, `lines` the lines of a
+// input bytes to its output bytes. `signed` lays samples into a buffer, `lines` the lines of a
 // reading; here an input is taken apart, read and printed.
 ghost use mathlib.Core.Path.{_≡_};
 ghost use Prim.Native.Nat.{_≤_};
 ghost use lib.IntN.{pos};
 ghost use lib.ListN.{length, replicate};
 ghost use Rattle.wvpair_text.specs.Limits.{headBytes, mostFrames, largestInput, largestText};
-ghost use Rattle.wvpair_text.specs.TextPut.{TextPut};
+ghost use Rattle.decimal.specs.TextPut.{TextPut};
 ghost use Rattle.wvpair_text.specs.Text.{frameCount, printed, readingOf, wvpairText, TextIs};
 use crate::limits::HEAD_BYTES;
 use crate::limits::MOST_FRAMES;
@@ -19,9 +19,9 @@ use answers::outcome_number;
 use samples::reading::decode_packed_samples_stereo_from_entropy;
 use wrapping::casts::u8_to_usize;
 
-mod decimal;
 mod limits;
 mod lines;
+mod signed;
 
 pub use crate::limits::LARGEST_INPUT;
 pub use crate::limits::LARGEST_TEXT;

@@ -3,24 +3,11 @@
 ghost use Prim.Native.Nat.{_+_, _*_, _≤_};
 ghost use lib.ListN.{length};
 ghost use Rattle.wvpair_text.specs.Lines.{frameLine, frameLines, endLine, report};
-ghost use Rattle.wvpair_text.specs.TextPut.{TextPut};
-use crate::decimal::put_byte;
-use crate::decimal::put_decimal;
-use crate::decimal::put_signed;
-
-// Lays a text at `at`.
-fn put_text(out: &mut [u8], at: usize, text: &[u8]) -> usize
-    requires { ⌜ at + length (now text) ≤ length (now out) ⌝ }
-    ensures { λ r. ⌜ TextPut (now (out .entry)) (now (out .exit)) at r (now (text .entry)) ⌝ }
-{
-    let mut place = at;
-    let mut i = 0;
-    while i < text.len() {
-        place = put_byte(out, place, text[i]);
-        i += 1;
-    }
-    place
-}
+ghost use Rattle.decimal.specs.TextPut.{TextPut};
+use crate::signed::put_signed;
+use decimal::number::put_decimal;
+use decimal::text::put_byte;
+use decimal::text::put_text;
 
 // Lays the line of one frame: at most 24 bytes.
 fn put_line(out: &mut [u8], at: usize, left: i32, right: i32) -> usize

@@ -9,12 +9,13 @@ use lib.IntN.{ℤ, pos}
 use lib.ListN.{length, take, drop, replicate, length-take, length-drop, length-append}
 use lib.Seq.{length-take-le, take-all}
 use Rattle.answers.specs.Numbers.{outcomeNumber}
+use Rattle.samples.proofs.SilenceLaws.{take-zeros}
 use Rattle.samples.specs.View.{ReadTold, viewReading}
 use Rattle.samples.specs.declared.ReadAnswer.{ReadAnswer}
 use Rattle.wvpair_text.specs.Lines.{endLine}
 use Rattle.wvpair_text.specs.Text.{readingOf}
 use Rattle.wvpair_text.proofs.LineLaws.{end-short}
-use Rattle.wvpair_text.proofs.ReadingLaws.{take-replicate, reading-small, printed-told}
+use Rattle.wvpair_text.proofs.ReadingLaws.{reading-small, printed-told}
 use borrow.Author.Needs.{needs}
 use Rattle.wvpair_text.proofs.print_reading.Statement.{statement}
 use Rattle.wvpair_text.proofs.print_reading.Tie as tie
@@ -53,7 +54,7 @@ known k =
     let s = k .before .before .before .before .before .before .before in
     let n = 2 * frames k in
     let zeros : take n (k .before .before .before .before .silence .result) ≡ replicate n (pos 0) =
-    ap (take n) (k .before .before .before .before .silence .ensures) ∙ take-replicate n 2048 (pos 0) (omega arith) in
+    ap (take n) (k .before .before .before .before .silence .ensures) ∙ take-zeros n 2048 (omega arith) in
     let rest : take (length (input k) - 14) (drop 14 (input k)) ≡ drop 14 (input k) =
     take-all (length (input k) - 14) (drop 14 (input k)) (omega (arith, length-drop 14 (input k))) in
     rw (zeros, rest, s .pre .1 .0 .0) at (k .decode-packed-samples-stereo-from-entropy .ensures)

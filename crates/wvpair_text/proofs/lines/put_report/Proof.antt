@@ -2,7 +2,7 @@
 -- Assumes nothing.
 use native.Mathlib.Omega.{arith}
 use Rattle.wvpair_text.specs.Lines.{report}
-use Rattle.wvpair_text.proofs.PutLaws.{put-on}
+use Rattle.decimal.proofs.PutLaws.{put-on}
 use borrow.Author.Needs.{needs}
 use Rattle.wvpair_text.proofs.lines.put_report.Statement.{statement}
 use Rattle.wvpair_text.proofs.lines.put_report.Tie as tie

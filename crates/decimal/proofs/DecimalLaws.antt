@@ -8,11 +8,9 @@ use native.Mathlib.Nat.{pow-suc}
 use native.Mathlib.Decide.{decLt}
 use native.Mathlib.Omega.{arith}
 use lib.Dec.{ltb}
-use lib.IntN.{ℤ, pos, negsuc, negℤ}
-use lib.Signed.{mag}
 use lib.ListN.{length, getD, length-append, List·getD-append}
-use borrow.Author.Tests.{lt-ltb, le-ltb, ltb-false, ne-eqb}
-use Rattle.wvpair_text.specs.Decimal.{digits, decimal, signedDecimal, readDigits, readSigned}
+use borrow.Author.Tests.{lt-ltb, le-ltb, ltb-false}
+use Rattle.decimal.specs.Decimal.{digits, decimal, readDigits}
 
 -- ---- a number by its tenth part
 
@@ -45,7 +43,7 @@ decimal-more n h =
     ∙ ap (λ (d : List ℕ). d ++ ((48 + n % 10) ∷ [])) (digits-enough n (suc (n / 10)) (n / 10) (omega arith) (omega arith))
 
 -- what holds of one digit, and of each number whose tenth part it holds of, holds of all
-by-tenths : (P : ℕ → Type 0) → ((n : ℕ) → n < 10 → P n) → ((n : ℕ) → 10 ≤ n → P (n / 10) → P n) → (n : ℕ) → P n
+pub by-tenths : (P : ℕ → Type 0) → ((n : ℕ) → n < 10 → P n) → ((n : ℕ) → 10 ≤ n → P (n / 10) → P n) → (n : ℕ) → P n
 by-tenths P one more n = upTo (suc n) n (omega arith)
   where
     upTo : (k n : ℕ) → n < k → P n
@@ -76,12 +74,6 @@ decimal-short (suc k) n h = go (decLt n 10) (decimal-short k (n / 10) (omega (ar
     go (yes l) t = rw (decimal-one n l) (omega arith)
     go (no l) t = omega (arith, more-length n (omega arith))
 
--- a number of 32 bits takes at most 11 bytes, its sign included
-pub signed-short : (v : ℤ) → mag v < 2147483648 → length (signedDecimal v) ≤ 11
-unfolding signedDecimal
-signed-short (pos n) h = omega (arith, decimal-short 9 n (omega arith))
-signed-short (negsuc n) h = omega (arith, decimal-short 9 (suc n) (omega arith))
-
 -- ---- it reads back
 
 -- the digits of two parts are read one part after the other
@@ -111,21 +103,3 @@ decimal-first = by-tenths (λ n. 48 ≤ getD (decimal n) 0 0) (λ n h. rw (decim
 pub no-leading-zero : (n : ℕ) → 0 < n → 48 < getD (decimal n) 0 0
 no-leading-zero = by-tenths (λ n. 0 < n → 48 < getD (decimal n) 0 0) (λ n h l. rw (decimal-one n h) (omega arith)) λ n h t l.
     rw (decimal-more n h, List·getD-append (decimal (n / 10)) ((48 + n % 10) ∷ []) 0 0 (decimal-some (n / 10))) (t (omega arith))
-
--- ---- integers
-
--- digits are no minus sign
-read-unsigned : (text : List ℕ) → 48 ≤ getD text 0 0 → readSigned text ≡ pos (readDigits 0 text)
-unfolding readSigned
-read-unsigned [] h = absurd (omega arith)
-read-unsigned (c ∷ cs) h = rw (ne-eqb c 45 λ e. omega arith)
-
--- the text of an integer reads back as that integer
-pub signed-back : (v : ℤ) → readSigned (signedDecimal v) ≡ v
-unfolding signedDecimal readSigned
-signed-back (pos n) = read-unsigned (decimal n) (decimal-first n) ∙ ap pos (decimal-back n)
-signed-back (negsuc n) = ap (λ (m : ℕ). negℤ (pos m)) (decimal-back (suc n))
-
--- two integers never print alike
-pub signed-injective : (v w : ℤ) → signedDecimal v ≡ signedDecimal w → v ≡ w
-signed-injective v w e = sym (signed-back v) ∙ ap readSigned e ∙ signed-back w

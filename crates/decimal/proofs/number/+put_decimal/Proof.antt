@@ -3,18 +3,18 @@
 -- Assumes nothing.
 use borrow.Author.Needs.{needs}
 use native.Mathlib.Omega.{arith}
-use Rattle.wvpair_text.proofs.DecimalLaws.{decimal-one, decimal-more, decimal-some, more-length}
-use Rattle.wvpair_text.proofs.PutLaws.{put-on}
+use Rattle.decimal.proofs.DecimalLaws.{decimal-one, decimal-more, decimal-some, more-length}
+use Rattle.decimal.proofs.PutLaws.{put-on}
 use Prim.Native.Nat.{ℕ, _≤_, _<_}
 use borrow.Fn.Kinds.{In}
 use borrow.Fn.PlainCycle.{Measures, is, falls, and}
-use Rattle.wvpair_text.proofs.decimal.put_decimal.Reads as put-decimal
-use Rattle.wvpair_text.proofs.decimal.put_decimal.Kinds as put-decimal-kinds
-use Rattle.wvpair_text.proofs.decimal.+put_decimal.Lts-put_decimal as put-decimal-lts
-use Rattle.wvpair_text.proofs.decimal.digit.Reads as digit-reads
-use Rattle.wvpair_text.proofs.decimal.put_byte.Reads as put-byte-reads
-use Rattle.wvpair_text.proofs.decimal.+put_decimal.{statement}
-use Rattle.wvpair_text.proofs.decimal.+put_decimal.Tie.{close}
+use Rattle.decimal.proofs.number.put_decimal.Reads as put-decimal
+use Rattle.decimal.proofs.number.put_decimal.Kinds as put-decimal-kinds
+use Rattle.decimal.proofs.number.+put_decimal.Lts-put_decimal as put-decimal-lts
+use Rattle.decimal.proofs.number.digit.Reads as digit-reads
+use Rattle.decimal.proofs.text.put_byte.Reads as put-byte-reads
+use Rattle.decimal.proofs.number.+put_decimal.{statement}
+use Rattle.decimal.proofs.number.+put_decimal.Tie.{close}
 
 abbrev μ-put-decimal : Measures 1 put-decimal-kinds.ps ℕ
 μ-put-decimal κs a = a .1 .1 .0

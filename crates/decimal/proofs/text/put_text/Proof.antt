@@ -8,10 +8,10 @@ use native.Mathlib.Omega.{arith}
 use borrow.Author.Needs.{needs}
 use lib.ListN.{length, take, getD, length-take}
 use lib.Seq.{take-suc, take-all}
-use Rattle.wvpair_text.specs.TextPut.{TextPut}
-use Rattle.wvpair_text.proofs.PutLaws.{put-none, put-on}
-use Rattle.wvpair_text.proofs.lines.put_text.Statement.{statement}
-use Rattle.wvpair_text.proofs.lines.put_text.Tie as tie
+use Rattle.decimal.specs.TextPut.{TextPut}
+use Rattle.decimal.proofs.PutLaws.{put-none, put-on}
+use Rattle.decimal.proofs.text.put_text.Statement.{statement}
+use Rattle.decimal.proofs.text.put_text.Tie as tie
 
 abbrev Inv-loop : tie.InvT-loop
 Inv-loop out₀ at text place₀ i₀ out place i = TextPut out₀ out at place (take i text) × (i ≤ length text) × (length out ≡ length out₀)

@@ -3,8 +3,8 @@
 use mathlib.Core.Path.{refl}
 use borrow.Author.Needs.{needs}
 use Rattle.overlay.proofs.OverlayLaws.{overlay-one}
-use Rattle.wvpair_text.proofs.decimal.put_byte.Statement.{statement}
-use Rattle.wvpair_text.proofs.decimal.put_byte.Tie as tie
+use Rattle.decimal.proofs.text.put_byte.Statement.{statement}
+use Rattle.decimal.proofs.text.put_byte.Tie as tie
 
 returns : tie.Need-returns
 returns c = record { bytes = overlay-one _ _ _ (c .pre); place = refl }

@@ -1,0 +1,3 @@
+pub mod TextPut
+pub mod Decimal
+pub mod Column
