@@ -1,0 +1,58 @@
+-- Worked cases of the definitions, by computation.
+-- Assumes nothing.
+use mathlib.Core.Path.{_≡_, refl}
+use mathlib.Core.List.{[], _∷_, _++_}
+use lib.IntN.{pos, negsuc}
+use lib.ListN.{replicate}
+use Rattle.decimal.specs.Column.{column}
+use Rattle.decimal.specs.Decimal.{digits, decimal}
+use Rattle.morning_page.specs.Page.{lineCount, lineClicks, row, line, lines, page}
+use Rattle.morning_page.specs.Sound.{lefts, rights, peak, click, clicks, lastDistance}
+
+-- the channels of two frames
+lefts-are : lefts (pos 1 ∷ pos 2 ∷ pos 3 ∷ pos 4 ∷ []) ≡ pos 1 ∷ pos 3 ∷ []
+unfolding lefts
+lefts-are = refl
+
+rights-are : rights (pos 1 ∷ pos 2 ∷ pos 3 ∷ pos 4 ∷ []) ≡ pos 2 ∷ pos 4 ∷ []
+unfolding rights
+rights-are = refl
+
+-- -2,147,483,648 is 2,147,483,648 from 0
+peak-is : peak (pos 7 ∷ negsuc 2147483647 ∷ negsuc 1 ∷ []) ≡ 2147483648
+unfolding peak
+peak-is = refl
+
+-- above 5: 6 behind 5 is a click, -7 behind it is none, and 6 behind 5 again is one
+clicks-are : clicks 5 0 (pos 5 ∷ pos 6 ∷ negsuc 6 ∷ pos 5 ∷ pos 6 ∷ []) ≡ 2
+unfolding clicks click
+clicks-are = refl
+
+-- the first is none behind a louder one, as at an edge
+behind-is : clicks 5 6 (pos 6 ∷ pos 0 ∷ []) ≡ 0
+unfolding clicks click
+behind-is = refl
+
+-- 0, 1, 1,024 and 1,025 frames
+no-line : lineCount 0 ≡ 0
+unfolding lineCount
+no-line = refl
+
+one-line : lineCount 2 ≡ 1
+unfolding lineCount
+one-line = refl
+
+whole-line : lineCount 2048 ≡ 1
+unfolding lineCount
+whole-line = refl
+
+two-lines : lineCount 2050 ≡ 2
+unfolding lineCount
+two-lines = refl
+
+-- `     0          4 2147483648       1       1` of two frames, above 3
+page-is :
+    page 3 (pos 4 ∷ pos 3 ∷ pos 0 ∷ negsuc 2147483647 ∷ [])
+    ≡ replicate 5 32 ++ (48 ∷ replicate 10 32) ++ (52 ∷ 32 ∷ 50 ∷ 49 ∷ 52 ∷ 55 ∷ 52 ∷ 56 ∷ 51 ∷ 54 ∷ 52 ∷ 56 ∷ replicate 7 32) ++ (49 ∷ replicate 7 32) ++ 49 ∷ 10 ∷ []
+unfolding page lines line row lineCount column decimal digits lefts rights peak clicks click lastDistance
+page-is = refl

@@ -1,0 +1,11 @@
+-- `morning_page::sound::rises` meets its contract.
+-- Assumes nothing.
+use Rattle.morning_page.proofs.HearLaws.{both-rises}
+use Rattle.morning_page.proofs.sound.rises.Statement.{statement}
+use Rattle.morning_page.proofs.sound.rises.Tie as tie
+
+returns : tie.Need-returns
+returns c = both-rises _ _ (c .pre .0) (c .pre .1)
+
+pub rises-spec : {M : Type 1} → statement M
+rises-spec = tie.close (tie.spec returns)

@@ -1,0 +1,5 @@
+pub mod Sound
+pub mod Heard
+pub mod Page
+pub mod Entry
+pub mod Morning
