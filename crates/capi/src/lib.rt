@@ -4,12 +4,14 @@
 // fewer slots is refused with 6, and then nothing is written. Only the passes of a list are copied,
 // into an array of 16.
 pub mod pack;
+pub mod pages;
 pub mod pass_lists;
 pub mod values;
 pub mod waves;
 pub mod words;
 
 pub use crate::pack::wv_pack;
+pub use crate::pages::wv_morning_page;
 pub use crate::pass_lists::wv_analyse;
 pub use crate::pass_lists::wv_decorrelate;
 pub use crate::pass_lists::wv_pass;
