@@ -16,4 +16,7 @@ void joined_lists(void);
 /* Checks the two calls of sound files. */
 void sound_files(void);
 
+/* Checks the call of the morning page. */
+void morning_pages(void);
+
 #endif

@@ -10,7 +10,7 @@
 #include <ucontext.h>
 #include "wavpack_stereo.h"
 
-enum { STACK = 1 << 16, PATTERN = 0xa5, ROUNDS = 2000, FRAMES = 64, MOST_PASSES = 17 };
+enum { STACK = 1 << 16, PATTERN = 0xa5, ROUNDS = 2000, FRAMES = 64, MOST_PASSES = 17, TWO_LINES = 4 * WV_LINE_FRAMES };
 
 static unsigned char stack[STACK];
 static unsigned char *above;
@@ -34,7 +34,7 @@ static uint64_t next(void)
 }
 
 static uint8_t entropy[12], payload[64 * FRAMES], out[28 * FRAMES], file[44 + 4 * FRAMES];
-static int32_t numbers[2 * FRAMES], sounds[2 * FRAMES], passes[20 * MOST_PASSES], seed[8];
+static int32_t numbers[2 * FRAMES], sounds[2 * FRAMES], blocks[TWO_LINES], passes[20 * MOST_PASSES], seed[8];
 static uint32_t answer[13], report[2];
 
 /* Entropy payloads that reading takes, payloads with many ones, numbers of any size. */
@@ -73,6 +73,14 @@ static void fill_sounds(void)
     sounds[next() % (2 * FRAMES)] += next() % 8 == 0 ? 65536 : 0;
 }
 
+/* The samples of two lines of a page: the numbers of the passes, which are of any size, and the least
+   number among them. */
+static void fill_blocks(void)
+{
+    for (size_t i = 0; i < TWO_LINES; i++)
+        blocks[i] = i % 7 ? passes[i % (20 * MOST_PASSES)] : INT32_MIN;
+}
+
 static void log_word(void) { CALL(wv_log_word((int16_t)next(), numbers, 1)); }
 static void term_byte(void) { CALL(wv_term_byte((uint8_t)next(), numbers, 2)); }
 static void weight_byte(void) { CALL(wv_weight_byte((uint8_t)next(), numbers, 1)); }
@@ -85,6 +93,7 @@ static void analysis(void) { CALL(wv_analyse(passes, 20 * (next() % 18), numbers
 static void packing(void) { CALL(wv_pack(numbers, 2 * FRAMES, entropy, 12, FRAMES, out, sizeof out, answer, 7)); }
 static void exporting(void) { CALL(wv_wave_export(44100, sounds, 2 * FRAMES, out, sizeof out, answer, 1)); }
 static void importing(void) { CALL(wv_wave_import(file, sizeof file, numbers, 2 * FRAMES, answer, 2)); }
+static void paging(void) { CALL(wv_morning_page(blocks, next() % (TWO_LINES + 1), answer[2], out, sizeof out, answer, 1)); }
 
 /* How many bytes one call needs. */
 static size_t needed(void (*call)(void))
@@ -106,17 +115,19 @@ static size_t needed(void (*call)(void))
 
 int main(void)
 {
-    static const struct { const char *name; void (*call)(void); } entries[12] = {
+    static const struct { const char *name; void (*call)(void); } entries[13] = {
         {"wv_log_word", log_word}, {"wv_term_byte", term_byte}, {"wv_weight_byte", weight_byte}, {"wv_entropy", medians},
         {"wv_word", word}, {"wv_read", reading}, {"wv_pass", making}, {"wv_decorrelate", decorrelation},
-        {"wv_analyse", analysis}, {"wv_pack", packing}, {"wv_wave_export", exporting}, {"wv_wave_import", importing}};
+        {"wv_analyse", analysis}, {"wv_pack", packing}, {"wv_wave_export", exporting}, {"wv_wave_import", importing},
+        {"wv_morning_page", paging}};
     puts("| function | bytes of stack |\n|---|---:|");
-    for (size_t i = 0; i < 12; i++) {
+    for (size_t i = 0; i < 13; i++) {
         size_t most = 0;
         for (int round = 0; round < ROUNDS; round++) {
             fill();
             fill_terms();
             fill_sounds();
+            fill_blocks();
             size_t bytes = needed(entries[i].call);
             most = bytes > most ? bytes : most;
         }

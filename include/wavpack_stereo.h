@@ -1,8 +1,8 @@
 /* The C interface of the stereo WavPack decoder. Link with libcapi.a.
  *
  * Every function answers WV_ACCEPTED or the number of a refusal. The rules behind the refusals are
- * the rows X1 to X9, Q1.3, Q1.4 and Q2.2 of docs/PROVED.md; each function below has its own in the
- * order in which it tests.
+ * the rows X1 to X9, Q1.3, Q1.4, Q2.2 and Q5.6 of docs/PROVED.md; each function below has its own in
+ * the order in which it tests.
  *
  * A list is a pointer to its first element and its number of elements; a list of 0 elements still
  * wants a pointer that is not null and is aligned for its type. A function reads and writes nothing
@@ -48,7 +48,7 @@ extern "C" {
 #define WV_TOO_MANY_PASSES 9u
 /* a residual outside -1,879,048,192 to 1,879,048,191 */
 #define WV_RESIDUAL_OUT_OF_SPAN 10u
-/* lent storage too short: under 28 bytes a frame to pack, 44 and 2 a sample for a sound file, or an element a sample of one */
+/* lent storage too short: under 28 bytes a frame to pack, 44 and 2 a sample for a sound file, an element a sample of one, or 45 bytes a line of a page */
 #define WV_OUTPUT_TOO_SHORT 11u
 /* a channel due that is neither 0 nor 1 */
 #define WV_INVALID_CHANNEL 12u
@@ -70,6 +70,12 @@ extern "C" {
 #define WV_PACK_SLOTS 7u
 #define WV_WAVE_EXPORT_SLOTS 1u
 #define WV_WAVE_IMPORT_SLOTS 2u
+#define WV_MORNING_PAGE_SLOTS 1u
+
+/* A line of a morning page: how many bytes it has, and of how many frames it tells, the last line of
+ * what is left. */
+#define WV_LINE_BYTES 45u
+#define WV_LINE_FRAMES 1024u
 
 /* The signed 32-bit value of a log word.
  * value: its value.
@@ -179,6 +185,22 @@ uint32_t wv_wave_export(uint32_t rate, const int32_t *samples, size_t samples_le
  * were. */
 uint32_t wv_wave_import(const uint8_t *file, size_t file_len, int32_t *samples, size_t samples_len, uint32_t *answer,
                         size_t answer_len);
+
+/* Writes the morning page of samples, left then right: a line of text for each block of
+ * WV_LINE_FRAMES frames, the last for what is left, and none for no frames. A line has the number of
+ * its block from 0 (6 wide), left peak (11), right peak (11), left clicks (8) and right clicks (8),
+ * right-aligned with spaces, and a newline: WV_LINE_BYTES in all.
+ * A peak is the largest distance from 0 in the block, at most 2,147,483,648. A click is a sample whose
+ * distance from 0 exceeds `threshold` while that of the sample before it in its channel, also across
+ * blocks, did not; before the first sample the distance is 0. So the click columns add up to the
+ * clicks of the whole recording. Any threshold is taken.
+ * page: the lines from the first byte on, without a 0 at their end; bytes behind keep their values.
+ * answer: bytes written.
+ * Refuses WV_LIST_LENGTH for answer; then WV_TOO_LARGE for over 262,144 samples, WV_LIST_LENGTH for
+ * an odd number of them, and WV_OUTPUT_TOO_SHORT for under WV_LINE_BYTES a line; with both lists as
+ * they were. */
+uint32_t wv_morning_page(const int32_t *samples, size_t samples_len, uint32_t threshold, uint8_t *page, size_t page_len,
+                         uint32_t *answer, size_t answer_len);
 
 #ifdef __cplusplus
 }

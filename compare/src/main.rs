@@ -7,8 +7,8 @@
 //! earlier archive, and `compare count` makes one call, whose instructions a tool can count.
 //! `compare long` runs millions of damaged inputs.
 //!
-//! Sound files are no part of the published Rust: there a plain statement of their rules stands for
-//! it, and in the table a plain loop.
+//! Sound files and morning pages are no part of the published Rust: there a plain statement of their
+//! rules stands for it, and in the table a plain loop.
 #![deny(unsafe_code)]
 #![warn(clippy::undocumented_unsafe_blocks)]
 
@@ -22,10 +22,12 @@ mod lent;
 mod long;
 mod numbers;
 mod ours;
+mod page_sounds;
 mod payloads;
 mod random;
 mod store;
 mod their_packing;
+mod their_pages;
 mod their_passes;
 mod their_waves;
 mod theirs;
@@ -44,6 +46,7 @@ const USAGE: &str =
     "usage: compare [SEED [SCALE]] | compare long [SEED [MILLIONS [MINUTES]]] | compare store | compare bench
      | compare count ours|theirs reading|packing [loud|middling|quiet|clicks|many|silence]
      | compare count ours|theirs export|import
+     | compare count ours|theirs page [noise|random|silence]
      | compare count ours|theirs decorrelation|analysis TERM|sixteen";
 
 fn compare(seed: u64, scale: usize) -> Result<(), Failed> {

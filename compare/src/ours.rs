@@ -152,3 +152,16 @@ pub fn wave_import(file: &[u8], samples: &mut [i32], answer: &mut [u32]) -> u32 
         Err(refusal) => both(refusal, ffi::wave_import(file, samples, answer)),
     }
 }
+
+pub fn morning_page(samples: &[i32], threshold: u32, page: &mut [u8], answer: &mut [u32]) -> u32 {
+    if watched() || answer.len() != 1 {
+        return ffi::morning_page(samples, threshold, page, answer);
+    }
+    match wavpack_stereo::morning_page(samples, threshold, page) {
+        Ok(written) => {
+            answer[0] = written as u32;
+            0
+        }
+        Err(refusal) => both(refusal, ffi::morning_page(samples, threshold, page, answer)),
+    }
+}

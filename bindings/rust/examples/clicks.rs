@@ -1,18 +1,21 @@
-//! Prints the clicks of a stereo stem recording: the frame, the stem and the height of each.
+//! Prints the clicks of a stereo stem recording, the frame, the stem and the height of each, and then
+//! its morning page. It stops where the page tells another number of clicks of a block and a stem than
+//! it printed.
 //!
 //! `clicks` makes a recording with clicks, writes it (analysis, packing), decodes the written bytes
 //! and prints the clicks that it finds; it stops where they are not the ones that were put in.
 //!
-//! `clicks FILE THRESHOLD HOLD_OFF` prints the clicks of a recording as the program `wvpair` takes
-//! it: 12 entropy bytes, the frame count in 2 bytes, the low one first, and the payload. A click is
-//! a sample whose magnitude is above the threshold; after it the same stem is not listened to until
-//! HOLD_OFF frames later.
+//! `clicks FILE THRESHOLD` prints the clicks of a recording as the program `wvpair` takes it: 12
+//! entropy bytes, the frame count in 2 bytes, the low one first, and the payload. A click is a sample
+//! whose distance from 0 exceeds the threshold while that of the same stem's sample before it did
+//! not; before the first sample the distance is 0.
 mod recording;
 
 use recording::Recording;
 use std::error::Error;
 use std::fmt;
-use wavpack_stereo::{BYTES_PER_FRAME, Pass, Refusal, analyse, log_word, pack, term_byte, weight_byte};
+use wavpack_stereo::{BYTES_PER_FRAME, LINE_FRAMES, Pass, Refusal, analyse, log_word, morning_page, pack, page_bytes};
+use wavpack_stereo::{term_byte, weight_byte};
 
 /// What a file holds of a pass: the term byte, and for each channel a weight byte and seeds as log
 /// words.
@@ -22,34 +25,70 @@ struct StoredPass {
     seeds: [&'static [i16]; 2],
 }
 
+const STEMS: [&str; 2] = ["left", "right"];
+
 #[derive(Clone, Copy, Debug, PartialEq, Eq)]
 struct Click {
     frame: usize,
-    /// 0 left, 1 right.
+    /// Its place in `STEMS`.
     stem: usize,
     height: i32,
 }
 
 impl fmt::Display for Click {
     fn fmt(&self, f: &mut fmt::Formatter<'_>) -> fmt::Result {
-        let stem = ["left", "right"][self.stem];
-        write!(f, "frame {}, {stem} stem, height {}", self.frame, self.height)
+        write!(f, "frame {}, {} stem, height {}", self.frame, STEMS[self.stem], self.height)
     }
 }
 
-/// The samples above the threshold, left and right in turn, without those that follow one within
-/// the hold-off.
-fn clicks(samples: &[i32], threshold: u32, hold_off: usize) -> Vec<Click> {
-    let mut listens_from = [0; 2];
+/// The clicks of both stems, left and right in turn.
+fn clicks(samples: &[i32], threshold: u32) -> Vec<Click> {
+    let mut was_loud = [false; 2];
     let mut found = Vec::new();
     for (i, &height) in samples.iter().enumerate() {
         let (frame, stem) = (i / 2, i % 2);
-        if height.unsigned_abs() > threshold && frame >= listens_from[stem] {
+        let is_loud = height.unsigned_abs() > threshold;
+        if is_loud && !was_loud[stem] {
             found.push(Click { frame, stem, height });
-            listens_from[stem] = frame + hold_off;
         }
+        was_loud[stem] = is_loud;
     }
     found
+}
+
+/// The morning page of the samples.
+fn page(samples: &[i32], threshold: u32) -> Result<String, Box<dyn Error>> {
+    let mut page = vec![0; page_bytes(samples.len() / 2)];
+    let written = morning_page(samples, threshold, &mut page)?;
+    assert_eq!(written, page.len(), "another length than was lent");
+    Ok(String::from_utf8(page)?)
+}
+
+/// Whether each block of the page has as many clicks of each stem as were found in it.
+fn counts_agree(page: &str, found: &[Click]) -> Result<(), String> {
+    for (block, line) in page.lines().enumerate() {
+        for (stem, name) in STEMS.iter().enumerate() {
+            let is_here = |click: &&Click| click.stem == stem && click.frame / LINE_FRAMES == block;
+            let here = found.iter().filter(is_here).count();
+            let told = line.split_whitespace().nth(3 + stem).unwrap_or("nothing");
+            if told != here.to_string() {
+                return Err(format!("clicks of block {block}, {name} stem: {here} found, {told} on the page"));
+            }
+        }
+    }
+    Ok(())
+}
+
+/// Prints the clicks and then the page, and gives the clicks.
+fn print(samples: &[i32], threshold: u32) -> Result<Vec<Click>, Box<dyn Error>> {
+    let found = clicks(samples, threshold);
+    for click in &found {
+        println!("{click}");
+    }
+    let page = page(samples, threshold)?;
+    print!("{page}");
+    counts_agree(&page, &found)?;
+    Ok(found)
 }
 
 fn make_passes(stored: &[StoredPass]) -> Result<Vec<Pass>, Refusal> {
@@ -89,8 +128,9 @@ fn sound(frames: usize, clicks: &[Click]) -> Vec<i32> {
     samples
 }
 
-fn write_and_decode() -> Result<(), Refusal> {
-    let put_in = [(120, 0, 9000), (455, 1, -7000), (457, 0, 5000), (1300, 1, 30_000), (1999, 0, -2001)];
+fn write_and_decode() -> Result<(), Box<dyn Error>> {
+    // The fourth rings on over the edge of a block, at frame 1,024, which makes no second click.
+    let put_in = [(120, 0, 9000), (455, 1, -7000), (457, 0, 5000), (1022, 1, 30_000), (1999, 0, -2001)];
     let put_in = put_in.map(|(frame, stem, height)| Click { frame, stem, height });
     let samples = sound(2000, &put_in);
     // Medians of 16 for noise within 8, and the terms 18, 17 and 2 with deltas of 2.
@@ -104,21 +144,16 @@ fn write_and_decode() -> Result<(), Refusal> {
     let recording = write(samples.clone(), entropy, &mut passes.clone())?;
     let (decoded, ended) = recording.decode(&mut passes.clone())?;
     assert!(ended.is_none() && decoded == samples, "the recording does not come back");
-    let found = clicks(&decoded, 2000, 20);
-    for click in &found {
-        println!("{click}");
-    }
+    let found = print(&decoded, 2000)?;
     assert_eq!(found, put_in, "other clicks than were put in");
     println!("{} clicks in {} frames, {} bytes", found.len(), recording.frames, recording.payload.len());
     Ok(())
 }
 
 /// A file for `wvpair` has no passes.
-fn decode_file(name: &str, threshold: u32, hold_off: usize) -> Result<(), Box<dyn Error>> {
+fn decode_file(name: &str, threshold: u32) -> Result<(), Box<dyn Error>> {
     let (samples, ended) = Recording::open(name)?.decode(&mut [])?;
-    for click in clicks(&samples, threshold, hold_off) {
-        println!("{click}");
-    }
+    print(&samples, threshold)?;
     match ended {
         Some(refusal) => Err(format!("ended after {} frames: {refusal}", samples.len() / 2).into()),
         None => Ok(()),
@@ -128,8 +163,8 @@ fn decode_file(name: &str, threshold: u32, hold_off: usize) -> Result<(), Box<dy
 fn main() -> Result<(), Box<dyn Error>> {
     let words: Vec<String> = std::env::args().skip(1).collect();
     match words.as_slice() {
-        [] => Ok(write_and_decode()?),
-        [file, threshold, hold_off] => decode_file(file, threshold.parse()?, hold_off.parse()?),
-        _ => Err("usage: clicks | clicks FILE THRESHOLD HOLD_OFF".into()),
+        [] => write_and_decode(),
+        [file, threshold] => decode_file(file, threshold.parse()?),
+        _ => Err("usage: clicks | clicks FILE THRESHOLD".into()),
     }
 }

@@ -46,6 +46,10 @@ unsafe extern "C" {
         file: *const u8, file_len: usize, samples: *mut i32, samples_len: usize,
         answer: *mut u32, answer_len: usize,
     ) -> u32;
+    fn wv_morning_page(
+        samples: *const i32, samples_len: usize, threshold: u32, page: *mut u8, page_len: usize,
+        answer: *mut u32, answer_len: usize,
+    ) -> u32;
 }
 
 /// `wv_log_word`: 1 slot.
@@ -156,6 +160,19 @@ pub fn wave_import(file: &[u8], samples: &mut [i32], answer: &mut [u32]) -> u32 
     unsafe {
         wv_wave_import(
             file.as_ptr(), file.len(), samples.as_mut_ptr(), samples.len(),
+            answer.as_mut_ptr(), answer.len(),
+        )
+    }
+}
+
+/// `wv_morning_page`: an answer of 1 slot.
+#[rustfmt::skip]
+pub fn morning_page(samples: &[i32], threshold: u32, page: &mut [u8], answer: &mut [u32]) -> u32 {
+    // SAFETY: all three are lists, whatever `threshold` is; only `page` and `answer`, each lent to
+    // this call alone, are written.
+    unsafe {
+        wv_morning_page(
+            samples.as_ptr(), samples.len(), threshold, page.as_mut_ptr(), page.len(),
             answer.as_mut_ptr(), answer.len(),
         )
     }

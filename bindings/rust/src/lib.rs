@@ -10,7 +10,8 @@
 //! reads one word at a time, for a controller that follows a recording as it comes in. The example
 //! `wv_file` decodes real `.wv` files, by the steps of docs/WV_FILES.md. [`wave_export`] writes
 //! samples as a sound file, which audio editors open, and [`wave_import`] reads such a file back;
-//! the example `sound_file` does both.
+//! the example `sound_file` does both. [`morning_page`] writes peaks and clicks of samples as a page
+//! of text; the example `clicks` prints it.
 //!
 //! ```
 //! use wavpack_stereo::{BYTES_PER_FRAME, Delta, Pass, Refusal, Weight};
@@ -32,9 +33,9 @@
 //! ```
 //!
 //! Every function tests its input itself and ends on every input. What it does not take it refuses
-//! with a [`Refusal`], and then `state`, `passes`, `buffer`, `samples` and `out` are as they were,
-//! with one exception: a reading that a word ends has written the samples of the words before it
-//! and says how many ([`ReadError`]).
+//! with a [`Refusal`], and then `state`, `passes`, `buffer`, `samples`, `out` and `page` are as they
+//! were, with one exception: a reading that a word ends has written the samples of the words before
+//! it and says how many ([`ReadError`]).
 //!
 //! With the feature `ffi` the C interface is public as it is, for tests that lend it lists of other
 //! lengths than the functions here do.
@@ -49,6 +50,7 @@ pub mod ffi;
 #[cfg(not(feature = "ffi"))]
 mod ffi;
 mod packing;
+mod page;
 mod passes;
 mod reading;
 mod refusal;
@@ -58,6 +60,7 @@ mod wave;
 mod words;
 
 pub use packing::{BYTES_PER_FRAME, Packed, pack};
+pub use page::{LINE_BYTES, LINE_FRAMES, morning_page, page_bytes};
 pub use passes::{Delta, MAX_ELEMENTS, MAX_PASSES, Pass, Weight, analyse, decorrelate};
 pub use reading::{MAX_FRAMES, MAX_PAYLOAD_BYTES, ReadError, Reading, read};
 pub use refusal::Refusal;

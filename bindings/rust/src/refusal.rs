@@ -68,7 +68,7 @@ refusals! {
     8 SeedTooShort "a seed with too few samples for its term",
     9 TooManyPasses "over 16 passes",
     10 ResidualOutOfSpan "a residual outside -1,879,048,192 to 1,879,048,191",
-    11 OutputTooShort "lent storage too short: under 28 bytes a frame to pack, 44 and 2 a sample for a sound file, or an element a sample of one",
+    11 OutputTooShort "lent storage too short: under 28 bytes a frame to pack, 44 and 2 a sample for a sound file, an element a sample of one, or 45 bytes a line of a page",
     12 InvalidChannel "a channel due that is neither 0 nor 1",
     13 SampleOutOfSpan "a sample outside -32,768 to 32,767",
     14 NotWave "no sound file of the one form that is taken, or a rate outside 1 to 192,000",

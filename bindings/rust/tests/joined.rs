@@ -1,6 +1,9 @@
 //! Pass lists joined (rows Q4.1 to Q4.3 of docs/PROVED.md): decorrelating by one list and then by a
 //! second is one call with the second appended to the first, in samples and in all pass states; in
 //! analysis the second list is undone before the first. Random lists, each cut at every place.
+mod random;
+
+use random::Random;
 use std::ops::Range;
 use wavpack_stereo::{MAX_ELEMENTS, MAX_PASSES, Pass, Refusal, analyse, decorrelate};
 
@@ -10,34 +13,7 @@ const TERMS: [i32; 13] = [1, 2, 3, 4, 5, 6, 7, 8, 17, 18, -1, -2, -3];
 /// How many random lists are cut.
 const LISTS: usize = 4_000;
 
-/// Random numbers that a seed repeats (xorshift64*).
-struct Random(u64);
-
 impl Random {
-    fn next(&mut self) -> u64 {
-        self.0 ^= self.0 >> 12;
-        self.0 ^= self.0 << 25;
-        self.0 ^= self.0 >> 27;
-        self.0.wrapping_mul(0x2545_f491_4f6c_dd1d) >> 16
-    }
-
-    fn below(&mut self, bound: usize) -> usize {
-        (self.next() % bound as u64) as usize
-    }
-
-    /// A number of up to 32 bits, at times at their ends.
-    fn number(&mut self) -> i32 {
-        match self.below(8) {
-            0 => i32::MIN,
-            1 => i32::MAX,
-            _ => (self.next() as i32) >> self.below(32),
-        }
-    }
-
-    fn numbers(&mut self, length: usize) -> Vec<i32> {
-        (0..length).map(|_| self.number()).collect()
-    }
-
     /// A pass of a valid term, half of them with delta and weights as settings have them.
     fn pass(&mut self) -> Pass {
         let mut slots: [i32; Pass::SLOTS] = std::array::from_fn(|_| self.number());

@@ -2,9 +2,10 @@
 //! before it, and the output is checked behind it.
 use super::passes::{self, sixteen};
 use super::reading::sounds;
-use super::waves;
+use super::{pages, waves};
 use crate::ours;
 use crate::random::Random;
+use crate::their_pages;
 use crate::their_passes::{Pass, made};
 use crate::theirs::MAX_FRAMES;
 use reference::PackedSamples;
@@ -75,9 +76,21 @@ fn sound_file(random: &mut Random, import: bool, ours: bool) {
     }
 }
 
+/// The morning page of the sound with this name, where theirs is the plain loop; none where there is
+/// no such sound.
+fn page(random: &mut Random, name: &str, ours: bool) -> Option<()> {
+    let sound = pages::sounds(random).into_iter().find(|sound| sound.name.split(' ').next() == Some(name))?;
+    let expected = their_pages::page(&sound.samples, sound.threshold, usize::MAX).unwrap();
+    let (mut out, write) = (vec![0x5a; expected.len()], if ours { pages::our_page } else { pages::loop_page });
+    counted(|| write(&sound.samples, sound.threshold, &mut out)).unwrap();
+    assert!(out == expected);
+    Some(())
+}
+
 /// Makes the call that the words name: `ours` or `theirs`; `reading` or `packing`, of the loud sound
-/// or of the one that they name; `export` or `import`; `decorrelation` or `analysis`, of a term or,
-/// by `sixteen`, of 16 passes. None where they name none.
+/// or of the one that they name; `export` or `import`; `page` of noise or of the sound that they
+/// name; `decorrelation` or `analysis`, of a term or, by `sixteen`, of 16 passes. None where they
+/// name none.
 pub fn run(words: &[&str], seed: u64) -> Option<()> {
     let random = &mut Random::new(seed);
     let [side @ ("ours" | "theirs"), ref call @ ..] = *words else {
@@ -88,6 +101,8 @@ pub fn run(words: &[&str], seed: u64) -> Option<()> {
         [what @ ("reading" | "packing")] => sound(random, "loud", what == "packing", ours)?,
         [what @ ("reading" | "packing"), name] => sound(random, name, what == "packing", ours)?,
         [what @ ("export" | "import")] => sound_file(random, what == "import", ours),
+        ["page"] => page(random, "noise", ours)?,
+        ["page", name] => page(random, name, ours)?,
         [what @ ("decorrelation" | "analysis"), terms] => {
             let terms = if terms == "sixteen" { sixteen() } else { vec![terms.parse().ok()?] };
             run_passes(random, &terms, what == "analysis", ours);

@@ -1,6 +1,6 @@
 //! The speed of the library and of the published Rust on the same inputs, in one run. Sound files
-//! are no part of the published Rust: there a plain loop stands for it. With the feature `before`
-//! an earlier archive reads beside them.
+//! and morning pages are no part of the published Rust: there a plain loop stands for it. With the
+//! feature `before` an earlier archive reads beside them.
 //!
 //! The sides take turns, and the best of all turns counts. Each turn starts from fresh copies,
 //! which are made before the clock starts. The outputs are compared.
@@ -13,6 +13,7 @@ use std::time::{Duration, Instant};
 mod before;
 pub mod count;
 mod packing;
+mod pages;
 mod passes;
 mod reading;
 mod waves;
@@ -70,4 +71,5 @@ pub fn run(seed: u64) {
     passes::run(random);
     packing::run(&sounds);
     waves::run(random);
+    pages::run(random);
 }

@@ -7,6 +7,8 @@ mod joined;
 mod log_words;
 pub mod making;
 pub mod packs;
+pub mod page_case;
+mod pages;
 mod pass_bytes;
 pub mod passes;
 pub mod reads;
@@ -32,4 +34,5 @@ pub const KINDS: &[Kind] = &[
     ("packing", packs::run),
     ("exports of sound files", wave_exports::run),
     ("imports of sound files", wave_imports::run),
+    ("morning pages", pages::run),
 ];

@@ -1,5 +1,6 @@
-//! Damaged inputs by the million: payloads, states, pass lists, packings and sound files that were
-//! real and then damaged, each answered as the published Rust, or the rule, answers.
+//! Damaged inputs by the million: payloads, states, pass lists, packings, sound files and recordings
+//! for morning pages that were real and then damaged, each answered as the published Rust, or the
+//! rule, answers.
 //!
 //! Every list that is lent stands in turn right before a page that must not be touched, right
 //! behind such a page, and in a block of the heap of its own. A child compares, so that a stray
@@ -16,6 +17,7 @@ use std::time::{Duration, Instant};
 
 mod damage;
 mod packs;
+mod pages;
 mod passes;
 mod reads;
 mod recordings;
@@ -32,8 +34,8 @@ pub struct Bounds {
 /// A kind: its name, how many of 100 inputs are of it, and what makes and compares one.
 type Kind = (&'static str, usize, fn(&mut Run, &Recordings) -> Result<(), Failed>);
 
-const KINDS: [Kind; 8] = [
-    ("damaged payloads, read whole", 40, |run, from| one(run, |random| reads::read(random, from))),
+const KINDS: [Kind; 9] = [
+    ("damaged payloads, read whole", 36, |run, from| one(run, |random| reads::read(random, from))),
     ("damaged payloads and states, read by words", 24, |run, from| one(run, |random| words::word(random, from))),
     ("damaged entropy payloads", 4, |run, from| one(run, |random| reads::entropy(random, from))),
     ("damaged seeds", 3, |run, _| one(run, passes::making)),
@@ -41,6 +43,7 @@ const KINDS: [Kind; 8] = [
     ("damaged packings", 13, |run, from| one(run, |random| packs::pack(random, from))),
     ("damaged exports of sound files", 3, |run, from| one(run, |random| waves::export(random, from))),
     ("damaged sound files", 5, |run, from| one(run, |random| waves::import(random, from))),
+    ("morning pages of damaged recordings", 4, |run, from| one(run, |random| pages::page(random, from))),
 ];
 
 const PLACES: [Place; 3] = [Place::BeforePage, Place::BehindPage, Place::Block];
