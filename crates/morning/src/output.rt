@@ -1,0 +1,28 @@
+// What `morning` writes to standard output beside a page.
+use libc::STDOUT_FILENO;
+
+pub fn print(text: &[u8]) {
+    io::write_all(STDOUT_FILENO, text);
+}
+
+// The wording of a refusal that a recording can meet, as include/refusals.txt has it.
+fn print_reason(number: u32) {
+    match number {
+        1 => print(b"the entropy payload is neither 6 nor 12 bytes long"),
+        2 => print(b"the entropy payload is mono (6 bytes) or holds a negative median"),
+        3 => print(b"a bit past the end is needed, or a count or a prefix value is over its cap"),
+        4 => print(b"end of stream: the second count of a prefix is 33"),
+        _ => print(
+            b"over 131,072 frames, 262,144 elements, 4,194,304 payload bytes or 524,332 bytes of a sound file",
+        ),
+    }
+}
+
+// The line that says why there is no page.
+pub fn print_refusal(number: u32) {
+    print(b"refused, ");
+    io::print_decimal(STDOUT_FILENO, number as u64);
+    print(b": ");
+    print_reason(number);
+    print(b"\n");
+}
