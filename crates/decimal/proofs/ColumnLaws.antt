@@ -76,6 +76,15 @@ column-last width n h = go (decLt n 10)
     go (yes l) = one l
     go (no l) = more (omega arith)
 
+-- the byte before the digits that are laid: a space where nothing is left, or the last digit of that
+pub mark-space : (rest : ℕ) → rest ≡ 0 → 32 ≡ mark rest
+unfolding mark
+mark-space rest e = rw (eq-eqb rest 0 e)
+
+pub mark-digit : (rest : ℕ) → (rest ≡ 0 → ⊥) → 48 + rest % 10 ≡ mark rest
+unfolding mark
+mark-digit rest h = rw (ne-eqb rest 0 h)
+
 -- the front has its width
 front-length : (width rest : ℕ) → Room width rest → length (front width rest) ≡ width
 unfolding front
