@@ -29,7 +29,7 @@ docs/refusals.sh || fail 'the wording of the refusals'
 rt staticlib capi || fail 'rt staticlib capi'
 library=target/staticlib
 
-"${CC:-cc}" -std=c11 -Wall -Wextra -Werror -Iinclude ctest/answers.c ctest/joined.c ctest/waves.c "$library/libcapi.a" -o target/ctest || fail 'the C program does not build'
+"${CC:-cc}" -std=c11 -Wall -Wextra -Werror -Iinclude ctest/answers.c ctest/joined.c ctest/pages.c ctest/waves.c "$library/libcapi.a" -o target/ctest || fail 'the C program does not build'
 target/ctest || fail 'the C program'
 
 wv=bindings/rust/tests/data
@@ -44,7 +44,7 @@ example() { # NAME WORD...
     cargo run --quiet --offline --locked --manifest-path bindings/rust/Cargo.toml --example "$name" -- "$@"
 }
 printf '\0\1\0\1\0\1\0\1\0\1\0\1\1\0\176\2' >target/pair.bin || fail 'no file for the example'
-{ example clicks && example clicks target/pair.bin 2 0; } | diff bindings/rust/examples/clicks.txt - || fail 'the example of the Rust bindings'
+{ example clicks && example clicks target/pair.bin 2; } | diff bindings/rust/examples/clicks.txt - || fail 'the example of the Rust bindings'
 example wv_file "$wv"/*.wv | diff bindings/rust/examples/wv_file.txt - || fail 'real files in Rust'
 
 sound_files() { # Four frames as they are, with a sample of 32,768 among them, and without their end.

@@ -1,7 +1,8 @@
 #!/bin/sh
 # Holds what people read of the refusals to include/refusals.txt: the list in the C header, the table
 # in README.md and the strings of the Rust bindings have each number with its name and wording, and no
-# refusal more. Prints what does not hold.
+# refusal more; the program `morning` has those that a recording can meet, up to the one for what is
+# too large. Prints what does not hold.
 set -u
 cd "$(dirname "$0")/.." || exit 2
 table=include/refusals.txt
@@ -30,9 +31,10 @@ awk -v table="$table" '
     }
 
     # At the end of a file every number was there.
-    function ended(    number) {
+    function ended(    number, most) {
         if (!file || file == table) return
-        for (number = 1; number <= last; number++)
+        most = file ~ /[.]rt$/ ? rust["TooLarge"] : last
+        for (number = 1; number <= most; number++)
             if (!((file, number) in seen)) wrong("no " number ", \"" wording[number] "\"")
     }
 
@@ -81,9 +83,17 @@ awk -v table="$table" '
         }
     }
 
+    # The program: a wording stands behind the arm of its number, and behind the arm `_` the one for what
+    # is too large.
+    FILENAME ~ /[.]rt$/ && !/^ *[/][/]/ {
+        if (/^}/) arm = 0
+        if (/^ *([0-9]+|_) =>/) arm = $1 == "_" ? rust["TooLarge"] : $1 + 0
+        if (arm && match($0, /"[^"]*"/)) told(arm, "", substr($0, RSTART + 1, RLENGTH - 2))
+    }
+
     END {
         ended()
         if (bad || !last) exit 1
-        print "refusals: " last " in " table ", worded alike in the header, README.md and the bindings"
+        print "refusals: " last " in " table ", worded alike in the header, README.md, the bindings and the program"
     }
-' "$table" include/wavpack_stereo.h README.md bindings/rust/src/refusal.rs
+' "$table" include/wavpack_stereo.h README.md bindings/rust/src/refusal.rs crates/morning/src/output.rt
