@@ -11,20 +11,31 @@ use lib.IntN.{ℤ, pos, negsuc, natAbs, negℤ}
 use lib.ListN.{length, getD}
 use lib.Signed.{mag, ltZ}
 use Rattle.decimal.specs.Decimal.{decimal, readDigits}
+use Rattle.decimal.specs.TextPut.{TextPut}
+use Rattle.decimal.proofs.PutLaws.{put-on}
 use Rattle.decimal.proofs.DecimalLaws.{decimal-short, decimal-back, decimal-first}
 use Rattle.wvpair_text.specs.Signed.{signedDecimal, readSigned}
 
 -- a negative number prints as `-` and its distance from 0
-pub negative-text : (v : ℤ) → ltZ v (pos 0) ≡ true → signedDecimal v ≡ 45 ∷ decimal (natAbs v)
+negative-text : (v : ℤ) → ltZ v (pos 0) ≡ true → signedDecimal v ≡ 45 ∷ decimal (natAbs v)
 unfolding signedDecimal
 negative-text (pos n) e = absurd (omega (arith, ltb-true n 0 e))
 negative-text (negsuc n) e = refl
 
 -- any other number prints as its distance from 0
-pub unsigned-text : (v : ℤ) → ltZ v (pos 0) ≡ false → signedDecimal v ≡ decimal (natAbs v)
+unsigned-text : (v : ℤ) → ltZ v (pos 0) ≡ false → signedDecimal v ≡ decimal (natAbs v)
 unfolding signedDecimal
 unsigned-text (pos n) e = refl
 unsigned-text (negsuc n) e = absurd (let z : _≡_ {A = ℕ} 0 1 = cc in omega arith)
+
+-- so it is put as a minus sign and its distance
+pub negative-put : {a b c : List ℕ} {at p q : ℕ} (v : ℤ) (d : ℕ) → at ≤ length a → ltZ v (pos 0) ≡ true → d ≡ natAbs v
+    → TextPut a b at p (45 ∷ []) → TextPut b c p q (decimal d) → TextPut a c at q (signedDecimal v)
+negative-put v d h t e x y = rw (negative-text v t, ← e) (put-on h x y)
+
+-- and any other as its distance
+pub unsigned-put : {a b : List ℕ} {at p : ℕ} (v : ℤ) (d : ℕ) → ltZ v (pos 0) ≡ false → d ≡ natAbs v → TextPut a b at p (decimal d) → TextPut a b at p (signedDecimal v)
+unsigned-put v d t e x = rw (unsigned-text v t, ← e) x
 
 -- the distance of a 32-bit number from 0 takes at most ten digits
 pub size-short : (v : ℤ) → mag v < 2147483648 → length (decimal (natAbs v)) ≤ 10

@@ -9,6 +9,7 @@ use lib.IntN.{ℤ, pos}
 use lib.ListN.{length, take, drop, replicate, length-take, length-drop, length-append}
 use lib.Seq.{length-take-le, take-all}
 use Rattle.answers.specs.Numbers.{outcomeNumber}
+use Rattle.decimal.proofs.PutLaws.{put-as}
 use Rattle.samples.proofs.SilenceLaws.{take-zeros}
 use Rattle.samples.specs.View.{ReadTold, viewReading}
 use Rattle.samples.specs.declared.ReadAnswer.{ReadAnswer}
@@ -111,7 +112,7 @@ returns : tie.Need-returns
 returns c =
     let k : tie.After-decode-packed-samples-stereo-from-entropy = search needs in
     let after-outcome-number : tie.After-outcome-number = search needs in
-    rw (printed-told (readingOf (input k)) (answer k) (list k) _ _ (known k) (room k .within) (after-outcome-number .outcome-number .ensures)) at (c .before .before .put-report .ensures)
+    put-as (printed-told (readingOf (input k)) (answer k) (list k) _ _ (known k) (room k .within) (after-outcome-number .outcome-number .ensures)) (c .before .before .put-report .ensures)
 
 pub print-reading-spec : {M : Type 1} → statement M
 print-reading-spec =

@@ -3,8 +3,8 @@
 -- Assumes nothing.
 use borrow.Author.Needs.{needs}
 use native.Mathlib.Omega.{arith}
-use Rattle.decimal.proofs.DecimalLaws.{decimal-one, decimal-more, decimal-some, more-length}
-use Rattle.decimal.proofs.PutLaws.{put-on}
+use Rattle.decimal.proofs.DecimalLaws.{decimal-some, more-length}
+use Rattle.decimal.proofs.PutLaws.{decimal-one-put, decimal-more-put}
 use Prim.Native.Nat.{ℕ, _≤_, _<_}
 use borrow.Fn.Kinds.{In}
 use borrow.Fn.PlainCycle.{Measures, is, falls, and}
@@ -67,7 +67,7 @@ put-decimal-returns : (t : ℕ) → put-decimal-lts.Need-returns (
 ) (put-decimal-at t) put-decimal.Post
 put-decimal-returns t c =
     let a = c .before .before .before .before .before .before .before .args in
-    rw (decimal-one (a .n) (c .before .before .before .before .before .if1 .taken), ← c .before .before .before .digit .ensures) (c .before .before .put-byte .ensures)
+    decimal-one-put (a .n) _ (c .before .before .before .before .before .if1 .taken) (c .before .before .before .digit .ensures) (c .before .before .put-byte .ensures)
 
 put-decimal-put-decimal-requires : (t : ℕ) → put-decimal-lts.Need-put-decimal-requires (
   digit-reads.Asked,
@@ -124,8 +124,12 @@ put-decimal-returns-2 : (t : ℕ) → put-decimal-lts.Need-returns-2 (
 ) (put-decimal-at t) put-decimal.Post
 put-decimal-returns-2 t c =
     let s = c .before .before .before .before .before .before .before .before .before .before .before in
-    rw (decimal-more (s .args .n) (c .before .before .before .before .before .before .before .before .before .if1 .left), ← c .before .before .before .digit2 .ensures)
-    (put-on (omega (arith, s .pre .1)) (c .before .before .before .before .before .before .before .put-decimal .ensures) (c .before .before .put-byte2 .ensures))
+    decimal-more-put (s .args .n) _
+    (omega (arith, s .pre .1))
+    (c .before .before .before .before .before .before .before .before .before .if1 .left)
+    (c .before .before .before .digit2 .ensures)
+    (c .before .before .before .before .before .before .before .put-decimal .ensures)
+    (c .before .before .put-byte2 .ensures)
 
 pub +put-decimal-spec : {M : Type 1} → statement M
 +put-decimal-spec = close μ-put-decimal λ t. put-decimal-lts.spec (

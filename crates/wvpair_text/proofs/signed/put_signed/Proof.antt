@@ -11,8 +11,7 @@ use mir.Facts.{toZ-ofZ}
 use mir.Syntax.{w32}
 use mir.Val.{SFits}
 use Rattle.decimal.specs.Decimal.{decimal}
-use Rattle.decimal.proofs.PutLaws.{put-on}
-use Rattle.wvpair_text.proofs.SignLaws.{negative-text, unsigned-text, size-short, signed-short}
+use Rattle.wvpair_text.proofs.SignLaws.{negative-put, unsigned-put, size-short, signed-short}
 use borrow.Author.Needs.{needs}
 use Rattle.wvpair_text.proofs.signed.put_signed.Statement.{statement}
 use Rattle.wvpair_text.proofs.signed.put_signed.Tie as tie
@@ -36,7 +35,7 @@ returns c =
     let f : SFits w32 v = search needs in
     let t : ltZ v (pos 0) ≡ true = rw (toZ-ofZ f) at (then1 .if1 .taken) in
     let n : after-distance .distance .result ≡ natAbs v = after-distance .distance .ensures ∙ ap natAbs (toZ-ofZ f) in
-    let l = rw (n, ← negative-text v t) at (put-on (omega (arith, s .pre)) (after-put-byte .put-byte .ensures) (c .before .before .put-decimal .ensures)) in
+    let l = negative-put v _ (omega (arith, s .pre)) t n (after-put-byte .put-byte .ensures) (c .before .before .put-decimal .ensures) in
     (l, omega (arith, signed-short v (f .sfits)))
 
 put-decimal-requires-2 : tie.Need-put-decimal-requires-2
@@ -56,7 +55,7 @@ returns-2 c =
     let f : SFits w32 v = search needs in
     let t : ltZ v (pos 0) ≡ false = rw (toZ-ofZ f) at (else1 .if1 .left) in
     let n : after-distance2 .distance2 .result ≡ natAbs v = after-distance2 .distance2 .ensures ∙ ap natAbs (toZ-ofZ f) in
-    let l = rw (n, ← unsigned-text v t) at (c .before .before .put-decimal2 .ensures) in
+    let l = unsigned-put v _ t n (c .before .before .put-decimal2 .ensures) in
     (l, omega (arith, signed-short v (f .sfits)))
 
 pub put-signed-spec : {M : Type 1} → statement M
