@@ -6,7 +6,7 @@ use lib.IntN.{pos, negsuc}
 use lib.ListN.{replicate}
 use Rattle.decimal.specs.Column.{column}
 use Rattle.decimal.specs.Decimal.{digits, decimal}
-use Rattle.morning_page.specs.Page.{lineCount, lineClicks, row, line, lines, page}
+use Rattle.morning_page.specs.Page.{lineCount, row, line, lines, page}
 use Rattle.morning_page.specs.Sound.{lefts, rights, peak, click, clicks, lastDistance}
 
 -- the channels of two frames

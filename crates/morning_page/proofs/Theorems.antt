@@ -9,18 +9,17 @@ use lib.IntN.{ℤ, pos}
 use lib.ListN.{length, take, drop, getD, length-append, length-take, length-drop}
 use lib.Seq.{take-at, drop-at, take-all, drop-append-le, take-append-le, getD-drop}
 use lib.Signed.{mag}
-use Rattle.answers.specs.Lists.{framesRefusal}
 use Rattle.answers.proofs.ListLaws.{frames-none}
 use Rattle.overlay.proofs.OverlayLaws.{overlay-none, overlay-take}
 use Rattle.decimal.specs.Column.{column, readColumn}
 use Rattle.decimal.proofs.ColumnLaws.{column-back}
-use Rattle.morning_page.specs.Entry.{lineBytes, pageRefusal, tellPage, pageEntry}
+use Rattle.morning_page.specs.Entry.{lineBytes, tellPage, pageEntry}
 use Rattle.morning_page.specs.Morning.{Recording, sumOf, ClicksSummed, LinesOf45, lineAt, LinesStand, numberIn, ColumnsHold, pageLeft, ReadBack, PageReadBack, EmptyPage}
 use Rattle.morning_page.specs.Page.{lineCount, covered, ahead, linePeak, lineClicks, row, line, lines, page}
-use Rattle.morning_page.specs.Sound.{lefts, rights, clicks, lastDistance}
+use Rattle.morning_page.specs.Sound.{lefts, rights, lastDistance}
 use Rattle.morning_page.proofs.CountLaws.{lines-few, sum-all}
 use Rattle.morning_page.proofs.EntryLaws.{page-number, page-told}
-use Rattle.morning_page.proofs.LineLaws.{Narrow, Widths, narrow-wide, row-widths, row-length, lines-more}
+use Rattle.morning_page.proofs.LineLaws.{Narrow, Widths, narrow-wide, row-widths, row-length}
 use Rattle.morning_page.proofs.SoundLaws.{lefts-append, rights-append, lefts-none, rights-none, left-peak-small, right-peak-small, clicks-few, lefts-few, rights-few}
 
 -- ---- clicks, summed over the lines

@@ -2,9 +2,9 @@
 -- Assumes nothing.
 use mathlib.Core.Path.{_≡_, refl, sym, ap, _∙_}
 use mathlib.Core.List.{List}
-use Prim.Native.Nat.{ℕ, zero, suc, _*_, _≤_, _<_}
+use Prim.Native.Nat.{ℕ, _*_, _≤_, _<_}
 use borrow.Author.Tests.{lt-ltb, le-ltb}
-use lib.IntN.{ℤ, pos}
+use lib.IntN.{pos}
 use lib.ListN.{length, take, drop, replicate}
 use Rattle.answers.specs.declared.Outcome.{Outcome}
 use Rattle.answers.specs.declared.Refusal.{Refusal}
@@ -15,7 +15,7 @@ use Rattle.answers.proofs.GuardLaws.{guard-refused, guard-accepted}
 use Rattle.answers.proofs.NumberLaws.{number-positive}
 use Rattle.morning_page.specs.Entry.{PageTold, refusePage, pageEntry}
 use Rattle.morning_text.specs.Input.{headBytes, frameCount, readingOf, inputEntry}
-use Rattle.samples.specs.View.{ReadTold, readEntry, refuseReading}
+use Rattle.samples.specs.View.{ReadTold, refuseReading}
 use Rattle.samples.proofs.EntryLaws.{refused-frames, not-read}
 
 module _ (t : ℕ) (input storage : List ℕ) where

@@ -1,7 +1,7 @@
 -- `morning_page::page_refusal` meets its contract: one law for each of its four answers.
 -- Assumes nothing.
-use mathlib.Core.Path.{_≡_, sym, ap}
-use Prim.Native.Nat.{ℕ, _*_, _<_, _≤_}
+use mathlib.Core.Path.{sym}
+use Prim.Native.Nat.{_*_, _<_, _≤_}
 use native.Mathlib.Omega.{arith}
 use borrow.Author.Needs.{needs}
 use Rattle.answers.proofs.ListLaws.{frames-long, frames-odd, frames-room, frames-none}

@@ -1,6 +1,5 @@
 -- `morning_text::input_page` meets its contract: one law for each of its answers.
 -- Assumes nothing.
-use mathlib.Core.Path.{sym}
 use native.Mathlib.Omega.{arith}
 use borrow.Author.Needs.{needs}
 use Rattle.morning_text.proofs.InputLaws.{input-short, input-frames}

@@ -2,16 +2,16 @@
 -- whose first zeros are lent.
 -- Assumes nothing.
 use mathlib.Core.Path.{_≡_, sym, ap, _∙_}
-use mathlib.Core.List.{List, _++_}
-use Prim.Native.Nat.{ℕ, _-_, _*_, _≤_}
+use mathlib.Core.List.{List}
+use Prim.Native.Nat.{ℕ, _-_, _*_}
 use native.Mathlib.Omega.{arith}
 use borrow.Author.Needs.{needs}
 use denote.Ref.{now}
 use lib.IntN.{ℤ}
-use lib.ListN.{length, take, drop, length-take, length-drop, length-append}
+use lib.ListN.{length, take, drop, length-drop, length-append}
 use lib.Seq.{length-take-le, take-all, take-at}
 use Rattle.answers.specs.Numbers.{outcomeNumber}
-use Rattle.morning_text.specs.Input.{frameCount, readingOf}
+use Rattle.morning_text.specs.Input.{readingOf}
 use Rattle.morning_text.proofs.InputLaws.{input-refused, input-read}
 use Rattle.samples.proofs.SilenceLaws.{zeros, take-zeros}
 use Rattle.samples.specs.View.{ReadTold, viewReading, readEntry}

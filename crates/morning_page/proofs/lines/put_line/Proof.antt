@@ -1,10 +1,9 @@
 -- `morning_page::lines::put_line` meets its contract: five columns and a newline, one behind the
 -- other.
 -- Assumes nothing.
-use Prim.Native.Nat.{_≤_}
 use native.Mathlib.Omega.{arith}
 use borrow.Author.Needs.{needs}
-use lib.ListN.{length, length-append}
+use lib.ListN.{length-append}
 use mir.Syntax.{w32}
 use mir.Val.{Fits}
 use Rattle.decimal.specs.Column.{column}

@@ -1,14 +1,13 @@
 -- `morning_page::lines::put_lines` meets its contract. The loop's invariant: the first k lines are
 -- laid. The measure is how many are left.
 -- Assumes nothing.
-use mathlib.Core.Path.{_≡_, ap}
 use mathlib.Core.List.{List}
-use Prim.Native.Nat.{ℕ, _+_, _*_, _-_, _≤_, _<_}
+use Prim.Native.Nat.{ℕ, _*_, _-_, _≤_, _<_}
 use native.Mathlib.Omega.{arith}
 use borrow.Author.Needs.{needs}
 use denote.Ref.{now}
 use lib.IntN.{ℤ}
-use lib.ListN.{length, take, drop, length-take, length-drop}
+use lib.ListN.{length, drop, length-take, length-drop}
 use Rattle.morning_page.specs.Heard.{Heard}
 use Rattle.morning_page.specs.Page.{lineCount, covered}
 use Rattle.morning_page.proofs.CountLaws.{line-begins, lines-few, covered-is}

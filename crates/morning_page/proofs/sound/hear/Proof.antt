@@ -1,18 +1,16 @@
 -- `morning_page::sound::hear` meets its contract. The loop's invariant: what is found in the frames
 -- passed, joined to what the others hold, is the whole. The measure is how many are left.
 -- Assumes nothing.
-use mathlib.Core.Path.{_≡_, sym, ap, _∙_}
-use mathlib.Core.List.{List}
-use Prim.Native.Nat.{ℕ, _+_, _*_, _-_, _/_, _≤_, _<_, max}
+use mathlib.Core.Path.{ap, _∙_}
+use Prim.Native.Nat.{_+_, _*_, _-_, _/_, _≤_}
 use native.Mathlib.Omega.{arith}
 use borrow.Author.Needs.{needs}
 use denote.Ref.{now}
-use lib.IntN.{ℤ, pos, natAbs}
+use lib.IntN.{pos, natAbs}
 use lib.ListN.{length, getD}
 use mir.Facts.{toZ-ofZ}
 use mir.Syntax.{w32}
 use mir.Val.{SFits}
-use Rattle.morning_page.specs.Heard.{exceeds}
 use Rattle.morning_page.proofs.HearLaws.{exceeds-few, rises-small, flags-are, Walked, walked-none, walked-more, walked-all}
 use Rattle.morning_page.proofs.sound.hear.Statement.{statement}
 use Rattle.morning_page.proofs.sound.hear.Tie as tie
