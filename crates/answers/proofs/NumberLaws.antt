@@ -21,3 +21,5 @@ number-positive Refusal.OutputTooShort = omega arith
 number-positive Refusal.InvalidChannel = omega arith
 number-positive Refusal.SampleOutOfSpan = omega arith
 number-positive Refusal.NotWave = omega arith
+number-positive Refusal.FieldAbove31 = omega arith
+number-positive Refusal.NotReinsertable = omega arith

@@ -21,6 +21,8 @@ numberOf Refusal.OutputTooShort = 11
 numberOf Refusal.InvalidChannel = 12
 numberOf Refusal.SampleOutOfSpan = 13
 numberOf Refusal.NotWave = 14
+numberOf Refusal.FieldAbove31 = 15
+numberOf Refusal.NotReinsertable = 16
 
 -- the number of an outcome: 0 means accepted
 abbrev pub outcomeNumber : Outcome → ℕ

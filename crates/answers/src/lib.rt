@@ -1,12 +1,12 @@
 // Implements document 01, "Why each operation says no", and the numbers that document 02 adds: one
-// enum for all of them, and what an entry answers. Every entry answers with an `Outcome`; none refuses for a reason that is not listed
-// here.
+// enum for all of them, and what an entry answers. Every entry answers with an `Outcome`; none
+// refuses for a reason that is not listed here.
 ghost use mathlib.Core.Path.{_≡_};
 ghost use Rattle.answers.specs.Numbers.{numberOf, outcomeNumber};
 
 pub mod limits;
 
-// A reason to refuse. The order is that of the numbers 1 to 14.
+// A reason to refuse. The order is that of the numbers 1 to 16.
 pub enum Refusal {
     // The entropy payload is neither 6 nor 12 bytes long.
     EntropyLength,
@@ -36,6 +36,10 @@ pub enum Refusal {
     SampleOutOfSpan,
     // The bytes are no sound file of the one form that is taken, or a rate is outside its span.
     NotWave,
+    // A field of wide samples tells of more than 31 bits.
+    FieldAbove31,
+    // A wide sample is the image of no sample under the redundancy setting.
+    NotReinsertable,
 }
 
 // What an entry says: that it accepted its input, or why not.
@@ -44,7 +48,7 @@ pub enum Outcome {
     Refused(Refusal),
 }
 
-// The number of a refusal, 1 to 14.
+// The number of a refusal, 1 to 16.
 pub fn number(refusal: Refusal) -> u32
     ensures { λ r. ⌜ r ≡ numberOf refusal ⌝ }
 {
@@ -63,6 +67,8 @@ pub fn number(refusal: Refusal) -> u32
         Refusal::InvalidChannel => 12,
         Refusal::SampleOutOfSpan => 13,
         Refusal::NotWave => 14,
+        Refusal::FieldAbove31 => 15,
+        Refusal::NotReinsertable => 16,
     }
 }
 

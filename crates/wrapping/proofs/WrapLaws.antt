@@ -1,10 +1,11 @@
 -- The laws of numbers kept to 32 bits: which numbers they are, and that wrapping sums and
 -- differences undo one another. Assumes nothing.
-use mathlib.Core.Path.{_≡_, refl, ap, _∙_}
+use mathlib.Core.Path.{_≡_, refl, sym, ap, _∙_}
 use mathlib.Core.Bool.{Bool, true, false, not, cond}
-use Prim.Native.Nat.{ℕ, zero, suc, _+_, _-_, _%_, _<_, _≤_}
+use Prim.Native.Nat.{ℕ, zero, suc, _+_, _-_, _*_, _/_, _%_, _<_, _≤_}
+use native.Mathlib.Nat.{add-mul, mul-assoc}
 use native.Mathlib.Omega.{arith}
-use lib.IntN.{ℤ, pos, negsuc, negℤ, subℕ, _+ℤ_, _-ℤ_, +ℤ-comm, -ℤ-+ℤ-cancel, +ℤ-negℤ-cancel}
+use lib.IntN.{ℤ, pos, negsuc, negℤ, subℕ, _+ℤ_, _-ℤ_, _*ℤ_, +ℤ-comm, -ℤ-+ℤ-cancel, +ℤ-negℤ-cancel}
 use lib.Dec.{T, ltb, ltb→lt, nltb→le}
 use lib.Bits.{bitAnd, and-mask}
 use mir.Syntax.{w32, w64}
@@ -60,6 +61,24 @@ unfolding low32
 low32-neg (pos zero) = refl
 low32-neg (pos (suc n)) = omega arith
 low32-neg (negsuc n) = omega arith
+
+-- a product splits into whole turns of 2 to the 32 and the rest
+turns : (q r m : ℕ) → (4294967296 * q + r) * m ≡ 4294967296 * (q * m) + r * m
+turns q r m = add-mul (4294967296 * q) r m ∙ ap (λ (n : ℕ). n + r * m) (mul-assoc 4294967296 q m)
+
+-- the low bits of a product come from the low bits
+pub low32-mul : (z : ℤ) (m : ℕ) → low32 (z *ℤ pos m) ≡ low32 z * m % 4294967296
+unfolding low32
+low32-mul (pos n) m =
+    let e : n ≡ 4294967296 * (n / 4294967296) + n % 4294967296 = omega arith in
+    let f : n * m ≡ 4294967296 * (n / 4294967296 * m) + n % 4294967296 * m = ap (λ (x : ℕ). x * m) e ∙ turns (n / 4294967296) (n % 4294967296) m in
+    omega (arith, f)
+low32-mul (negsuc n) m =
+    let r = 4294967295 - n % 4294967296 in
+    let t = suc (n / 4294967296) in
+    let e : 4294967296 * t + 0 ≡ r + suc n = omega arith in
+    let f : r * m + suc n * m ≡ 4294967296 * (t * m) + 0 * m = sym (add-mul r (suc n) m) ∙ ap (λ (x : ℕ). x * m) (sym e) ∙ turns t 0 m in
+    low32-neg (pos (suc n * m)) ∙ omega (arith, f)
 
 -- a number kept to 32 bits is a 32-bit number
 pub wrap-fits : (z : ℤ) → SFits w32 (wrap32 z)

@@ -1,0 +1,6 @@
+-- What other crates cite.
+pub mod ShiftLaws
+pub mod MachineLaws
+pub mod SettingLaws
+pub mod KeepLaws
+pub mod Cases
