@@ -114,7 +114,7 @@ take-bits buf a k h =
     ∙ take-append-add (bitsOf (take a buf)) (bitsOf (drop a buf)) k
 
 -- the first bytes of bytes are bytes
-bytes-take : (buf : List ℕ) (a : ℕ) → Bytes buf → Bytes (take a buf)
+pub bytes-take : (buf : List ℕ) (a : ℕ) → Bytes buf → Bytes (take a buf)
 bytes-take buf zero h i = lit< tt
 bytes-take [] (suc a) h i = lit< tt
 bytes-take (x ∷ buf) (suc a) h zero = h 0

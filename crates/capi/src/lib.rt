@@ -8,6 +8,7 @@ pub mod pages;
 pub mod pass_lists;
 pub mod values;
 pub mod waves;
+pub mod wide;
 pub mod words;
 
 pub use crate::pack::wv_pack;
@@ -21,5 +22,7 @@ pub use crate::values::wv_term_byte;
 pub use crate::values::wv_weight_byte;
 pub use crate::waves::wv_wave_export;
 pub use crate::waves::wv_wave_import;
+pub use crate::wide::wv_deconstruct_int32;
+pub use crate::wide::wv_reassemble_int32;
 pub use crate::words::wv_read;
 pub use crate::words::wv_word;

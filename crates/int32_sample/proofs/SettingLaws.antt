@@ -59,7 +59,7 @@ pub odd-bits : (n found e o : ℕ) → found ≡ n → (found ≡ 0 → ⊥) →
 odd-bits n found e o q z = sym (ap (λ (t : Bool). cond t e o) (ne-eqb n 0 (λ m. z (q ∙ m))))
 
 -- the bits of the setting that three fields make, as `redundancy_of` holds them
-abbrev held : Setting → Redundancy
+abbrev pub held : Setting → Redundancy
 held s = record { count = width s; even = evenBits s; odd = oddBits s }
 
 -- zeros, where they are not 0
@@ -78,6 +78,14 @@ pub dups-last : (z o d mask : ℕ) → z ≤ 0 → o ≤ 0 → mask ≡ allOnes 
 dups-last zero zero d mask h l e = ap (λ (m : ℕ). record { count = d; even = 0; odd = m }) e
 dups-last zero (suc o) d mask h l e = absurd (omega arith)
 dups-last (suc z) o d mask h l e = absurd (omega arith)
+
+-- what is put in below a sample by them
+module _ (s : Setting) (r : Redundancy) (x : ℤ) (n : ℕ) (e : r ≡ held s) (q : n ≡ cond (eqb (lowBits 1 x) 0) (r .even) (r .odd)) where
+  pub put-lt : n < 2 ^ r .count
+  put-lt = rw (q, e) (fill-lt s x)
+
+  pub put-is : (v : ℤ) → v ≡ below (r .count) n x → v ≡ reinsert s x
+  put-is v p = p ∙ rw (q, e) (sym (by-parity s x))
 
 -- ---- the test on the low bits
 

@@ -14,7 +14,7 @@ use Rattle.overlay.specs.Overlay.{overlay}
 use Rattle.slots.specs.Slots.{leaveValues, fillCall}
 
 -- the slots of a refused call keep their values
-slots-kept : (o : Outcome) (x : Refusal) (values slots : List ℕ) → o ≡ Outcome.Refused x → leaveValues (outcomeNumber o) values slots ≡ slots
+pub slots-kept : (o : Outcome) (x : Refusal) (values slots : List ℕ) → o ≡ Outcome.Refused x → leaveValues (outcomeNumber o) values slots ≡ slots
 slots-kept o x values slots q = guard-refused (outcomeNumber o) (λ _. slots) (overlay slots 0 values) (rw q (number-positive x))
 
 module _ {A : Type 0} (n : ℕ) (before after : List A) (answer values : List ℕ) where

@@ -1,0 +1,11 @@
+-- What other crates and the proofs of this one cite.
+pub mod InPlace
+pub mod InfoLaws
+pub mod ReassembleLaws
+pub mod DeconstructLaws
+pub mod WideLaws
+pub mod TestLaws
+pub mod LiteralLaws
+pub mod LayLaws
+pub mod Theorems
+pub mod Images

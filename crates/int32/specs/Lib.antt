@@ -1,0 +1,4 @@
+pub mod Info
+pub mod Reassemble
+pub mod Deconstruct
+pub mod Wide
