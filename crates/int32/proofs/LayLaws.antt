@@ -21,7 +21,7 @@ use Rattle.little_endian.specs.LittleEndian.{littleEndian}
 use Rattle.bits.specs.Bits.{low, num, bitsOf}
 use Rattle.bits.specs.Laid.{bytesHolding, put}
 use Rattle.bits.proofs.BitLaws.{length-low, length-bits, low-add, low-num, num-low}
-use Rattle.bits.proofs.LaidLaws.{Bytes, bytes-take, low-none, bits-append, holding-bytes, put-start, length-holding}
+use Rattle.bits.proofs.LaidLaws.{Bytes, bytes-take, low-none, bits-append, holding-bytes, put-nil, put-start, length-holding}
 use Rattle.int32_sample.specs.Sample.{lowBits, above}
 use Rattle.int32.specs.Deconstruct.{literalOf}
 use Rattle.int32.proofs.WideLaws.{literal-length, map-length}
@@ -53,6 +53,15 @@ four-bits n = bits-little 4 (n % 4294967296) ∙ low-mod 32 n
 four-length : (n : ℕ) → length (littleEndian 4 n) ≡ 4
 unfolding littleEndian
 four-length n = refl
+
+-- no bits of any sample leave the buffer as it is
+no-bits : (xs : List ℤ) → literalOf 0 xs ≡ []
+unfolding literalOf low
+no-bits [] = refl
+no-bits (x ∷ xs) = no-bits xs
+
+pub nothing-laid : (buf : List ℕ) (xs : List ℤ) → buf ≡ overlay buf 0 (bytesHolding (literalOf 0 xs))
+nothing-laid buf xs = sym (ap (λ (w : List Bool). overlay buf 0 (bytesHolding w)) (no-bits xs) ∙ sym (put-start buf []) ∙ put-nil buf 0)
 
 -- a number above the bits that are held, as the code adds it
 pub record Joins (held v filled count : ℕ) : Type 0 where

@@ -9,3 +9,4 @@ pub mod LiteralLaws
 pub mod LayLaws
 pub mod Theorems
 pub mod Images
+pub mod Cases

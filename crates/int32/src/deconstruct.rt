@@ -37,10 +37,10 @@ fn is_reinsertable(samples: &[i32], zeros: u32, ones: u32, dups: u32) -> bool
     let mut i: usize = 0;
     while i < samples.len() {
         let sample = samples[i];
+        i = i + 1;
         if low_bits(sample, count) != bits_below(shifted(sample, count), even, odd) {
             all = false;
         }
-        i = i + 1;
     }
     all
 }
@@ -71,6 +71,9 @@ fn lay_literals(samples: &[i32], shift: u32, count: u32, out: &mut [u8])
         ≡ overlay (now (out .entry)) 0
         (bytesHolding (literalOf count (map (above shift) (now (samples .entry))))) ⌝ }
 {
+    if count == 0 {
+        return;
+    }
     let mut held: u64 = 0;
     let mut filled: u32 = 0;
     let mut at: usize = 0;
