@@ -12,7 +12,7 @@ use lib.IntN.{ℤ}
 use lib.ListN.{length}
 use Rattle.answers.specs.declared.Outcome.{Outcome}
 use Rattle.answers.specs.declared.Refusal.{Refusal}
-use Rattle.answers.specs.Guard.{orElse, unlessRefused}
+use Rattle.answers.specs.Guard.{unlessRefused}
 use Rattle.answers.specs.Limits.{maxElements}
 use Rattle.answers.specs.Numbers.{outcomeNumber}
 use Rattle.answers.proofs.GuardLaws.{refused-first, refused-later, neither-refused, guard-refused, guard-accepted}

@@ -22,8 +22,8 @@ use Rattle.int32_sample.specs.Setting.{Setting, width, reinsert, reinsertable, 
 use Rattle.int32_sample.proofs.SettingLaws.{test-is-image}
 use Rattle.int32.specs.declared.Int32Info.{Int32Info}
 use Rattle.int32.specs.Info.{Samples32, Fields, fieldsTaken, infoRefusal, settingOf}
-use Rattle.int32.specs.Reassemble.{Readable, appended, reassembled, reassembleRefusal, reassembleEntry}
-use Rattle.int32.specs.Deconstruct.{allReinsertable, literalOf, deconstructRefusal, tellDeconstruct, deconstructEntry}
+use Rattle.int32.specs.Reassemble.{Readable, appended, reassembled, reassembleRefusal}
+use Rattle.int32.specs.Deconstruct.{allReinsertable, literalOf, deconstructRefusal, deconstructEntry}
 use Rattle.int32.specs.Wide.{InOrder, NoSource, RefusedExactly, AllKeep, PutInTakenOut}
 use Rattle.int32.proofs.InfoLaws.{fields-fit, info-none, info-width}
 use Rattle.int32.proofs.ReassembleLaws.{readable, reassemble-accepted, reassemble-number}

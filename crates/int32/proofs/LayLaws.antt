@@ -5,26 +5,25 @@ use mathlib.Core.Path.{_≡_, refl, sym, ap, ap₂, subst, _∙_}
 use mathlib.Core.Bool.{Bool}
 use mathlib.Core.List.{List, [], _∷_, _++_, map, append-assoc, append-nil}
 use Prim.Native.Nat.{ℕ, zero, suc, _+_, _-_, _*_, _/_, _%_, _^_, _≤_, _<_}
-use native.Mathlib.Nat.{suc-mul, zero-mul, mul-le-mul-left, mod-eq-of-lt, mul-comm, lt-of-lt-of-le, add-mul-mod-self-right}
+use native.Mathlib.Nat.{suc-mul, zero-mul, mul-le-mul-left, mul-comm}
 use native.Mathlib.Numerals.{add-one}
 use native.Mathlib.Omega.{arith}
 use lib.Arith.{digits-lt}
 use lib.IntN.{ℤ, pos}
-use lib.ListN.{length, take, drop, getD, length-append, length-take, length-drop, take-append-drop, drop-of-length-le}
+use lib.ListN.{length, take, drop, getD, length-append, length-drop, drop-of-length-le}
 use lib.Pow.{pow-add, pow-pos, pow-mono, shl-exact, high, shr-lt}
 use lib.Pow as pow
 use borrow.Rule.Slice.PartMut.{putMid}
-use lib.Seq.{take-all, drop-cons, take-at, drop-at, length-take-le, drop-drop, take-add}
+use lib.Seq.{take-all, drop-cons, take-at, drop-at, length-take-le, drop-drop}
 use Rattle.overlay.specs.Overlay.{overlay}
 use Rattle.overlay.proofs.OverlayLaws.{overlay-first}
 use Rattle.little_endian.specs.LittleEndian.{littleEndian}
 use Rattle.bits.specs.Bits.{low, num, bitsOf}
 use Rattle.bits.specs.Laid.{bytesHolding, put}
-use Rattle.bits.proofs.BitLaws.{length-low, length-bits, low-add, low-num, num-low}
-use Rattle.bits.proofs.LaidLaws.{Bytes, bytes-take, low-none, bits-append, holding-bytes, put-nil, put-start, length-holding}
+use Rattle.bits.proofs.BitLaws.{length-low, low-add, low-num, num-low}
+use Rattle.bits.proofs.LaidLaws.{Bytes, bytes-take, low-none, bits-append, holding-bytes, put-nil, put-start}
 use Rattle.int32_sample.specs.Sample.{lowBits, above}
 use Rattle.int32.specs.Deconstruct.{literalOf}
-use Rattle.int32.proofs.WideLaws.{literal-length, map-length}
 
 -- ---- the bits of numbers
 

@@ -1,30 +1,28 @@
 -- The theorems of document 02 §6 over the definitions of the two entries.
 -- Assumes nothing.
-use mathlib.Core.Path.{_≡_, refl, sym, ap, ap₂, _∙_}
-use mathlib.Core.Bool.{Bool, true, false, cond, _&&_}
-use mathlib.Core.List.{List, [], _∷_, _++_, map, append-assoc}
-use Prim.Native.Nat.{ℕ, zero, suc, _+_, _-_, _*_, _/_, _≤_, _<_}
+use mathlib.Core.Path.{_≡_, sym, ap, ap₂, _∙_}
+use mathlib.Core.Bool.{Bool}
+use mathlib.Core.List.{List, [], _++_, map, append-assoc}
+use Prim.Native.Nat.{ℕ, _+_, _-_, _*_, _/_, _≤_}
 use native.Mathlib.Omega.{arith}
-use lib.IntN.{ℤ, pos}
-use lib.ListN.{length, take, getD, length-append}
-use Rattle.answers.specs.Limits.{maxElements}
+use lib.IntN.{ℤ}
+use lib.ListN.{length, take, length-append}
 use Rattle.overlay.specs.Overlay.{overlay}
 use Rattle.overlay.proofs.OverlayLaws.{overlay-take}
 use Rattle.bits.specs.Bits.{low, bitsOf}
 use Rattle.bits.specs.Laid.{bytesHolding}
-use Rattle.bits.proofs.BitLaws.{length-bits}
 use Rattle.bits.proofs.LaidLaws.{bits-append, bits-holding, length-holding}
 use Rattle.int32_sample.specs.Sample.{above}
-use Rattle.int32_sample.specs.Setting.{Setting, width, reinsert, reinsertable, Source}
+use Rattle.int32_sample.specs.Setting.{Setting, width, reinsert}
 use Rattle.int32.specs.declared.Int32Info.{Int32Info}
-use Rattle.int32.specs.Info.{Samples32, fieldsTaken, infoRefusal, settingOf}
-use Rattle.int32.specs.Reassemble.{appended, reassembled, reassembleRefusal, reassembleEntry}
-use Rattle.int32.specs.Deconstruct.{DeconstructTold, freed, literalOf, deconstructRefusal, tellDeconstruct, deconstructEntry}
-use Rattle.int32.specs.Wide.{written, TakenOutPutBack, NoTwoRecordingsAlike, InOrder, NoSource, RefusedExactly, AllKeep, PutInTakenOut}
-use Rattle.int32.proofs.InfoLaws.{fields-fit, fields-true, info-none, info-width}
-use Rattle.int32.proofs.ReassembleLaws.{readable, reassemble-none, reassemble-accepted, reassemble-number}
-use Rattle.int32.proofs.DeconstructLaws.{Divisible, divisible, deconstruct-tested, deconstruct-accepted, deconstruct-number}
-use Rattle.int32.proofs.WideLaws.{literal-length, appended-length, map-length, freed-fit, appended-back, reinserted-back, freed-back, shortened-back, literal-back, all-made}
+use Rattle.int32.specs.Info.{Samples32, settingOf}
+use Rattle.int32.specs.Reassemble.{reassembled, reassembleRefusal, reassembleEntry}
+use Rattle.int32.specs.Deconstruct.{DeconstructTold, freed, literalOf, deconstructRefusal, tellDeconstruct}
+use Rattle.int32.specs.Wide.{written, TakenOutPutBack, NoTwoRecordingsAlike}
+use Rattle.int32.proofs.InfoLaws.{info-none, info-width}
+use Rattle.int32.proofs.ReassembleLaws.{reassemble-none, reassemble-accepted}
+use Rattle.int32.proofs.DeconstructLaws.{Divisible, divisible, deconstruct-accepted, deconstruct-number}
+use Rattle.int32.proofs.WideLaws.{literal-length, map-length, freed-fit, appended-back, reinserted-back}
 
 -- ---- taken out, then put back
 

@@ -14,7 +14,7 @@ use Rattle.bits.specs.Laid.{bytesHolding}
 use Rattle.int32_sample.specs.Setting.{Setting, width, Source, Keeps}
 use Rattle.int32.specs.declared.Int32Info.{Int32Info}
 use Rattle.int32.specs.Info.{Samples32, fieldsTaken, settingOf}
-use Rattle.int32.specs.Reassemble.{appended, ReassembleTold, reassembleEntry}
+use Rattle.int32.specs.Reassemble.{appended, reassembleEntry}
 use Rattle.int32.specs.Deconstruct.{DeconstructTold, deconstructEntry}
 
 -- the literal bytes that the way back wrote

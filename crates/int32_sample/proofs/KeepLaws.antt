@@ -1,17 +1,17 @@
 -- A sample that is shifted left without losing a bit comes back by the right shift, and no other
 -- does.
 -- Assumes nothing.
-use mathlib.Core.Path.{_≡_, refl, sym, ap, subst, _∙_}
-use Prim.Native.Nat.{ℕ, suc, _+_, _-_, _*_, _/_, _^_, _≤_, _<_}
+use mathlib.Core.Path.{_≡_, sym, ap, subst, _∙_}
+use Prim.Native.Nat.{ℕ, suc, _+_, _-_, _*_, _^_, _≤_, _<_}
 use native.Mathlib.Omega.{arith}
 use lib.Arith.{digits-lt, digits-div}
 use lib.IntN.{ℤ, pos, negsuc, _+ℤ_, _*ℤ_, +ℤ-idr}
 use lib.Pow.{pow-add, pow-pos, shr-lt}
 use mir.Syntax.{w32}
 use mir.Val.{SFits}
-use Rattle.wrapping.specs.Wrap.{wrap32, floorDiv}
+use Rattle.wrapping.specs.Wrap.{floorDiv}
 use Rattle.wrapping.proofs.WrapLaws.{wrap-id, wrap-fits}
-use Rattle.int32_sample.specs.Sample.{below, lowBits, above}
+use Rattle.int32_sample.specs.Sample.{below, above}
 use Rattle.int32_sample.specs.Setting.{Keeps, PutInTakenOut}
 use Rattle.int32_sample.proofs.ShiftLaws.{below-fits, sum-neg, floor-sum, apart, low-below}
 

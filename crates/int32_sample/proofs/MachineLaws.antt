@@ -1,18 +1,17 @@
 -- What the machine's shifts and masks of a sample's 32 bits come to.
 -- Assumes nothing.
-use mathlib.Core.Path.{_≡_, sym, ap, ap₂, _∙_}
-use Prim.Native.Nat.{ℕ, suc, _+_, _-_, _*_, _%_, _^_, _≤_, _<_}
+use mathlib.Core.Path.{_≡_, sym, ap, _∙_}
+use Prim.Native.Nat.{ℕ, _+_, _-_, _*_, _%_, _^_, _≤_, _<_}
 use native.Mathlib.Nat.{one-mul, lt-of-lt-of-le}
 use native.Mathlib.Omega.{arith}
 use lib.Bits.{bitAnd, bitOr, and-mask, or-shifted}
 use lib.Dec.{lit<}
-use lib.IntN.{ℤ, pos}
-use lib.Pow.{shl-exact, pow-mono, ones-lt}
+use lib.IntN.{ℤ}
+use lib.Pow.{shl-exact, pow-mono}
 use mir.Syntax.{w32}
 use mir.Val.{toZ, ofZ, SFits}
-use mir.ValLaws.{toZ-pos, ofZ-toZ, toZ-ofZ}
 use Rattle.wrapping.specs.Wrap.{low32, wrap32}
-use Rattle.wrapping.proofs.WrapLaws.{low32-of, low32-wrap, low32-lt}
+use Rattle.wrapping.proofs.WrapLaws.{low32-of, low32-wrap}
 use Rattle.int32_sample.specs.Sample.{below, lowBits}
 use Rattle.int32_sample.specs.Setting.{allOnes}
 use Rattle.int32_sample.proofs.ShiftLaws.{below-pattern, shifted-mod, low-lt}

@@ -16,7 +16,7 @@ use mir.Val.{SFits}
 use Rattle.wrapping.specs.Wrap.{low32}
 use Rattle.int32_sample.specs.Sample.{below, lowBits, above}
 use Rattle.int32_sample.specs.declared.Redundancy.{Redundancy}
-use Rattle.int32_sample.specs.Setting.{Setting, zeros, ones, dups, setting, width, allOnes, evenBits, oddBits, reinsert, reinsertable, Source, TestIsImage}
+use Rattle.int32_sample.specs.Setting.{Setting, zeros, ones, dups, setting, width, allOnes, evenBits, oddBits, reinsert, reinsertable, TestIsImage}
 use Rattle.int32_sample.proofs.ShiftLaws.{above-fits, below-pattern, low-below, put-back, low-lt, above-pattern}
 
 -- ---- by whether the sample is even

@@ -1,17 +1,17 @@
 -- A sample with bits below it, and what is above and below in a sample. The two counts of a sample's
 -- bits, k below and j above, make 32.
 -- Assumes nothing.
-use mathlib.Core.Path.{_≡_, refl, sym, ap, subst, _∙_}
-use Prim.Native.Nat.{ℕ, zero, suc, _+_, _-_, _*_, _/_, _%_, _^_, _≤_, _<_}
+use mathlib.Core.Path.{_≡_, sym, ap, subst, _∙_}
+use Prim.Native.Nat.{ℕ, suc, _+_, _-_, _*_, _/_, _%_, _^_, _<_}
 use native.Mathlib.Nat.{add-mul, suc-mul, mul-mod-left, mod-lt}
 use native.Mathlib.Omega.{arith}
 use lib.Arith.{digits-lt, digits-div, digits-mod}
-use lib.IntN.{ℤ, pos, negsuc, negℤ, _+ℤ_, _*ℤ_, pos-+ℤ-pos}
+use lib.IntN.{ℤ, pos, negsuc, negℤ, _+ℤ_, _*ℤ_}
 use lib.Pow.{pow-add, pow-pos, shl-shr, shr-lt, mod-pow-add, mod-mod-pow, split, high, low}
 use mir.Syntax.{w32}
 use mir.Val.{SFits}
 use Rattle.wrapping.specs.Wrap.{low32, wrap32, floorDiv}
-use Rattle.wrapping.proofs.WrapLaws.{sub-cases, low32-lt, low32-add, low32-mul, low32-wrap, wrap-id, wrap-fits}
+use Rattle.wrapping.proofs.WrapLaws.{sub-cases, low32-add, low32-mul, low32-wrap, wrap-id, wrap-fits}
 use Rattle.wrapping.proofs.RangeLaws.{floor-fits}
 use Rattle.int32_sample.specs.Sample.{below, lowBits, above}
 

@@ -14,7 +14,7 @@ use Rattle.int32.specs.declared.Int32Info.{Int32Info}
 use Rattle.int32.specs.Reassemble.{reassembleEntry}
 use Rattle.int32.specs.Deconstruct.{deconstructEntry}
 use Rattle.slots.proofs.FillLaws.{slots-kept, fill-short, fill-refused, fill-laid}
-use Rattle.int32_slots.specs.Int32Slots.{leaveReassemble, reassembleCall, leaveDeconstruct, deconstructCall}
+use Rattle.int32_slots.specs.Int32Slots.{leaveReassemble, reassembleCall, deconstructCall}
 
 module _ (info : Int32Info) (samples : List ℤ) (literal answer : List ℕ) where
   pub reassemble-short : (r : ℕ) → r ≡ 6 → length answer < 1 → record { refusal = r; list = samples; answer = answer } ≡ reassembleCall info samples literal answer

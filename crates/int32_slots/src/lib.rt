@@ -43,8 +43,8 @@ pub fn reassemble_call(
     let Outcome::Accepted = outcome else {
         return outcome_number(outcome);
     };
-    let values = [told.bits];
-    lay_words(&values, 0, answer);
+    let read = [told.bits];
+    lay_words(&read, 0, answer);
     0
 }
 
@@ -85,7 +85,7 @@ pub fn deconstruct_call(
     let Outcome::Accepted = outcome else {
         return outcome_number(outcome);
     };
-    let values = [told.bits];
-    lay_words(&values, 0, answer);
+    let written = [told.bits];
+    lay_words(&written, 0, answer);
     0
 }

@@ -3,7 +3,6 @@
 use mathlib.Core.Path.{_≡_, ap, _∙_}
 use native.Mathlib.Omega.{arith}
 use lib.Pow.{ones-lt}
-use lib.IntN.{natAbs}
 use lib.Bits.{bitAnd}
 use mir.Syntax.{w32}
 use mir.Val.{toZ, ofZ}

@@ -1,6 +1,5 @@
 -- `int32_sample::redundancy_of` meets its contract: the first field that is not 0 decides.
 -- Assumes nothing.
-use mathlib.Core.Path.{_≡_, refl, sym, ap, _∙_}
 use borrow.Author.Needs.{needs}
 use Rattle.int32_sample.proofs.SettingLaws.{zeros-first, ones-next, dups-last}
 use Rattle.int32_sample.proofs.redundancy_of.Statement.{statement}

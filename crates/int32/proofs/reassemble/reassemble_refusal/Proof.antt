@@ -2,7 +2,6 @@
 -- bytes are counted, so that no number of literal bytes is too large.
 -- Assumes nothing.
 use mathlib.Core.Path.{_≡_, sym, ap, _∙_}
-use Prim.Native.Nat.{_*_, _≤_}
 use native.Mathlib.Omega.{arith}
 use borrow.Author.Needs.{needs}
 use Rattle.answers.specs.Numbers.{outcomeNumber}
