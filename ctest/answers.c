@@ -1,6 +1,7 @@
 /* Calls the library from C, through its header, and checks answers that follow from the rules of
    docs/PROVED.md. Prints each answer that is not the expected one; the exit status is 0 when there
-   is none. Pass lists joined are in joined.c, sound files in waves.c, morning pages in pages.c. */
+   is none. Pass lists joined are in joined.c, sound files in waves.c, morning pages in pages.c, wide
+   recordings in wide.c. */
 #include <stdio.h>
 #include <string.h>
 #include "answers.h"
@@ -189,6 +190,7 @@ int main(void)
     silent_right();
     sound_files();
     morning_pages();
+    wide_recordings();
     if (failures == 0)
         puts("ctest: every answer is the expected one");
     return failures != 0;

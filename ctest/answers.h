@@ -19,4 +19,7 @@ void sound_files(void);
 /* Checks the call of the morning page. */
 void morning_pages(void);
 
+/* Checks the two calls for recordings wider than the words. */
+void wide_recordings(void);
+
 #endif

@@ -34,8 +34,8 @@ static uint64_t next(void)
 }
 
 static uint8_t entropy[12], payload[64 * FRAMES], out[28 * FRAMES], file[44 + 4 * FRAMES];
-static int32_t numbers[2 * FRAMES], sounds[2 * FRAMES], blocks[TWO_LINES], passes[20 * MOST_PASSES], seed[8];
-static uint32_t answer[13], report[2];
+static int32_t numbers[2 * FRAMES], sounds[2 * FRAMES], wide[2 * FRAMES], blocks[TWO_LINES], passes[20 * MOST_PASSES], seed[8];
+static uint32_t answer[13], report[2], field[4];
 
 /* Entropy payloads that reading takes, payloads with many ones, numbers of any size. */
 static void fill(void)
@@ -81,6 +81,18 @@ static void fill_blocks(void)
         blocks[i] = i % 7 ? passes[i % (20 * MOST_PASSES)] : INT32_MIN;
 }
 
+/* Fields, of which now and then one is above 31, and samples that they complete, now and then with a
+   fault. */
+static void fill_wide(void)
+{
+    for (size_t i = 0; i < 4; i++)
+        field[i] = (uint32_t)(next() % 33 * (next() % 3 != 0));
+    for (size_t i = 0; i < 2 * FRAMES; i++)
+        wide[i] = (int32_t)next();
+    wv_reassemble_int32(field[0], field[1], field[2], field[3], wide, 2 * FRAMES, payload, sizeof payload, report, 1);
+    wide[next() % (2 * FRAMES)] ^= next() % 8 == 0;
+}
+
 static void log_word(void) { CALL(wv_log_word((int16_t)next(), numbers, 1)); }
 static void term_byte(void) { CALL(wv_term_byte((uint8_t)next(), numbers, 2)); }
 static void weight_byte(void) { CALL(wv_weight_byte((uint8_t)next(), numbers, 1)); }
@@ -94,6 +106,16 @@ static void packing(void) { CALL(wv_pack(numbers, 2 * FRAMES, entropy, 12, FRAME
 static void exporting(void) { CALL(wv_wave_export(44100, sounds, 2 * FRAMES, out, sizeof out, answer, 1)); }
 static void importing(void) { CALL(wv_wave_import(file, sizeof file, numbers, 2 * FRAMES, answer, 2)); }
 static void paging(void) { CALL(wv_morning_page(blocks, next() % (TWO_LINES + 1), answer[2], out, sizeof out, answer, 1)); }
+static void completing(void)
+{
+    const size_t bytes = next() % sizeof payload;
+    CALL(wv_reassemble_int32(field[0], field[1], field[2], field[3], numbers, 2 * FRAMES, payload, bytes, answer, 1));
+}
+static void narrowing(void)
+{
+    const size_t bytes = next() % sizeof out;
+    CALL(wv_deconstruct_int32(field[0], field[1], field[2], field[3], wide, 2 * FRAMES, out, bytes, answer, 1));
+}
 
 /* How many bytes one call needs. */
 static size_t needed(void (*call)(void))
@@ -115,19 +137,20 @@ static size_t needed(void (*call)(void))
 
 int main(void)
 {
-    static const struct { const char *name; void (*call)(void); } entries[13] = {
+    static const struct { const char *name; void (*call)(void); } entries[15] = {
         {"wv_log_word", log_word}, {"wv_term_byte", term_byte}, {"wv_weight_byte", weight_byte}, {"wv_entropy", medians},
         {"wv_word", word}, {"wv_read", reading}, {"wv_pass", making}, {"wv_decorrelate", decorrelation},
         {"wv_analyse", analysis}, {"wv_pack", packing}, {"wv_wave_export", exporting}, {"wv_wave_import", importing},
-        {"wv_morning_page", paging}};
+        {"wv_morning_page", paging}, {"wv_reassemble_int32", completing}, {"wv_deconstruct_int32", narrowing}};
     puts("| function | bytes of stack |\n|---|---:|");
-    for (size_t i = 0; i < 13; i++) {
+    for (size_t i = 0; i < 15; i++) {
         size_t most = 0;
         for (int round = 0; round < ROUNDS; round++) {
             fill();
             fill_terms();
             fill_sounds();
             fill_blocks();
+            fill_wide();
             size_t bytes = needed(entries[i].call);
             most = bytes > most ? bytes : most;
         }

@@ -54,7 +54,7 @@ awk -v table="$table" '
         if (/^[/][*] What a function answers/) section = 1
         if (/^$/) section = 0
         if (section && /^[/][*] .* [*][/]$/) said = substr($0, 4, length($0) - 6)
-        if (section && /^#define WV_[A-Z_]+ [0-9]+u/ && $3 + 0) told($3 + 0, substr($2, 4), said)
+        if (section && /^#define WV_[A-Z0-9_]+ [0-9]+u/ && $3 + 0) told($3 + 0, substr($2, 4), said)
     }
 
     # README.md: the rows of a section.
@@ -70,8 +70,8 @@ awk -v table="$table" '
     # The bindings: a number stands behind its name or before it, each wording is a string, and the name
     # last before it is that of its number.
     FILENAME ~ /[.]rs$/ && !/^ *[/][/]/ {
-        if (/^ *[A-Z][A-Za-z]* = [0-9]+,/) numbered($1, $3 + 0)
-        if (/^ *[0-9]+ [A-Z][A-Za-z]* "/) numbered($2, $1)
+        if (/^ *[A-Z][A-Za-z0-9]* = [0-9]+,/) numbered($1, $3 + 0)
+        if (/^ *[0-9]+ [A-Z][A-Za-z0-9]* "/) numbered($2, $1)
         while (match($0, /"[^"]*"|[A-Za-z0-9_]+/)) {
             token = substr($0, RSTART, RLENGTH)
             $0 = substr($0, RSTART + RLENGTH)

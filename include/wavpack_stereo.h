@@ -1,8 +1,8 @@
 /* The C interface of the stereo WavPack decoder. Link with libcapi.a.
  *
  * Every function answers WV_ACCEPTED or the number of a refusal. The rules behind the refusals are
- * the rows X1 to X9, Q1.3, Q1.4, Q2.2 and Q5.6 of docs/PROVED.md; each function below has its own in
- * the order in which it tests.
+ * the rows X1 to X9, Q1.3, Q1.4, Q2.2, Q5.6 and Q6.6 of docs/PROVED.md; each function below has its
+ * own in the order in which it tests.
  *
  * A list is a pointer to its first element and its number of elements; a list of 0 elements still
  * wants a pointer that is not null and is aligned for its type. A function reads and writes nothing
@@ -48,7 +48,7 @@ extern "C" {
 #define WV_TOO_MANY_PASSES 9u
 /* a residual outside -1,879,048,192 to 1,879,048,191 */
 #define WV_RESIDUAL_OUT_OF_SPAN 10u
-/* lent storage too short: under 28 bytes a frame to pack, 44 and 2 a sample for a sound file, an element a sample of one, or 45 bytes a line of a page */
+/* lent storage too short: under 28 bytes a frame to pack, 44 and 2 a sample for a sound file, an element a sample of one, 45 bytes a line of a page, or 4 bytes a sample for literal bits */
 #define WV_OUTPUT_TOO_SHORT 11u
 /* a channel due that is neither 0 nor 1 */
 #define WV_INVALID_CHANNEL 12u
@@ -56,6 +56,10 @@ extern "C" {
 #define WV_SAMPLE_OUT_OF_SPAN 13u
 /* no sound file of the one form that is taken, or a rate outside 1 to 192,000 */
 #define WV_NOT_WAVE 14u
+/* a field above 31 */
+#define WV_FIELD_ABOVE_31 15u
+/* a sample that is the image of no sample */
+#define WV_NOT_REINSERTABLE 16u
 
 /* Slots of the lists. */
 #define WV_LOG_WORD_SLOTS 1u
@@ -71,6 +75,8 @@ extern "C" {
 #define WV_WAVE_EXPORT_SLOTS 1u
 #define WV_WAVE_IMPORT_SLOTS 2u
 #define WV_MORNING_PAGE_SLOTS 1u
+#define WV_REASSEMBLE_INT32_SLOTS 1u
+#define WV_DECONSTRUCT_INT32_SLOTS 1u
 
 /* A line of a morning page: how many bytes it has, and of how many frames it tells, the last line of
  * what is left. */
@@ -201,6 +207,32 @@ uint32_t wv_wave_import(const uint8_t *file, size_t file_len, int32_t *samples, 
  * they were. */
 uint32_t wv_morning_page(const int32_t *samples, size_t samples_len, uint32_t threshold, uint8_t *page, size_t page_len,
                          uint32_t *answer, size_t answer_len);
+
+/* Completes samples that are wider than the words, each in turn: it is shifted left by sent_bits, with
+ * the next sent_bits bits of literal below it; then the first of zeros, ones and dups that is not 0
+ * puts as many bits below that: 0s, 1s, or copies of the lowest bit. What is shifted out of 32 bits is
+ * lost. Each field is 0 to 31, in any combination.
+ * literal: of each sample its bits, the lowest first, in the bits of the bytes, the lowest first; what
+ *   stands behind the bits that are needed is not looked at.
+ * answer: bits read, sent_bits for each sample.
+ * Refuses WV_LIST_LENGTH for answer; then WV_FIELD_ABOVE_31, WV_TOO_LARGE for over 262,144 samples and
+ * WV_TRUNCATED for too few literal bits; with all lists as they were. */
+uint32_t wv_reassemble_int32(uint32_t sent_bits, uint32_t zeros, uint32_t ones, uint32_t dups, int32_t *samples,
+                             size_t samples_len, const uint8_t *literal, size_t literal_len, uint32_t *answer,
+                             size_t answer_len);
+
+/* The way back, which makes samples narrow: each is shifted right by the first of zeros, ones and dups
+ * that is not 0; then its lowest sent_bits bits go into literal, and it is shifted right by sent_bits.
+ * Both shifts keep the sign. `wv_reassemble_int32` by the same fields gives the samples back.
+ * literal: at least 4 bytes a sample; the bits from the first byte on, as `wv_reassemble_int32` reads
+ *   them; the spare bits of the last byte are 0, and bytes behind keep their values.
+ * answer: bits written, sent_bits for each sample.
+ * Refuses WV_LIST_LENGTH for answer; then WV_FIELD_ABOVE_31, WV_TOO_LARGE for over 262,144 samples,
+ * WV_OUTPUT_TOO_SHORT for literal, and WV_NOT_REINSERTABLE for a sample that does not end in the 0s, 1s
+ * or copies that are to be taken out; with all lists as they were. */
+uint32_t wv_deconstruct_int32(uint32_t sent_bits, uint32_t zeros, uint32_t ones, uint32_t dups, int32_t *samples,
+                              size_t samples_len, uint8_t *literal, size_t literal_len, uint32_t *answer,
+                              size_t answer_len);
 
 #ifdef __cplusplus
 }

@@ -12,7 +12,7 @@
 //! on what slices are: not null, aligned, all of one length that is told beside the pointer, and,
 //! where they are written, lent to this call alone. These two together are "list" in the comments
 //! below.
-use crate::{Delta, Pass, Weight};
+use crate::{Delta, Int32Info, Pass, Weight};
 
 #[rustfmt::skip]
 unsafe extern "C" {
@@ -49,6 +49,14 @@ unsafe extern "C" {
     fn wv_morning_page(
         samples: *const i32, samples_len: usize, threshold: u32, page: *mut u8, page_len: usize,
         answer: *mut u32, answer_len: usize,
+    ) -> u32;
+    fn wv_reassemble_int32(
+        sent_bits: u32, zeros: u32, ones: u32, dups: u32, samples: *mut i32, samples_len: usize,
+        literal: *const u8, literal_len: usize, answer: *mut u32, answer_len: usize,
+    ) -> u32;
+    fn wv_deconstruct_int32(
+        sent_bits: u32, zeros: u32, ones: u32, dups: u32, samples: *mut i32, samples_len: usize,
+        literal: *mut u8, literal_len: usize, answer: *mut u32, answer_len: usize,
     ) -> u32;
 }
 
@@ -174,6 +182,33 @@ pub fn morning_page(samples: &[i32], threshold: u32, page: &mut [u8], answer: &m
         wv_morning_page(
             samples.as_ptr(), samples.len(), threshold, page.as_mut_ptr(), page.len(),
             answer.as_mut_ptr(), answer.len(),
+        )
+    }
+}
+
+/// `wv_reassemble_int32`: an answer of 1 slot.
+#[rustfmt::skip]
+pub fn reassemble_int32(info: Int32Info, samples: &mut [i32], literal: &[u8], answer: &mut [u32]) -> u32 {
+    let Int32Info { sent_bits, zeros, ones, dups } = info;
+    // SAFETY: all three are lists, whatever the fields are; only `samples` and `answer`, each lent to
+    // this call alone, are written.
+    unsafe {
+        wv_reassemble_int32(
+            sent_bits, zeros, ones, dups, samples.as_mut_ptr(), samples.len(),
+            literal.as_ptr(), literal.len(), answer.as_mut_ptr(), answer.len(),
+        )
+    }
+}
+
+/// `wv_deconstruct_int32`: an answer of 1 slot.
+#[rustfmt::skip]
+pub fn deconstruct_int32(info: Int32Info, samples: &mut [i32], literal: &mut [u8], answer: &mut [u32]) -> u32 {
+    let Int32Info { sent_bits, zeros, ones, dups } = info;
+    // SAFETY: all three are lists, each lent to this call alone, whatever the fields are.
+    unsafe {
+        wv_deconstruct_int32(
+            sent_bits, zeros, ones, dups, samples.as_mut_ptr(), samples.len(),
+            literal.as_mut_ptr(), literal.len(), answer.as_mut_ptr(), answer.len(),
         )
     }
 }

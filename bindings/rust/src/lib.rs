@@ -11,7 +11,9 @@
 //! `wv_file` decodes real `.wv` files, by the steps of docs/WV_FILES.md. [`wave_export`] writes
 //! samples as a sound file, which audio editors open, and [`wave_import`] reads such a file back;
 //! the example `sound_file` does both. [`morning_page`] writes peaks and clicks of samples as a page
-//! of text; the example `clicks` prints it.
+//! of text; the example `clicks` prints it. [`reassemble_int32`] completes samples that are wider
+//! than the words, behind [`decorrelate`], and [`deconstruct_int32`] makes such samples narrow, before
+//! [`analyse`].
 //!
 //! ```
 //! use wavpack_stereo::{BYTES_PER_FRAME, Delta, Pass, Refusal, Weight};
@@ -33,9 +35,9 @@
 //! ```
 //!
 //! Every function tests its input itself and ends on every input. What it does not take it refuses
-//! with a [`Refusal`], and then `state`, `passes`, `buffer`, `samples`, `out` and `page` are as they
-//! were, with one exception: a reading that a word ends has written the samples of the words before
-//! it and says how many ([`ReadError`]).
+//! with a [`Refusal`], and then `state`, `passes`, `buffer`, `samples`, `out`, `page` and `literal` are
+//! as they were, with one exception: a reading that a word ends has written the samples of the words
+//! before it and says how many ([`ReadError`]).
 //!
 //! With the feature `ffi` the C interface is public as it is, for tests that lend it lists of other
 //! lengths than the functions here do.
@@ -49,6 +51,7 @@ pub mod ffi;
 #[allow(unsafe_code)]
 #[cfg(not(feature = "ffi"))]
 mod ffi;
+mod int32;
 mod packing;
 mod page;
 mod passes;
@@ -59,6 +62,7 @@ mod values;
 mod wave;
 mod words;
 
+pub use int32::{Int32Info, LITERAL_BYTES_PER_SAMPLE, deconstruct_int32, reassemble_int32};
 pub use packing::{BYTES_PER_FRAME, Packed, pack};
 pub use page::{LINE_BYTES, LINE_FRAMES, morning_page, page_bytes};
 pub use passes::{Delta, MAX_ELEMENTS, MAX_PASSES, Pass, Weight, analyse, decorrelate};

@@ -68,10 +68,12 @@ refusals! {
     8 SeedTooShort "a seed with too few samples for its term",
     9 TooManyPasses "over 16 passes",
     10 ResidualOutOfSpan "a residual outside -1,879,048,192 to 1,879,048,191",
-    11 OutputTooShort "lent storage too short: under 28 bytes a frame to pack, 44 and 2 a sample for a sound file, an element a sample of one, or 45 bytes a line of a page",
+    11 OutputTooShort "lent storage too short: under 28 bytes a frame to pack, 44 and 2 a sample for a sound file, an element a sample of one, 45 bytes a line of a page, or 4 bytes a sample for literal bits",
     12 InvalidChannel "a channel due that is neither 0 nor 1",
     13 SampleOutOfSpan "a sample outside -32,768 to 32,767",
     14 NotWave "no sound file of the one form that is taken, or a rate outside 1 to 192,000",
+    15 FieldAbove31 "a field above 31",
+    16 NotReinsertable "a sample that is the image of no sample",
 }
 
 impl Refusal {
@@ -96,7 +98,7 @@ mod tests {
         for number in (1..100).chain([u32::MAX]) {
             let refusal = Refusal::outcome(number).unwrap_err();
             assert_eq!(refusal.number(), number);
-            assert_eq!(matches!(refusal, Refusal::Unknown { .. }), number > 14);
+            assert_eq!(matches!(refusal, Refusal::Unknown { .. }), number > 16);
         }
     }
 }

@@ -1,7 +1,8 @@
 //! Each refusal, reached through the safe functions, and that the lent lists are then as they were.
 use wavpack_stereo::{
-    Delta, MAX_ELEMENTS, MAX_FRAMES, MAX_PASSES, MAX_PAYLOAD_BYTES, MAX_RATE, MAX_WAVE_BYTES, Pass, Reading, Refusal,
-    WAVE_HEADER_BYTES, Weight, WordState, analyse, decorrelate, entropy, pack, read, wave_export, wave_import, word,
+    Delta, Int32Info, MAX_ELEMENTS, MAX_FRAMES, MAX_PASSES, MAX_PAYLOAD_BYTES, MAX_RATE, MAX_WAVE_BYTES, Pass, Reading,
+    Refusal, WAVE_HEADER_BYTES, Weight, WordState, analyse, deconstruct_int32, decorrelate, entropy, pack, read,
+    reassemble_int32, wave_export, wave_import, word,
 };
 
 const ONES: [u8; 12] = [0, 1, 0, 1, 0, 1, 0, 1, 0, 1, 0, 1];
@@ -176,4 +177,22 @@ fn imports() {
     assert_eq!(refused(&vec![0; MAX_WAVE_BYTES + 1], 1), Refusal::TooLarge);
     assert_eq!(refused(&file[1..], 1), Refusal::NotWave);
     assert_eq!(refused(&file, 1), Refusal::OutputTooShort);
+}
+
+#[test]
+fn wide_recordings() {
+    let refused = |info: Int32Info| {
+        let (mut samples, mut literal) = ([4, 6], [77; 7]);
+        let there = reassemble_int32(info, &mut samples, &literal);
+        let back = deconstruct_int32(info, &mut samples, &mut literal);
+        assert_eq!((samples, literal), ([4, 6], [77; 7]));
+        [there, back].map(Result::unwrap_err)
+    };
+    let info = Int32Info { sent_bits: 31, zeros: 2, ..Int32Info::default() };
+    assert_eq!(refused(Int32Info { dups: 32, ..info }), [Refusal::FieldAbove31; 2]);
+    assert_eq!(refused(info), [Refusal::Truncated, Refusal::OutputTooShort]);
+    // 6 does not end in two 0s.
+    let (mut samples, mut literal) = ([4, 6], [77; 8]);
+    assert_eq!(deconstruct_int32(info, &mut samples, &mut literal), Err(Refusal::NotReinsertable));
+    assert_eq!((samples, literal), ([4, 6], [77; 8]));
 }

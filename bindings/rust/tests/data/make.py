@@ -56,6 +56,59 @@ def flipped(data):
     return data[:end - 100] + bytes([data[end - 100] ^ 1]) + data[end - 99:]
 
 
+def part(data, at):
+    """Where the data of the sub-block at a place begin and end."""
+    begin = at + (4 if data[at] & 0x80 else 2)
+    return begin, begin + 2 * int.from_bytes(data[at + 1:begin], "little")
+
+
+def flip(data, block, wanted, byte, bit):
+    """Flips one bit of a sub-block, of the block with a number from 0."""
+    at = 0
+    for _ in range(block):
+        at += 8 + struct.unpack_from("<I", data, at + 4)[0]
+    at += 32
+    while data[at] & 0x3f != wanted:
+        _, at = part(data, at)
+    begin, _ = part(data, at)
+    data[begin + byte] ^= 1 << bit
+
+
+def each(frames, change):
+    return [tuple(change(x) for x in frame) for frame in frames]
+
+
+def large():
+    """Large integers whose low bits are stored as they are, all 0, all 1 or like the bit above them."""
+    wide, one, frames = (32, 2), "--blocksize=128", sound(128, 240001)
+    pack("large_literal.wv", pcm(frames, 4), wide, one, "-j0")
+    pack("large_joint.wv", pcm(frames, 4), wide, one, "-j1")
+    pack("large_zeros.wv", pcm(each(frames, lambda x: x & -256), 4), wide, one)
+    pack("large_ones.wv", pcm(each(frames, lambda x: x | 255), 4), wide, one)
+    pack("large_dups.wv", pcm(each(frames, lambda x: x | 255 if x & 256 else x & -256), 4), wide, one)
+    pack("large_both.wv", pcm(each(frames[:99], lambda x: x | 7 if x & 8 else x & -8), 4), wide, one)
+    pack("large_shifted.wv", pcm(each(frames[:40], lambda x: x & -16), 4), (28, 2), one)
+
+
+def large_blocks():
+    """Blocks that differ in their low bits, and a copy with one bit of the first four flipped."""
+    frames, low, high = sound(128), -2**31, 2**31 - 1
+    bits = each(frames, lambda x: x % 2)
+    kinds = [
+        [(2**27 + left % 32, right % 32 - 2**27) for left, right in frames],
+        [(2**30 + left * 128, right * 128 - 2**30) for left, right in bits],
+        each(bits, lambda bit: low if bit else 0),
+        each(bits, lambda bit: high if bit else -1),
+        each(bits, lambda bit: high if bit else low),
+        bits,
+        each(frames[:5], lambda x: 2**25 + x % 7),
+    ]
+    data = bytearray(pack("large_blocks.wv", pcm(sum(kinds, []), 4), (32, 2), "--blocksize=128"))
+    for block, wanted, byte, bit in (0, 0x0c, 100, 3), (1, 0x09, 0, 1), (2, 0x09, 1, 5), (3, 0x09, 2, 0):
+        flip(data, block, wanted, byte, bit)
+    write(os.path.join(sys.argv[1], "large_flipped.wv"), data)
+
+
 def main():
     long, short = sound(640), sound(128)
     stereo, three, one = (16, 2), "--blocksize=256", "--blocksize=128"
@@ -75,6 +128,8 @@ def main():
     pack("four_channels.wv", pcm([frame + frame[::-1] for frame in short]), (16, 4), one)
     write(os.path.join(sys.argv[1], "flipped.wv"), flipped(plain))
     write(os.path.join(sys.argv[1], "cut.wv"), plain[:1000])
+    large()
+    large_blocks()
 
 
 main()
