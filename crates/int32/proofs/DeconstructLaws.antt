@@ -4,7 +4,6 @@ use mathlib.Core.Path.{_≡_, refl, sym, ap, ap₂, _∙_}
 use mathlib.Core.Bool.{Bool, true, false, cond}
 use mathlib.Core.List.{List, map}
 use Prim.Native.Nat.{ℕ, zero, suc, _*_, _≤_, _<_}
-use native.Mathlib.Nat.{le-trans, mul-le-mul-left, mul-le-mul-right}
 use native.Mathlib.Omega.{arith}
 use borrow.Author.Tests.{lt-ltb, le-ltb, ltb-false}
 use lib.Dec.{ltb}
@@ -68,10 +67,6 @@ module _ (info : Int32Info) (samples : List ℤ) (room : ℕ) where
           → _≡_ {A = ℕ} (cond t 11 (cond (allReinsertable (settingOf info) samples) 0 16)) 0 → Divisible info samples room
       short f true q e = absurd (omega arith)
       short f false q e = image f (ltb-false _ _ q) (allReinsertable (settingOf info) samples) refl e
-
--- the literal bits of samples that are taken are few
-pub literal-bits-le : (info : Int32Info) (samples : List ℤ) (room : ℕ) → Divisible info samples room → length samples * info .«sent_bits» ≤ 262144 * 31
-literal-bits-le info samples room d = le-trans (mul-le-mul-right (info .«sent_bits») (d .few)) (mul-le-mul-left 262144 (d .fields .sent))
 
 module _ (info : Int32Info) (samples : List ℤ) (literal : List ℕ) where
   pub deconstruct-refused : (o : Outcome) (x : Refusal) → o ≡ Outcome.Refused x → outcomeNumber o ≡ deconstructRefusal info samples (length literal)

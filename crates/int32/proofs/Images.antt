@@ -9,7 +9,7 @@ use native.Mathlib.Omega.{arith}
 use borrow.Author.Tests.{ltb-false}
 use lib.Dec.{ltb}
 use lib.IntN.{ℤ, pos}
-use lib.ListN.{length, take, getD}
+use lib.ListN.{length, length-map, take, getD}
 use Rattle.answers.specs.Guard.{orElse}
 use Rattle.answers.specs.Limits.{maxElements}
 use Rattle.answers.proofs.TestLaws.{clash, both}
@@ -28,7 +28,7 @@ use Rattle.int32.specs.Wide.{InOrder, NoSource, RefusedExactly, AllKeep,
 use Rattle.int32.proofs.InfoLaws.{fields-fit, info-none, info-width}
 use Rattle.int32.proofs.ReassembleLaws.{readable, reassemble-accepted, reassemble-number}
 use Rattle.int32.proofs.DeconstructLaws.{deconstruct-tested, deconstruct-accepted, deconstruct-number}
-use Rattle.int32.proofs.WideLaws.{appended-length, map-length, freed-back, shortened-back, literal-back, all-made}
+use Rattle.int32.proofs.WideLaws.{appended-length, freed-back, shortened-back, literal-back, all-made}
 
 -- ---- the test of every sample
 
@@ -117,7 +117,7 @@ module _ (info : Int32Info) (samples : List ℤ) (literal storage : List ℕ) (k
   ys = reassembled info bits samples
 
   made-length : length ys ≡ length samples
-  made-length = map-length (reinsert s) zs ∙ appended-length sent bits samples
+  made-length = length-map zs (reinsert s) ∙ appended-length sent bits samples
 
   -- the redundant bits are out
   freed-again : map (above (width s)) ys ≡ zs

@@ -95,11 +95,6 @@ unfolding mapFrom
 map-from g i [] = refl
 map-from g i (x ∷ xs) = ap (λ (l : List ℤ). g x ∷ l) (map-from g (suc i) xs)
 
--- a map after a map
-pub map-map : (g f : ℤ → ℤ) (xs : List ℤ) → map g (map f xs) ≡ map (λ x. g (f x)) xs
-map-map g f [] = refl
-map-map g f (x ∷ xs) = ap (λ (l : List ℤ). g (f x) ∷ l) (map-map g f xs)
-
 -- literal bits: those of the place i
 abbrev pub appendAt : ℕ → List Bool → ℕ → ℤ → ℤ
 appendAt sent bits i x = below sent (num (take sent (drop (i * sent) bits))) x

@@ -2,7 +2,8 @@
 -- Assumes nothing.
 use mathlib.Core.Path.{_≡_, refl}
 use mathlib.Core.Bool.{Bool, true, false, cond, _&&_}
-use Prim.Native.Nat.{ℕ, zero, suc, _≤_, _<_}
+use Prim.Native.Nat.{ℕ, zero, suc, _*_, _≤_, _<_}
+use native.Mathlib.Nat.{le-trans, mul-le-mul-left, mul-le-mul-right}
 use native.Mathlib.Omega.{arith}
 use borrow.Author.Tests.{lt-ltb, le-ltb, le-leb, lt-leb, ltb-false, leb-true}
 use lib.Dec.{ltb, leb}
@@ -64,6 +65,10 @@ module _ (info : Int32Info) (n : ℕ) where
       taken : (t : Bool) → fieldsTaken info ≡ t → _≡_ {A = ℕ} (cond t (cond (ltb maxElements n) 5 0) 15) 0 → Fields info × (n ≤ maxElements)
       taken true q e = few (fields-fit info q) (ltb maxElements n) refl e
       taken false q e = absurd (omega arith)
+
+-- the literal bits of samples that are taken are few
+pub few-bits : (info : Int32Info) (n : ℕ) → Fields info → n ≤ maxElements → n * info .«sent_bits» ≤ 262144 * 31
+few-bits info n f h = le-trans (mul-le-mul-right (info .«sent_bits») h) (mul-le-mul-left 262144 (f .sent))
 
 -- the setting of fields that are taken puts in at most 31 bits
 pub width-le : (z o d : ℕ) → z ≤ 31 → o ≤ 31 → d ≤ 31 → width (setting z o d) ≤ 31

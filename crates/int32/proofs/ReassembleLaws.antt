@@ -4,12 +4,11 @@ use mathlib.Core.Path.{_≡_, refl, sym, ap, _∙_}
 use mathlib.Core.Bool.{Bool, true, false, cond}
 use mathlib.Core.List.{List}
 use Prim.Native.Nat.{ℕ, zero, suc, _*_, _≤_, _<_}
-use native.Mathlib.Nat.{le-trans, mul-le-mul-left, mul-le-mul-right}
 use native.Mathlib.Omega.{arith}
 use borrow.Author.Tests.{lt-ltb, le-ltb, ltb-false}
 use lib.Dec.{ltb}
 use lib.IntN.{ℤ}
-use lib.ListN.{length}
+use lib.ListN.{length, length-map}
 use Rattle.answers.specs.declared.Outcome.{Outcome}
 use Rattle.answers.specs.declared.Refusal.{Refusal}
 use Rattle.answers.specs.Guard.{unlessRefused}
@@ -23,7 +22,7 @@ use Rattle.int32.specs.declared.Int32Info.{Int32Info}
 use Rattle.int32.specs.Info.{Fields, infoRefusal, settingOf}
 use Rattle.int32.specs.Reassemble.{Readable, appended, reassembled, reassembleRefusal, refuseReassemble, reassembleEntry}
 use Rattle.int32.proofs.InfoLaws.{info-fit}
-use Rattle.int32.proofs.WideLaws.{map-length, appended-length}
+use Rattle.int32.proofs.WideLaws.{appended-length}
 
 module _ (info : Int32Info) (n room : ℕ) where
   -- 15 and 5 come first
@@ -52,14 +51,7 @@ module _ (info : Int32Info) (n room : ℕ) where
 
 -- samples that are completed are as many
 pub reassemble-length : (info : Int32Info) (bits : List Bool) (xs : List ℤ) → length (reassembled info bits xs) ≡ length xs
-reassemble-length info bits xs = map-length (reinsert (settingOf info)) (appended (info .«sent_bits») bits xs) ∙ appended-length (info .«sent_bits») bits xs
-
--- the literal bits of samples that are taken are few
-pub few-bits : (info : Int32Info) (n room : ℕ) → Readable info n room → n * info .«sent_bits» ≤ 262144 * 31
-few-bits info n room r = le-trans (mul-le-mul-right (info .«sent_bits») (r .few)) (mul-le-mul-left 262144 (r .fields .sent))
-
-pub bits-le : (info : Int32Info) (n : ℕ) → infoRefusal info n ≡ 0 → n * info .«sent_bits» ≤ 262144 * 31
-bits-le info n e = let f = info-fit info n e in le-trans (mul-le-mul-right (info .«sent_bits») (f .1)) (mul-le-mul-left 262144 (f .0 .sent))
+reassemble-length info bits xs = length-map (appended (info .«sent_bits») bits xs) (reinsert (settingOf info)) ∙ appended-length (info .«sent_bits») bits xs
 
 module _ (info : Int32Info) (samples : List ℤ) (literal : List ℕ) where
   pub reassemble-refused : (o : Outcome) (x : Refusal) → o ≡ Outcome.Refused x → outcomeNumber o ≡ reassembleRefusal info (length samples) (length literal)

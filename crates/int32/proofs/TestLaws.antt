@@ -16,6 +16,7 @@ use mir.Val.{SFits}
 use Rattle.int32_sample.specs.declared.Redundancy.{Redundancy}
 use Rattle.int32_sample.specs.Sample.{lowBits, above}
 use Rattle.int32_sample.specs.Setting.{Setting, width, reinsertable}
+use Rattle.int32_sample.proofs.ShiftLaws.{above-count}
 use Rattle.int32_sample.proofs.SettingLaws.{held, fill, tested}
 use Rattle.int32.specs.Deconstruct.{allReinsertable}
 
@@ -58,9 +59,6 @@ module _ (s : Setting) (samples : List ℤ) where
 -- the low bits beside those that belong below the rest, as the code compares them
 module _ (s : Setting) (r : Redundancy) (y : ℤ) (low n : ℕ) (w : width s ≤ 31) (f : SFits w32 y) (e : r ≡ held s) (l : low ≡ lowBits (r .count) y)
     (q : n ≡ cond (eqb (lowBits 1 (above (r .count) y)) 0) (r .even) (r .odd)) where
-  count : 31 - width s + 1 + width s ≡ 32
-  count = omega arith
-
   low-is : low ≡ lowBits (width s) y
   low-is = l ∙ ap (λ (x : Redundancy). lowBits (x .count) y) e
 
@@ -68,7 +66,7 @@ module _ (s : Setting) (r : Redundancy) (y : ℤ) (low n : ℕ) (w : width s ≤
   fill-is = q ∙ rw e
 
   pub passes : low ≡ n → reinsertable s y ≡ true
-  passes h = tested s (31 - width s) y count f ∙ eq-eqb _ _ (sym low-is ∙ h ∙ fill-is)
+  passes h = tested s (31 - width s) y (above-count (width s) w) f ∙ eq-eqb _ _ (sym low-is ∙ h ∙ fill-is)
 
   pub fails-test : (low ≡ n → ⊥) → reinsertable s y ≡ false
-  fails-test h = tested s (31 - width s) y count f ∙ ne-eqb _ _ (λ g. h (low-is ∙ g ∙ sym fill-is))
+  fails-test h = tested s (31 - width s) y (above-count (width s) w) f ∙ ne-eqb _ _ (λ g. h (low-is ∙ g ∙ sym fill-is))

@@ -6,7 +6,7 @@ use mathlib.Core.List.{List, [], _++_, map, append-assoc}
 use Prim.Native.Nat.{ℕ, _+_, _-_, _*_, _/_, _≤_}
 use native.Mathlib.Omega.{arith}
 use lib.IntN.{ℤ}
-use lib.ListN.{length, take, length-append}
+use lib.ListN.{length, length-map, take, length-append}
 use Rattle.overlay.specs.Overlay.{overlay}
 use Rattle.overlay.proofs.OverlayLaws.{overlay-take}
 use Rattle.bits.specs.Bits.{low, bitsOf}
@@ -22,7 +22,7 @@ use Rattle.int32.specs.Wide.{written, TakenOutPutBack, NoTwoRecordingsAl
 use Rattle.int32.proofs.InfoLaws.{info-none, info-width}
 use Rattle.int32.proofs.ReassembleLaws.{reassemble-none, reassemble-accepted}
 use Rattle.int32.proofs.DeconstructLaws.{Divisible, divisible, deconstruct-accepted, deconstruct-number}
-use Rattle.int32.proofs.WideLaws.{literal-length, map-length, freed-fit, appended-back, reinserted-back}
+use Rattle.int32.proofs.WideLaws.{literal-length, freed-fit, appended-back, reinserted-back}
 
 -- ---- taken out, then put back
 
@@ -46,7 +46,7 @@ module _ (info : Int32Info) (samples : List ℤ) (storage more : List ℕ) (h : 
   told = tellDeconstruct info samples storage
 
   bits-length : length bits ≡ n * sent
-  bits-length = literal-length sent zs ∙ ap (λ (m : ℕ). m * sent) (map-length (above (width s)) samples)
+  bits-length = literal-length sent zs ∙ ap (λ (m : ℕ). m * sent) (length-map samples (above (width s)))
 
   bytes : written told ≡ bytesHolding bits
   bytes =
@@ -64,7 +64,7 @@ module _ (info : Int32Info) (samples : List ℤ) (storage more : List ℕ) (h : 
       ∙ reinserted-back s samples (info-width info (d .fields)) h (d .images)
 
   short-length : length (told .samples) ≡ n
-  short-length = map-length (above sent) zs ∙ map-length (above (width s)) samples
+  short-length = length-map zs (above sent) ∙ length-map samples (above (width s))
 
   room : n * sent ≤ 8 * length (written told ++ more)
   room =

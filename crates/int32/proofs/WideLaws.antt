@@ -19,19 +19,12 @@ use Rattle.bits.specs.Bits.{low, num}
 use Rattle.bits.proofs.BitLaws.{length-low, num-low, low-num, num-take-lt}
 use Rattle.int32_sample.specs.Sample.{below, lowBits, above}
 use Rattle.int32_sample.specs.Setting.{Setting, width, reinsert, reinsertable, Keeps}
-use Rattle.int32_sample.proofs.ShiftLaws.{below-fits, above-fits, low-below, put-back, low-lt}
+use Rattle.int32_sample.proofs.ShiftLaws.{above-count, keep-count, below-fits, above-fits, low-below, put-back, low-lt}
 use Rattle.int32_sample.proofs.SettingLaws.{fill, by-parity, fill-lt, comes-back, made}
 use Rattle.int32_sample.proofs.KeepLaws.{taken-out}
 use Rattle.int32.specs.Info.{Samples32}
 use Rattle.int32.specs.Reassemble.{appended}
 use Rattle.int32.specs.Deconstruct.{allReinsertable, literalOf}
-
--- how many bits stand above k
-above-count : (k : ℕ) → k ≤ 31 → 31 - k + 1 + k ≡ 32
-above-count k h = omega arith
-
-keep-count : (k : ℕ) → k ≤ 31 → 31 - k + k ≡ 31
-keep-count k h = omega arith
 
 -- ---- lengths
 
@@ -46,10 +39,6 @@ pub appended-length : (sent : ℕ) (bits : List Bool) (xs : List ℤ) → length
 unfolding appended
 appended-length sent bits [] = refl
 appended-length sent bits (x ∷ xs) = ap suc (appended-length sent (drop sent bits) xs)
-
-pub map-length : (g : ℤ → ℤ) (xs : List ℤ) → length (map g xs) ≡ length xs
-map-length g [] = refl
-map-length g (x ∷ xs) = ap suc (map-length g xs)
 
 -- samples shifted right are samples
 pub freed-fit : (k : ℕ) (ys : List ℤ) → Samples32 ys → Samples32 (map (above k) ys)

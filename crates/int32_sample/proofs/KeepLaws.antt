@@ -2,7 +2,7 @@
 -- does.
 -- Assumes nothing.
 use mathlib.Core.Path.{_≡_, sym, ap, subst, _∙_}
-use Prim.Native.Nat.{ℕ, suc, _+_, _-_, _*_, _^_, _≤_, _<_}
+use Prim.Native.Nat.{ℕ, suc, _+_, _-_, _*_, _^_, _<_}
 use native.Mathlib.Omega.{arith}
 use lib.Arith.{digits-lt, digits-div}
 use lib.IntN.{ℤ, pos, negsuc, _+ℤ_, _*ℤ_, +ℤ-idr}
@@ -13,7 +13,7 @@ use Rattle.wrapping.specs.Wrap.{floorDiv}
 use Rattle.wrapping.proofs.WrapLaws.{wrap-id, wrap-fits}
 use Rattle.int32_sample.specs.Sample.{below, above}
 use Rattle.int32_sample.specs.Setting.{Keeps, PutInTakenOut}
-use Rattle.int32_sample.proofs.ShiftLaws.{below-fits, sum-neg, floor-sum, apart, low-below}
+use Rattle.int32_sample.proofs.ShiftLaws.{keep-count, below-fits, sum-neg, floor-sum, apart, low-below}
 
 module _ (i k : ℕ) (e : i + k ≡ 31) where
   half : 2 ^ i * 2 ^ k ≡ 2147483648
@@ -56,8 +56,5 @@ module _ (i k : ℕ) (e : i + k ≡ 31) where
       let f : SFits w32 (p +ℤ pos n) = subst (SFits w32) (sym s) (below-fits k n x) in
       wrap-id p (subst (SFits w32) (+ℤ-idr p) (any-fits x n 0 h (pow-pos k) f))
 
-below-count : (k : ℕ) → k ≤ 31 → (31 - k) + k ≡ 31
-below-count k h = omega arith
-
 pub put-in-taken-out : PutInTakenOut
-put-in-taken-out k n x w h = let e = below-count k w in (taken-out (31 - k) k e n x h, kept (31 - k) k e n x h)
+put-in-taken-out k n x w h = let e = keep-count k w in (taken-out (31 - k) k e n x h, kept (31 - k) k e n x h)

@@ -17,7 +17,7 @@ use Rattle.wrapping.specs.Wrap.{low32}
 use Rattle.int32_sample.specs.Sample.{below, lowBits, above}
 use Rattle.int32_sample.specs.declared.Redundancy.{Redundancy}
 use Rattle.int32_sample.specs.Setting.{Setting, zeros, ones, dups, setting, width, allOnes, evenBits, oddBits, reinsert, reinsertable, TestIsImage}
-use Rattle.int32_sample.proofs.ShiftLaws.{above-fits, below-pattern, low-below, put-back, low-lt, above-pattern}
+use Rattle.int32_sample.proofs.ShiftLaws.{above-count, above-fits, below-pattern, low-below, put-back, low-lt, above-pattern}
 
 -- ---- by whether the sample is even
 
@@ -163,10 +163,6 @@ made s i x y e h q =
     bit-above i k e y h ∙ ap (λ (z : ℤ). low32 z / 2 ^ k % 2) (sym b) ∙ bit-below i k e n x (fill-lt s x) in
     let f : fill s (above k y) ≡ n = ap (λ (m : ℕ). cond (eqb m 0) (evenBits s) (oddBits s)) o in
     tested s i y e h ∙ eq-eqb _ _ (l ∙ sym f)
-
--- how many bits are above
-above-count : (k : ℕ) → k ≤ 31 → (31 - k) + 1 + k ≡ 32
-above-count k h = omega arith
 
 pub test-is-image : TestIsImage
 test-is-image s y w h =

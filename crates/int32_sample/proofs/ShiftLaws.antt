@@ -2,7 +2,7 @@
 -- bits, k below and j above, make 32.
 -- Assumes nothing.
 use mathlib.Core.Path.{_≡_, sym, ap, subst, _∙_}
-use Prim.Native.Nat.{ℕ, suc, _+_, _-_, _*_, _/_, _%_, _^_, _<_}
+use Prim.Native.Nat.{ℕ, suc, _+_, _-_, _*_, _/_, _%_, _^_, _≤_, _<_}
 use native.Mathlib.Nat.{add-mul, suc-mul, mul-mod-left, mod-lt}
 use native.Mathlib.Omega.{arith}
 use lib.Arith.{digits-lt, digits-div, digits-mod}
@@ -31,6 +31,14 @@ floor-sum (pos a) m n h = ap pos (digits-div a h)
 floor-sum (negsuc a) m n h =
     let l : m - 1 - n < m = omega arith in
     ap (λ (z : ℤ). floorDiv z m) (sum-neg a m n h) ∙ ap negsuc (digits-div a l)
+
+-- ---- how many bits are above k of 32
+
+pub above-count : (k : ℕ) → k ≤ 31 → 31 - k + 1 + k ≡ 32
+above-count k h = omega arith
+
+pub keep-count : (k : ℕ) → k ≤ 31 → 31 - k + k ≡ 31
+keep-count k h = omega arith
 
 -- ---- both fit 32 bits
 

@@ -6,7 +6,7 @@ use mathlib.Core.List.{map}
 use Prim.Native.Nat.{_≤_}
 use native.Mathlib.Omega.{arith}
 use denote.Ref.{now}
-use lib.ListN.{length}
+use lib.ListN.{length, length-map}
 use borrow.Author.Needs.{needs}
 use Rattle.answers.specs.Numbers.{outcomeNumber}
 use Rattle.int32_sample.specs.declared.Redundancy.{Redundancy}
@@ -14,9 +14,8 @@ use Rattle.int32_sample.specs.Sample.{above}
 use Rattle.int32_sample.specs.Setting.{width}
 use Rattle.int32.specs.Info.{settingOf}
 use Rattle.int32.specs.Deconstruct.{deconstructRefusal}
-use Rattle.int32.proofs.InfoLaws.{info-width}
-use Rattle.int32.proofs.DeconstructLaws.{Divisible, divisible, literal-bits-le, deconstruct-refused, deconstruct-told}
-use Rattle.int32.proofs.WideLaws.{map-length}
+use Rattle.int32.proofs.InfoLaws.{info-width, few-bits}
+use Rattle.int32.proofs.DeconstructLaws.{Divisible, divisible, deconstruct-refused, deconstruct-told}
 use Rattle.int32.proofs.deconstruct.deconstruct_int32.Statement.{statement}
 use Rattle.int32.proofs.deconstruct.deconstruct_int32.Tie as tie
 
@@ -61,7 +60,7 @@ as-many c =
     let put : tie.After-redundancy-of = search needs in
     let start : tie.Start = search needs in
     let xs = now (start .args .samples) in
-    ap length (c .shorten .ensures) ∙ map-length _ (map (above (put .redundancy-of .result .count)) xs) ∙ map-length _ xs
+    ap length (c .shorten .ensures) ∙ length-map (map (above (put .redundancy-of .result .count)) xs) _ ∙ length-map xs _
 
 cast-t17 : tie.Need-cast-t17
 cast-t17 c =
@@ -73,7 +72,8 @@ mul-t18 : tie.Need-mul-t18
 mul-t18 c =
     let put : tie.After-redundancy-of = search needs in
     let short : tie.After-shorten = search needs in
-    rw (as-many short) (record { fits = omega (arith, literal-bits-le _ _ _ (ready (put .before))) })
+    let d = ready (put .before) in
+    rw (as-many short) (record { fits = omega (arith, few-bits _ _ (d .fields) (d .few)) })
 
 returns-2 : tie.Need-returns-2
 returns-2 c =

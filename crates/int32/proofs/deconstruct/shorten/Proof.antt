@@ -1,6 +1,7 @@
 -- `int32::deconstruct::shorten` meets its contract. The loop's invariant: the first i samples are
 -- shifted. The measure is what is left of them.
 -- Assumes nothing.
+use mathlib.Core.List.{map-map}
 use mathlib.Core.Path.{_≡_, sym, ap, subst, _∙_}
 use Prim.Native.Nat.{_-_}
 use native.Mathlib.Omega.{arith}
@@ -13,7 +14,7 @@ use mir.Val.{SFits}
 use borrow.Author.Needs.{needs}
 use Rattle.int32_sample.specs.Sample.{above}
 use Rattle.int32_sample.proofs.ShiftLaws.{above-fits}
-use Rattle.int32.proofs.InPlace.{Replaced, replaced-none, replaced-more, replaced-all, map-from, map-map}
+use Rattle.int32.proofs.InPlace.{Replaced, replaced-none, replaced-more, replaced-all, map-from}
 use Rattle.int32.proofs.deconstruct.shorten.Statement.{statement}
 use Rattle.int32.proofs.deconstruct.shorten.Tie as tie
 

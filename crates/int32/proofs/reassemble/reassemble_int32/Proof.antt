@@ -12,7 +12,8 @@ use borrow.Author.Needs.{needs}
 use Rattle.answers.specs.Numbers.{outcomeNumber}
 use Rattle.bits.specs.Bits.{bitsOf}
 use Rattle.int32.specs.Reassemble.{reassembleRefusal}
-use Rattle.int32.proofs.ReassembleLaws.{readable, few-bits, reassemble-refused, reassemble-accepted, reassemble-length}
+use Rattle.int32.proofs.InfoLaws.{few-bits}
+use Rattle.int32.proofs.ReassembleLaws.{readable, reassemble-refused, reassemble-accepted, reassemble-length}
 use Rattle.int32.proofs.reassemble.reassemble_int32.Statement.{statement}
 use Rattle.int32.proofs.reassemble.reassemble_int32.Tie as tie
 
@@ -48,7 +49,8 @@ mul-t12 : tie.Need-mul-t12
 mul-t12 c =
     let t : tie.After-enum-told = search needs in
     let put : tie.After-put-in = search needs in
-    rw (as-many put) (record { fits = omega (arith, few-bits _ _ _ (readable _ _ _ (fine t))) })
+    let r = readable _ _ _ (fine t) in
+    rw (as-many put) (record { fits = omega (arith, few-bits _ _ (r .fields) (r .few)) })
 
 returns-2 : tie.Need-returns-2
 returns-2 c =

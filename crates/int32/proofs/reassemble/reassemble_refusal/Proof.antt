@@ -6,7 +6,8 @@ use native.Mathlib.Omega.{arith}
 use borrow.Author.Needs.{needs}
 use Rattle.answers.specs.Numbers.{outcomeNumber}
 use Rattle.int32.specs.Info.{infoRefusal}
-use Rattle.int32.proofs.ReassembleLaws.{reassemble-first, reassemble-short, reassemble-none, bits-le}
+use Rattle.int32.proofs.InfoLaws.{info-fit, few-bits}
+use Rattle.int32.proofs.ReassembleLaws.{reassemble-first, reassemble-short, reassemble-none}
 use Rattle.int32.proofs.reassemble.reassemble_refusal.Statement.{statement}
 use Rattle.int32.proofs.reassemble.reassemble_refusal.Tie as tie
 
@@ -20,12 +21,14 @@ fine t = sym (t .before .before .info-refusal .ensures) ∙ ap outcomeNumber (t 
 mul-if1 : tie.Need-mul-if1
 mul-if1 c =
     let t : tie.After-enum-told = search needs in
-    record { fits = omega (arith, bits-le _ _ (fine t)) }
+    let f = info-fit _ _ (fine t) in
+    record { fits = omega (arith, few-bits _ _ (f .0) (f .1)) }
 
 add-if1 : tie.Need-add-if1
 add-if1 c =
     let t : tie.After-enum-told = search needs in
-    record { fits = omega (arith, bits-le _ _ (fine t)) }
+    let f = info-fit _ _ (fine t) in
+    record { fits = omega (arith, few-bits _ _ (f .0) (f .1)) }
 
 returns-2 : tie.Need-returns-2
 returns-2 c =
