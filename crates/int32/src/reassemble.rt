@@ -1,5 +1,6 @@
 // Reassembly: each sample with its literal bits and the redundant bits below it. First all literal
-// bits are put in, then all redundant ones, which the machine does several at once.
+// bits are put in, then all redundant ones, which the machine does several at once: so each of the
+// two kinds has a loop of its own.
 use crate::Int32Answer;
 use crate::Int32Info;
 use crate::info_refusal;
@@ -7,16 +8,17 @@ use answers::Outcome;
 use answers::Refusal;
 use bits::load::window;
 use int32_sample::bits_below;
+use int32_sample::low_bits_mask;
 use int32_sample::put_below;
-use int32_sample::redundancy_of;
 ghost use mathlib.Core.Path.{_≡_};
 ghost use mathlib.Core.List.{map};
-ghost use Prim.Native.Nat.{_+_, _*_, _≤_};
+ghost use Prim.Native.Nat.{_+_, _*_, _^_, _≤_, _<_};
 ghost use lib.ListN.{length, take, drop};
 ghost use Rattle.answers.specs.Limits.{maxElements};
 ghost use Rattle.answers.specs.Numbers.{outcomeNumber};
 ghost use Rattle.bits.specs.Bits.{num, bitsOf};
-ghost use Rattle.int32_sample.specs.Setting.{setting, reinsert};
+ghost use Rattle.int32_sample.specs.Sample.{below};
+ghost use Rattle.int32_sample.specs.Setting.{setting, dups, reinsert};
 ghost use Rattle.int32.specs.Info.{Samples32};
 ghost use Rattle.int32.specs.Reassemble.{Readable, appended, reassembled};
 ghost use Rattle.int32.specs.Reassemble.{reassembleRefusal, viewReassemble, reassembleEntry};
@@ -61,23 +63,52 @@ fn append_literals(samples: &mut [i32], literal: &[u8], count: u32)
     }
 }
 
-// Puts the redundant bits below each sample; each was a number of 32 bits.
+// Puts the same bits below each sample, those of n; each was a number of 32 bits.
+fn put_each(samples: &mut [i32], count: u32, n: u32)
+    requires count { ⌜ count ≤ 31 ⌝ }
+    requires number { ⌜ n < 2 ^ count ⌝ }
+    ensures put { λ _. ⌜ now (samples .exit) ≡ map (below count n) (now (samples .entry)) ⌝ }
+    ensures read { λ _. ⌜ Samples32 (now (samples .entry)) ⌝ }
+{
+    let mut i: usize = 0;
+    while i < samples.len() {
+        let sample = samples[i];
+        samples[i] = put_below(sample, count, n);
+        i = i + 1;
+    }
+}
+
+// Puts copies of its lowest bit below each sample; each was a number of 32 bits.
+fn put_copies(samples: &mut [i32], count: u32)
+    requires { ⌜ count ≤ 31 ⌝ }
+    ensures put { λ _. ⌜ now (samples .exit) ≡ map (reinsert (dups count)) (now (samples .entry)) ⌝ }
+    ensures read { λ _. ⌜ Samples32 (now (samples .entry)) ⌝ }
+{
+    let mask = low_bits_mask(count);
+    let mut i: usize = 0;
+    while i < samples.len() {
+        let sample = samples[i];
+        samples[i] = put_below(sample, count, bits_below(sample, 0, mask));
+        i = i + 1;
+    }
+}
+
+// Puts the redundant bits below each sample: zeros, ones or copies.
 fn reinsert_redundancy(samples: &mut [i32], zeros: u32, ones: u32, dups: u32)
     requires { ⌜ (zeros ≤ 31) × (ones ≤ 31) × (dups ≤ 31) ⌝ }
     ensures put { λ _. ⌜ now (samples .exit)
         ≡ map (reinsert (setting zeros ones dups)) (now (samples .entry)) ⌝ }
     ensures read { λ _. ⌜ Samples32 (now (samples .entry)) ⌝ }
 {
-    let put = redundancy_of(zeros, ones, dups);
-    let count = put.count;
-    let even = put.even;
-    let odd = put.odd;
-    let mut i: usize = 0;
-    while i < samples.len() {
-        let sample = samples[i];
-        samples[i] = put_below(sample, count, bits_below(sample, even, odd));
-        i = i + 1;
+    if zeros > 0 {
+        put_each(samples, zeros, 0);
+        return;
     }
+    if ones > 0 {
+        put_each(samples, ones, low_bits_mask(ones));
+        return;
+    }
+    put_copies(samples, dups);
 }
 
 // Both; without literal bits there is nothing to read.

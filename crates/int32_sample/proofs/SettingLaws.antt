@@ -63,29 +63,30 @@ abbrev pub held : Setting → Redundancy
 held s = record { count = width s; even = evenBits s; odd = oddBits s }
 
 -- zeros, where they are not 0
-pub zeros-first : (z o d : ℕ) → 0 < z → record { count = z; even = 0; odd = 0 } ≡ held (setting z o d)
-zeros-first zero o d h = absurd (omega arith)
-zeros-first (suc z) o d h = refl
+pub is-zeros : (z o d : ℕ) → 0 < z → setting z o d ≡ zeros z
+is-zeros zero o d h = absurd (omega arith)
+is-zeros (suc z) o d h = refl
 
 -- ones, where zeros are 0 and they are not
-pub ones-next : (z o d mask : ℕ) → z ≤ 0 → 0 < o → mask ≡ allOnes o → record { count = o; even = mask; odd = mask } ≡ held (setting z o d)
-ones-next zero zero d mask h l e = absurd (omega arith)
-ones-next zero (suc o) d mask h l e = ap (λ (m : ℕ). record { count = suc o; even = m; odd = m }) e
-ones-next (suc z) o d mask h l e = absurd (omega arith)
+pub is-ones : (z o d : ℕ) → z ≤ 0 → 0 < o → setting z o d ≡ ones o
+is-ones zero zero d h l = absurd (omega arith)
+is-ones zero (suc o) d h l = refl
+is-ones (suc z) o d h l = absurd (omega arith)
 
 -- copies, where both are 0
-pub dups-last : (z o d mask : ℕ) → z ≤ 0 → o ≤ 0 → mask ≡ allOnes d → record { count = d; even = 0; odd = mask } ≡ held (setting z o d)
-dups-last zero zero d mask h l e = ap (λ (m : ℕ). record { count = d; even = 0; odd = m }) e
-dups-last zero (suc o) d mask h l e = absurd (omega arith)
-dups-last (suc z) o d mask h l e = absurd (omega arith)
+pub is-dups : (z o d : ℕ) → z ≤ 0 → o ≤ 0 → setting z o d ≡ dups d
+is-dups zero zero d h l = refl
+is-dups zero (suc o) d h l = absurd (omega arith)
+is-dups (suc z) o d h l = absurd (omega arith)
 
--- what is put in below a sample by them
-module _ (s : Setting) (r : Redundancy) (x : ℤ) (n : ℕ) (e : r ≡ held s) (q : n ≡ cond (eqb (lowBits 1 x) 0) (r .even) (r .odd)) where
-  pub put-lt : n < 2 ^ r .count
-  put-lt = rw (q, e) (fill-lt s x)
+pub held-zeros : (z o d : ℕ) → 0 < z → record { count = z; even = 0; odd = 0 } ≡ held (setting z o d)
+held-zeros z o d h = ap held (sym (is-zeros z o d h))
 
-  pub put-is : (v : ℤ) → v ≡ below (r .count) n x → v ≡ reinsert s x
-  put-is v p = p ∙ rw (q, e) (sym (by-parity s x))
+pub held-ones : (z o d mask : ℕ) → z ≤ 0 → 0 < o → mask ≡ allOnes o → record { count = o; even = mask; odd = mask } ≡ held (setting z o d)
+held-ones z o d mask h l e = ap (λ (m : ℕ). record { count = o; even = m; odd = m }) e ∙ ap held (sym (is-ones z o d h l))
+
+pub held-dups : (z o d mask : ℕ) → z ≤ 0 → o ≤ 0 → mask ≡ allOnes d → record { count = d; even = 0; odd = mask } ≡ held (setting z o d)
+held-dups z o d mask h l e = ap (λ (m : ℕ). record { count = d; even = 0; odd = m }) e ∙ ap held (sym (is-dups z o d h l))
 
 -- ---- the test on the low bits
 
