@@ -7,20 +7,18 @@ use mathlib.Core.List.{List, [], _∷_, _++_, map, append-assoc}
 use Prim.Native.Nat.{ℕ, zero, suc, _+_, _-_, _*_, _≤_, _<_}
 use native.Mathlib.Nat.{suc-mul, zero-mul, mod-eq-of-lt, mul-le-mul-right, le-trans}
 use native.Mathlib.Omega.{arith}
-use lib.IntN.{ℤ, pos, _+ℤ_, _*ℤ_, +ℤ-idr, *ℤ-one}
+use lib.IntN.{ℤ, pos}
 use lib.ListN.{length, take, drop, getD, length-append, length-drop}
 use lib.Seq.{take-at, drop-at, take-add, length-take-le}
 use mir.Syntax.{w32}
 use mir.Val.{SFits}
 use Rattle.answers.proofs.TestLaws.{both}
-use Rattle.wrapping.specs.Wrap.{wrap32}
-use Rattle.wrapping.proofs.WrapLaws.{wrap-id}
 use Rattle.bits.specs.Bits.{low, num}
 use Rattle.bits.proofs.BitLaws.{length-low, num-low, low-num, num-take-lt}
 use Rattle.int32_sample.specs.Sample.{below, lowBits, above}
 use Rattle.int32_sample.specs.Setting.{Setting, width, reinsert, reinsertable, Keeps}
-use Rattle.int32_sample.proofs.ShiftLaws.{above-count, keep-count, below-fits, above-fits, low-below, put-back, low-lt}
-use Rattle.int32_sample.proofs.SettingLaws.{fill, by-parity, fill-lt, comes-back, made}
+use Rattle.int32_sample.proofs.ShiftLaws.{below-nothing, above-count, keep-count, below-fits, above-fits, low-below, put-back, low-lt}
+use Rattle.int32_sample.proofs.SettingLaws.{reinsert-nothing, fill, by-parity, fill-lt, comes-back, made}
 use Rattle.int32_sample.proofs.KeepLaws.{taken-out}
 use Rattle.int32.specs.Info.{Samples32}
 use Rattle.int32.specs.Reassemble.{appended}
@@ -46,13 +44,23 @@ freed-fit k [] h i = record { sfits = omega arith }
 freed-fit k (y ∷ ys) h zero = above-fits k y (h 0)
 freed-fit k (y ∷ ys) h (suc i) = freed-fit k ys (λ j. h (suc j)) i
 
+-- completed samples are samples
+pub appended-fit : (sent : ℕ) (bits : List Bool) (xs : List ℤ) → Samples32 (appended sent bits xs)
+unfolding appended
+appended-fit sent bits [] i = record { sfits = omega arith }
+appended-fit sent bits (x ∷ xs) zero = below-fits sent (num (take sent bits)) x
+appended-fit sent bits (x ∷ xs) (suc i) = appended-fit sent (drop sent bits) xs i
+
 -- no literal bits leave the samples as they are
 pub appended-nothing : (bits : List Bool) (xs : List ℤ) → Samples32 xs → appended 0 bits xs ≡ xs
-unfolding appended below num lib.IntN.one
+unfolding appended num
 appended-nothing bits [] h = refl
-appended-nothing bits (x ∷ xs) h =
-    let e : x *ℤ pos 1 +ℤ pos 0 ≡ x = +ℤ-idr (x *ℤ pos 1) ∙ *ℤ-one x in
-    ap₂ (λ (y : ℤ) (l : List ℤ). y ∷ l) (ap wrap32 e ∙ wrap-id x (h 0)) (appended-nothing (drop 0 bits) xs (λ i. h (suc i)))
+appended-nothing bits (x ∷ xs) h = ap₂ (λ (y : ℤ) (l : List ℤ). y ∷ l) (below-nothing x (h 0)) (appended-nothing (drop 0 bits) xs (λ i. h (suc i)))
+
+-- nor do no redundant bits
+pub reinserted-nothing : (s : Setting) (xs : List ℤ) → width s ≡ 0 → Samples32 xs → map (reinsert s) xs ≡ xs
+reinserted-nothing s [] w h = refl
+reinserted-nothing s (x ∷ xs) w h = ap₂ (λ (y : ℤ) (l : List ℤ). y ∷ l) (reinsert-nothing s x w (h 0)) (reinserted-nothing s xs w (λ i. h (suc i)))
 
 -- the literal bits of the place i lie within those of all samples
 pub literal-room : (i n sent bits : ℕ) → i < n → n * sent ≤ bits → i * sent + sent ≤ bits

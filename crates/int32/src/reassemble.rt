@@ -10,6 +10,7 @@ use bits::load::window;
 use int32_sample::bits_below;
 use int32_sample::low_bits_mask;
 use int32_sample::put_below;
+use int32_sample::redundancy_of;
 ghost use mathlib.Core.Path.{_≡_};
 ghost use mathlib.Core.List.{map};
 ghost use Prim.Native.Nat.{_+_, _*_, _^_, _≤_, _<_};
@@ -111,7 +112,7 @@ fn reinsert_redundancy(samples: &mut [i32], zeros: u32, ones: u32, dups: u32)
     put_copies(samples, dups);
 }
 
-// Both; without literal bits there is nothing to read.
+// Both, where there are any.
 fn put_in(info: Int32Info, samples: &mut [i32], literal: &[u8])
     requires { ⌜ Readable info (length (now samples)) (length (now literal)) ⌝ }
     ensures { λ _. ⌜ now (samples .exit)
@@ -122,6 +123,10 @@ fn put_in(info: Int32Info, samples: &mut [i32], literal: &[u8])
         return;
     }
     append_literals(samples, literal, info.sent_bits);
+    let put = redundancy_of(info.zeros, info.ones, info.dups);
+    if put.count == 0 {
+        return;
+    }
     reinsert_redundancy(samples, info.zeros, info.ones, info.dups);
 }
 

@@ -1,7 +1,7 @@
 -- The bits of a setting by whether the sample is even, and the test on the low bits: it holds exactly
 -- of the samples that have a source.
 -- Assumes nothing.
-use mathlib.Core.Path.{_≡_, refl, sym, ap, _∙_}
+use mathlib.Core.Path.{_≡_, refl, sym, ap, ap₂, subst, _∙_}
 use mathlib.Core.Bool.{Bool, true, false, cond, _||_}
 use Prim.Native.Nat.{ℕ, zero, suc, _+_, _-_, _*_, _/_, _%_, _^_, _≤_, _<_}
 use native.Mathlib.Nat.{pow-suc, mod-lt}
@@ -17,7 +17,7 @@ use Rattle.wrapping.specs.Wrap.{low32}
 use Rattle.int32_sample.specs.Sample.{below, lowBits, above}
 use Rattle.int32_sample.specs.declared.Redundancy.{Redundancy}
 use Rattle.int32_sample.specs.Setting.{Setting, zeros, ones, dups, setting, width, allOnes, evenBits, oddBits, reinsert, reinsertable, TestIsImage}
-use Rattle.int32_sample.proofs.ShiftLaws.{above-count, above-fits, below-pattern, low-below, put-back, low-lt, above-pattern}
+use Rattle.int32_sample.proofs.ShiftLaws.{below-nothing, above-count, above-fits, below-pattern, low-below, put-back, low-lt, above-pattern}
 
 -- ---- by whether the sample is even
 
@@ -50,6 +50,13 @@ choice-lt false h l = l
 
 pub fill-lt : (s : Setting) (x : ℤ) → fill s x < 2 ^ width s
 fill-lt s x = choice-lt (eqb (lowBits 1 x) 0) (even-lt s) (odd-lt s)
+
+-- a setting that puts in no bits leaves a sample as it is
+pub reinsert-nothing : (s : Setting) (x : ℤ) → width s ≡ 0 → SFits w32 x → reinsert s x ≡ x
+reinsert-nothing s x w h =
+    let l : fill s x < 1 = subst (λ (k : ℕ). fill s x < 2 ^ k) w (fill-lt s x) in
+    let z : fill s x ≡ 0 = omega (arith, l) in
+    by-parity s x ∙ ap₂ (λ (k n : ℕ). below k n x) w z ∙ below-nothing x h
 
 -- the choice, by the lowest bit that was found
 pub even-bits : (n found e o : ℕ) → found ≡ n → found ≡ 0 → e ≡ cond (eqb n 0) e o

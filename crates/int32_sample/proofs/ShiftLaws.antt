@@ -6,7 +6,7 @@ use Prim.Native.Nat.{ℕ, suc, _+_, _-_, _*_, _/_, _%_, _^_, _≤_, _<_}
 use native.Mathlib.Nat.{add-mul, suc-mul, mul-mod-left, mod-lt}
 use native.Mathlib.Omega.{arith}
 use lib.Arith.{digits-lt, digits-div, digits-mod}
-use lib.IntN.{ℤ, pos, negsuc, negℤ, _+ℤ_, _*ℤ_}
+use lib.IntN.{ℤ, pos, negsuc, negℤ, _+ℤ_, _*ℤ_, +ℤ-idr, *ℤ-one}
 use lib.Pow.{pow-add, pow-pos, shl-shr, shr-lt, mod-pow-add, mod-mod-pow, split, high, low}
 use mir.Syntax.{w32}
 use mir.Val.{SFits}
@@ -49,6 +49,11 @@ below-fits k n x = wrap-fits (x *ℤ pos (2 ^ k) +ℤ pos n)
 pub above-fits : (k : ℕ) (y : ℤ) → SFits w32 y → SFits w32 (above k y)
 unfolding above
 above-fits k y h = floor-fits w32 y (2 ^ k) h
+
+-- no bits below a sample leave it as it is
+pub below-nothing : (x : ℤ) → SFits w32 x → below 0 0 x ≡ x
+unfolding below lib.IntN.one
+below-nothing x h = ap wrap32 (+ℤ-idr (x *ℤ pos 1) ∙ *ℤ-one x) ∙ wrap-id x h
 
 module _ (j k : ℕ) (e : j + k ≡ 32) where
   -- 2 to the 32
