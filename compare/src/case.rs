@@ -5,10 +5,11 @@ use std::collections::BTreeMap;
 use std::fmt::Debug;
 use std::iter::{once, successors};
 use std::ops::Range;
-use std::time::Instant;
+use std::time::{Duration, Instant};
 
-/// How many smaller inputs are tried at most before a failing one is shown.
+/// How many smaller inputs are tried at most before a failing one is shown, and for how long.
 const TRIES: usize = 20_000;
+const TRIED: Duration = Duration::from_secs(60);
 
 /// An input, the comparison on it, and the inputs that are simpler by one step.
 pub trait Case: Clone + Debug {
@@ -139,11 +140,12 @@ impl Run {
 
 /// The smallest failing input that it finds from one that fails.
 fn smallest<C: Case>(case: C, fails: impl Fn(&C) -> bool) -> C {
-    let (mut found, mut tries) = (case, 0);
+    let (mut found, mut tries, began) = (case, 0, Instant::now());
     loop {
         let case = found.clone();
         let rest = TRIES - tries;
-        let mut smaller = case.smaller().take(rest).inspect(|_| tries += 1);
+        let in_time = case.smaller().take_while(|_| began.elapsed() < TRIED);
+        let mut smaller = in_time.take(rest).inspect(|_| tries += 1);
         match smaller.find(&fails) {
             Some(smaller) => found = smaller,
             None => return found,

@@ -59,6 +59,20 @@ pub fn payload(random: &mut Random, length: usize) -> Vec<u8> {
     }
 }
 
+/// Bytes that are all 0, all ones, random, or made of fields around every cap.
+pub fn fresh(random: &mut Random, length: usize) -> Vec<u8> {
+    match random.below(5) {
+        0 => vec![0; length],
+        1 => vec![0xff; length],
+        2 => random.bytes(length),
+        _ => {
+            let mut bytes = payload(random, length);
+            bytes.truncate(length);
+            bytes
+        }
+    }
+}
+
 /// Medians at the ends of the rules: of the run gate, of the division by 16, of each step and of 32
 /// bits.
 pub const MEDIANS: [u32; 20] = [

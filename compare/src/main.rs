@@ -8,7 +8,7 @@
 //! `compare long` runs millions of damaged inputs.
 //!
 //! Sound files and morning pages are no part of the published Rust: there a plain statement of their
-//! rules stands for it, and in the table a plain loop.
+//! rules stands for it, and in the table a plain loop. Wide samples are compared with both.
 #![deny(unsafe_code)]
 #![warn(clippy::undocumented_unsafe_blocks)]
 
@@ -17,6 +17,7 @@ mod case;
 mod child;
 mod fields;
 mod guarded;
+mod int32_fields;
 mod kinds;
 mod lent;
 mod long;
@@ -24,8 +25,10 @@ mod numbers;
 mod ours;
 mod page_sounds;
 mod payloads;
+mod plain_int32;
 mod random;
 mod store;
+mod their_int32;
 mod their_packing;
 mod their_pages;
 mod their_passes;
@@ -47,6 +50,7 @@ const USAGE: &str =
      | compare count ours|theirs reading|packing [loud|middling|quiet|clicks|many|silence]
      | compare count ours|theirs export|import
      | compare count ours|theirs page [noise|random|silence]
+     | compare count ours|theirs reassembly|deconstruction SENT_BITS none|zeros|ones|dups
      | compare count ours|theirs decorrelation|analysis TERM|sixteen";
 
 fn compare(seed: u64, scale: usize) -> Result<(), Failed> {

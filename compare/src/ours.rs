@@ -7,7 +7,7 @@
 //! it was. Where every element outside a list is watched all calls go to `ffi`, since the bindings
 //! answer in lists of their own.
 use crate::lent::watched;
-use wavpack_stereo::{Delta, Pass, Refusal, Slots, Weight, WordState, ffi};
+use wavpack_stereo::{Delta, Int32Info, Pass, Refusal, Slots, Weight, WordState, ffi};
 
 /// No refusal number: the bindings and the C interface refuse for different reasons.
 const PARTED: u32 = u32::MAX;
@@ -163,5 +163,31 @@ pub fn morning_page(samples: &[i32], threshold: u32, page: &mut [u8], answer: &m
             0
         }
         Err(refusal) => both(refusal, ffi::morning_page(samples, threshold, page, answer)),
+    }
+}
+
+pub fn reassemble_int32(info: Int32Info, samples: &mut [i32], literal: &[u8], answer: &mut [u32]) -> u32 {
+    if watched() || answer.len() != 1 {
+        return ffi::reassemble_int32(info, samples, literal, answer);
+    }
+    match wavpack_stereo::reassemble_int32(info, samples, literal) {
+        Ok(bits) => {
+            answer[0] = bits as u32;
+            0
+        }
+        Err(refusal) => both(refusal, ffi::reassemble_int32(info, samples, literal, answer)),
+    }
+}
+
+pub fn deconstruct_int32(info: Int32Info, samples: &mut [i32], literal: &mut [u8], answer: &mut [u32]) -> u32 {
+    if watched() || answer.len() != 1 {
+        return ffi::deconstruct_int32(info, samples, literal, answer);
+    }
+    match wavpack_stereo::deconstruct_int32(info, samples, literal) {
+        Ok(bits) => {
+            answer[0] = bits as u32;
+            0
+        }
+        Err(refusal) => both(refusal, ffi::deconstruct_int32(info, samples, literal, answer)),
     }
 }

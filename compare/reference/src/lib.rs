@@ -36,6 +36,9 @@ pub mod error {
         EncodeWeightNotRepresentable(i32),
         EncodeSeedNotRepresentable(i32),
         EncodeHybridTermUnsupported(i8),
+        BlockMissingOverflowBits,
+        Int32InfoLength(usize),
+        Int32InfoConflict { zeros: u8, ones: u8, dups: u8 },
     }
 }
 

@@ -2,8 +2,9 @@
 //! before it, and the output is checked behind it.
 use super::passes::{self, sixteen};
 use super::reading::sounds;
-use super::{pages, waves};
+use super::{int32, int32_loops, pages, waves};
 use crate::ours;
+use crate::plain_int32::BYTES_PER_SAMPLE;
 use crate::random::Random;
 use crate::their_pages;
 use crate::their_passes::{Pass, made};
@@ -87,9 +88,29 @@ fn page(random: &mut Random, name: &str, ours: bool) -> Option<()> {
     Some(())
 }
 
+/// Reassembly, or deconstruction, of the most samples with these fields, where theirs is the plain
+/// loop; none where there is no such way to put bits in.
+fn wide_samples(random: &mut Random, sent_bits: u32, way: &str, back: bool, ours: bool) -> Option<()> {
+    let int32::Input { info, wide, apart, .. } = int32::input(random, sent_bits, way)?;
+    if back {
+        let deconstruct = if ours { int32::our_deconstruct } else { int32_loops::deconstruct };
+        let mut literal = vec![0x5a; BYTES_PER_SAMPLE * wide.len()];
+        let mut samples = wide;
+        counted(|| deconstruct(info, &mut samples, &mut literal)).unwrap();
+        assert!(samples == apart.samples && literal[..apart.literal.len()] == apart.literal);
+    } else {
+        let reassemble = if ours { int32::our_reassemble } else { int32_loops::reassemble };
+        let mut samples = apart.samples;
+        counted(|| reassemble(info, &mut samples, &apart.literal)).unwrap();
+        assert!(samples == wide);
+    }
+    Some(())
+}
+
 /// Makes the call that the words name: `ours` or `theirs`; `reading` or `packing`, of the loud sound
 /// or of the one that they name; `export` or `import`; `page` of noise or of the sound that they
-/// name; `decorrelation` or `analysis`, of a term or, by `sixteen`, of 16 passes. None where they
+/// name; `reassembly` or `deconstruction` with so many sent bits and `none`, `zeros`, `ones` or
+/// `dups`; `decorrelation` or `analysis`, of a term or, by `sixteen`, of 16 passes. None where they
 /// name none.
 pub fn run(words: &[&str], seed: u64) -> Option<()> {
     let random = &mut Random::new(seed);
@@ -103,6 +124,9 @@ pub fn run(words: &[&str], seed: u64) -> Option<()> {
         [what @ ("export" | "import")] => sound_file(random, what == "import", ours),
         ["page"] => page(random, "noise", ours)?,
         ["page", name] => page(random, name, ours)?,
+        [what @ ("reassembly" | "deconstruction"), sent_bits, way] => {
+            wide_samples(random, sent_bits.parse().ok()?, way, what == "deconstruction", ours)?;
+        }
         [what @ ("decorrelation" | "analysis"), terms] => {
             let terms = if terms == "sixteen" { sixteen() } else { vec![terms.parse().ok()?] };
             run_passes(random, &terms, what == "analysis", ours);

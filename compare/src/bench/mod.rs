@@ -1,6 +1,6 @@
 //! The speed of the library and of the published Rust on the same inputs, in one run. Sound files
-//! and morning pages are no part of the published Rust: there a plain loop stands for it. With the
-//! feature `before` an earlier archive reads beside them.
+//! and morning pages are no part of the published Rust: there a plain loop stands for it. Wide
+//! samples have both. With the feature `before` an earlier archive reads beside them.
 //!
 //! The sides take turns, and the best of all turns counts. Each turn starts from fresh copies,
 //! which are made before the clock starts. The outputs are compared.
@@ -12,6 +12,8 @@ use std::time::{Duration, Instant};
 #[cfg(feature = "before")]
 mod before;
 pub mod count;
+mod int32;
+mod int32_loops;
 mod packing;
 mod pages;
 mod passes;
@@ -72,4 +74,5 @@ pub fn run(seed: u64) {
     packing::run(&sounds);
     waves::run(random);
     pages::run(random);
+    int32::run(random);
 }

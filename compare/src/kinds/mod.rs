@@ -1,7 +1,9 @@
 //! The kinds of comparison, one module each.
 use crate::case::{Failed, Run};
 
+mod chosen_fields;
 mod counts;
+pub mod deconstruction;
 pub mod entropy;
 mod joined;
 mod log_words;
@@ -12,6 +14,7 @@ mod pages;
 mod pass_bytes;
 pub mod passes;
 pub mod reads;
+pub mod reassembly;
 pub mod wave_exports;
 pub mod wave_imports;
 pub mod words;
@@ -35,4 +38,7 @@ pub const KINDS: &[Kind] = &[
     ("exports of sound files", wave_exports::run),
     ("imports of sound files", wave_imports::run),
     ("morning pages", pages::run),
+    ("reassembly of wide samples", reassembly::run),
+    ("deconstruction of wide samples", deconstruction::run),
+    ("deconstruction by fields that the Rust chose", chosen_fields::run),
 ];

@@ -1,5 +1,5 @@
 //! Damage to bytes and to numbers.
-use crate::fields::{self, Bits};
+use crate::fields::{Bits, fresh};
 use crate::random::Random;
 use std::ops::Range;
 
@@ -15,20 +15,6 @@ fn flip(random: &mut Random, bytes: &mut [u8]) {
     for _ in 0..count {
         if let Some(byte) = bytes.get_mut(random.below(bytes.len().max(1))) {
             *byte ^= 1 << random.below(8);
-        }
-    }
-}
-
-/// Bytes that are all 0, all ones, random, or made of fields around every cap.
-fn fresh(random: &mut Random, length: usize) -> Vec<u8> {
-    match random.below(5) {
-        0 => vec![0; length],
-        1 => vec![0xff; length],
-        2 => random.bytes(length),
-        _ => {
-            let mut bytes = fields::payload(random, length);
-            bytes.truncate(length);
-            bytes
         }
     }
 }

@@ -1,6 +1,6 @@
-//! Damaged inputs by the million: payloads, states, pass lists, packings, sound files and recordings
-//! for morning pages that were real and then damaged, each answered as the published Rust, or the
-//! rule, answers.
+//! Damaged inputs by the million: payloads, states, pass lists, packings, sound files, recordings for
+//! morning pages and wide samples that were real and then damaged, each answered as the published
+//! Rust, or the rule, answers.
 //!
 //! Every list that is lent stands in turn right before a page that must not be touched, right
 //! behind such a page, and in a block of the heap of its own. A child compares, so that a stray
@@ -16,6 +16,7 @@ use std::ops::Range;
 use std::time::{Duration, Instant};
 
 mod damage;
+mod int32;
 mod packs;
 mod pages;
 mod passes;
@@ -34,9 +35,9 @@ pub struct Bounds {
 /// A kind: its name, how many of 100 inputs are of it, and what makes and compares one.
 type Kind = (&'static str, usize, fn(&mut Run, &Recordings) -> Result<(), Failed>);
 
-const KINDS: [Kind; 9] = [
-    ("damaged payloads, read whole", 36, |run, from| one(run, |random| reads::read(random, from))),
-    ("damaged payloads and states, read by words", 24, |run, from| one(run, |random| words::word(random, from))),
+const KINDS: [Kind; 11] = [
+    ("damaged payloads, read whole", 33, |run, from| one(run, |random| reads::read(random, from))),
+    ("damaged payloads and states, read by words", 21, |run, from| one(run, |random| words::word(random, from))),
     ("damaged entropy payloads", 4, |run, from| one(run, |random| reads::entropy(random, from))),
     ("damaged seeds", 3, |run, _| one(run, passes::making)),
     ("damaged pass lists", 8, |run, from| one(run, |random| passes::passes(random, from))),
@@ -44,6 +45,8 @@ const KINDS: [Kind; 9] = [
     ("damaged exports of sound files", 3, |run, from| one(run, |random| waves::export(random, from))),
     ("damaged sound files", 5, |run, from| one(run, |random| waves::import(random, from))),
     ("morning pages of damaged recordings", 4, |run, from| one(run, |random| pages::page(random, from))),
+    ("damaged reassembly of wide samples", 3, |run, from| one(run, |random| int32::reassembly(random, from))),
+    ("damaged deconstruction of wide samples", 3, |run, from| one(run, |random| int32::deconstruction(random, from))),
 ];
 
 const PLACES: [Place; 3] = [Place::BeforePage, Place::BehindPage, Place::Block];
