@@ -1,6 +1,6 @@
 // Reassembly: each sample with its literal bits and the redundant bits below it. First all literal
-// bits are put in, then all redundant ones, which the machine does several at once: so each of the
-// two kinds has a loop of its own.
+// bits are put in, then all redundant ones, which the machine does several at once; bits that are the
+// same below every sample have a loop of their own.
 use crate::Int32Answer;
 use crate::Int32Info;
 use crate::info_refusal;
