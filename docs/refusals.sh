@@ -1,8 +1,7 @@
 #!/bin/sh
 # Holds what people read of the refusals to include/refusals.txt: the list in the C header, the table
 # in README.md and the strings of the Rust bindings have each number with its name and wording, and no
-# refusal more; the program `morning` has those that a recording can meet, up to the one for what is
-# too large. Prints what does not hold.
+# refusal more; the program `morning` has those that a recording can meet. Prints what does not hold.
 set -u
 cd "$(dirname "$0")/.." || exit 2
 table=include/refusals.txt
@@ -30,12 +29,15 @@ awk -v table="$table" '
         if (rust[name] != number) wrong(name " is " number ", and that is not what " table " has")
     }
 
-    # At the end of a file every number was there.
-    function ended(    number, most) {
+    # Whether a recording can be refused with a number: up to what is too large, and for its log words.
+    function met(number) { return number <= rust["TooLarge"] || number == rust["LogWordOutOfReach"] }
+
+    # At the end of a file every number was there, in the program every one that is met.
+    function ended(    number) {
         if (!file || file == table) return
-        most = file ~ /[.]rt$/ ? rust["TooLarge"] : last
-        for (number = 1; number <= most; number++)
-            if (!((file, number) in seen)) wrong("no " number ", \"" wording[number] "\"")
+        for (number = 1; number <= last; number++)
+            if (!((file, number) in seen) && (file !~ /[.]rt$/ || met(number)))
+                wrong("no " number ", \"" wording[number] "\"")
     }
 
     FNR == 1 { ended(); file = FILENAME; section = 0; said = "" }

@@ -1,8 +1,8 @@
 /* The C interface of the stereo WavPack decoder. Link with libcapi.a.
  *
  * Every function answers WV_ACCEPTED or the number of a refusal. The rules behind the refusals are
- * the rows X1 to X9, Q1.3, Q1.4, Q2.2, Q5.6 and Q6.6 of docs/PROVED.md; each function below has its
- * own in the order in which it tests.
+ * the rows X1 to X9, Q1.3, Q1.4, Q2.2, Q5.6, Q6.6 and Q7.1 to Q7.3 of docs/PROVED.md; each function
+ * below has its own in the order in which it tests.
  *
  * A list is a pointer to its first element and its number of elements; a list of 0 elements still
  * wants a pointer that is not null and is aligned for its type. A function reads and writes nothing
@@ -60,6 +60,8 @@ extern "C" {
 #define WV_FIELD_ABOVE_31 15u
 /* a sample that is the image of no sample */
 #define WV_NOT_REINSERTABLE 16u
+/* a log word of 8192 or more, or of -8192 or less */
+#define WV_LOG_WORD_OUT_OF_REACH 17u
 
 /* Slots of the lists. */
 #define WV_LOG_WORD_SLOTS 1u
@@ -84,8 +86,8 @@ extern "C" {
 #define WV_LINE_FRAMES 1024u
 
 /* The signed 32-bit value of a log word.
- * value: its value.
- * Refuses WV_LIST_LENGTH, with value as it was. */
+ * value: its value, -2,143,289,344 to 2,143,289,344.
+ * Refuses WV_LIST_LENGTH, then WV_LOG_WORD_OUT_OF_REACH, with value as it was. */
 uint32_t wv_log_word(int16_t word, int32_t *value, size_t value_len);
 
 /* The term and the delta of a term byte. The term may be an invalid one.
@@ -100,7 +102,8 @@ uint32_t wv_weight_byte(uint8_t byte, int32_t *out, size_t out_len);
 
 /* The signed medians of an entropy payload of 6 bytes (mono: the right ones are 0) or 12 (stereo).
  * medians: left 0, 1, 2, right 0, 1, 2.
- * Refuses WV_LIST_LENGTH, then WV_ENTROPY_LENGTH, with medians as it was. */
+ * Refuses WV_LIST_LENGTH, then WV_ENTROPY_LENGTH, then WV_LOG_WORD_OUT_OF_REACH for one of its three
+ * or six log words, with medians as it was. */
 uint32_t wv_entropy(const uint8_t *entropy, size_t entropy_len, int32_t *medians, size_t medians_len);
 
 /* Reads the packed payload of a stereo block: `frames` frames, left then right, into samples, which
@@ -109,8 +112,8 @@ uint32_t wv_entropy(const uint8_t *entropy, size_t entropy_len, int32_t *medians
  * answer: bits used, left medians 0, 1, 2, right medians 0, 1, 2 after the last word, samples
  *   written.
  * Refuses WV_LIST_LENGTH for answer, with nothing written.
- * Then refuses WV_TOO_LARGE, WV_LIST_LENGTH for samples, WV_ENTROPY_LENGTH and WV_NOT_STEREO, with
- * the slots of answer 0 and samples as it was.
+ * Then refuses WV_TOO_LARGE, WV_LIST_LENGTH for samples, WV_ENTROPY_LENGTH, WV_LOG_WORD_OUT_OF_REACH
+ * and WV_NOT_STEREO, with the slots of answer 0 and samples as it was.
  * Then, in a word, refuses WV_TRUNCATED or WV_END_OF_STREAM: answer tells of the words before it,
  * their samples are in samples, and behind them samples holds what it held. */
 uint32_t wv_read(const uint8_t *entropy, size_t entropy_len, const uint8_t *payload, size_t payload_len, size_t frames,
@@ -165,8 +168,9 @@ uint32_t wv_analyse(int32_t *passes, size_t passes_len, int32_t *buffer, size_t 
  *   keep their values.
  * answer: bits written, left medians 0, 1, 2, right medians 0, 1, 2 after the last word.
  * Refuses WV_LIST_LENGTH for answer, with nothing written.
- * Then refuses WV_TOO_LARGE, WV_LIST_LENGTH for residuals, WV_ENTROPY_LENGTH, WV_NOT_STEREO,
- * WV_OUTPUT_TOO_SHORT and WV_RESIDUAL_OUT_OF_SPAN, with the slots of answer 0 and out as it was. */
+ * Then refuses WV_TOO_LARGE, WV_LIST_LENGTH for residuals, WV_ENTROPY_LENGTH,
+ * WV_LOG_WORD_OUT_OF_REACH, WV_NOT_STEREO, WV_OUTPUT_TOO_SHORT and WV_RESIDUAL_OUT_OF_SPAN, with the
+ * slots of answer 0 and out as it was. */
 uint32_t wv_pack(const int32_t *residuals, size_t residuals_len, const uint8_t *entropy, size_t entropy_len, size_t frames,
                  uint8_t *out, size_t out_len, uint32_t *answer, size_t answer_len);
 

@@ -94,8 +94,9 @@ fn print(samples: &[i32], threshold: u32) -> Result<Vec<Click>, Box<dyn Error>> 
 fn make_passes(stored: &[StoredPass]) -> Result<Vec<Pass>, Refusal> {
     let make = |pass: &StoredPass| {
         let told = term_byte(pass.term);
-        let [seed_a, seed_b] = pass.seeds.map(|words| words.iter().copied().map(log_word).collect::<Vec<i32>>());
-        Pass::new(told.term, told.delta, pass.weights.map(weight_byte), [&seed_a, &seed_b])
+        let values = |words: &[i16]| words.iter().copied().map(log_word).collect::<Result<Vec<_>, _>>();
+        let [seed_a, seed_b] = pass.seeds.map(values);
+        Pass::new(told.term, told.delta, pass.weights.map(weight_byte), [&seed_a?, &seed_b?])
     };
     stored.iter().map(make).collect()
 }

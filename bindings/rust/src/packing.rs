@@ -27,8 +27,8 @@ impl Packed {
 /// bits of the last byte are 0, and the bytes behind it keep their values.
 ///
 /// Refuses [`Refusal::TooLarge`], [`Refusal::ListLength`], [`Refusal::EntropyLength`],
-/// [`Refusal::NotStereo`], [`Refusal::OutputTooShort`] and [`Refusal::ResidualOutOfSpan`]; `out` is
-/// then as it was.
+/// [`Refusal::LogWordOutOfReach`], [`Refusal::NotStereo`], [`Refusal::OutputTooShort`] and
+/// [`Refusal::ResidualOutOfSpan`]; `out` is then as it was.
 ///
 /// ```
 /// use wavpack_stereo::{BYTES_PER_FRAME, Refusal, pack};
@@ -43,4 +43,16 @@ pub fn pack(residuals: &[i32], entropy: &[u8], frames: usize, out: &mut [u8]) ->
     let mut answer = [0; 7];
     Refusal::outcome(ffi::pack(residuals, entropy, frames, out, &mut answer))?;
     Ok(Packed::from_slots(answer))
+}
+
+#[cfg(test)]
+mod tests {
+    use super::*;
+
+    #[test]
+    fn a_log_word_out_of_reach_tells_zeros() {
+        let (mut out, mut answer) = ([77; BYTES_PER_FRAME], [77; 8]);
+        let number = ffi::pack(&[3, -1], &[0, 32, 0, 0, 0, 0], 1, &mut out, &mut answer);
+        assert_eq!((number, out, answer), (17, [77; BYTES_PER_FRAME], [0, 0, 0, 0, 0, 0, 0, 77]));
+    }
 }

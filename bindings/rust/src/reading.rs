@@ -49,10 +49,10 @@ impl From<ReadError> for Refusal {
 /// An entropy payload of 12 bytes is stereo whatever it holds: three right medians of 0 are a right
 /// channel that starts silent.
 ///
-/// Refuses [`Refusal::TooLarge`], [`Refusal::ListLength`], [`Refusal::EntropyLength`] and
-/// [`Refusal::NotStereo`], with `samples` as it was; then, in a word, [`Refusal::Truncated`] or
-/// [`Refusal::EndOfStream`], with the samples of the words before it in `samples` and, behind them,
-/// what it held.
+/// Refuses [`Refusal::TooLarge`], [`Refusal::ListLength`], [`Refusal::EntropyLength`],
+/// [`Refusal::LogWordOutOfReach`] and [`Refusal::NotStereo`], with `samples` as it was; then, in a word,
+/// [`Refusal::Truncated`] or [`Refusal::EndOfStream`], with the samples of the words before it in
+/// `samples` and, behind them, what it held.
 ///
 /// ```
 /// use wavpack_stereo::{Refusal, read};
@@ -78,5 +78,17 @@ pub fn read(entropy: &[u8], payload: &[u8], frames: usize, samples: &mut [i32]) 
     match outcome {
         Ok(()) => Ok(reading),
         Err(refusal) => Err(ReadError { refusal, reading }),
+    }
+}
+
+#[cfg(test)]
+mod tests {
+    use super::*;
+
+    #[test]
+    fn a_log_word_out_of_reach_tells_zeros() {
+        let (mut samples, mut answer) = ([77; 2], [77; 9]);
+        let number = ffi::read(&[0, 32, 0, 0, 0, 0], &[0x7e, 0x02], 1, &mut samples, &mut answer);
+        assert_eq!((number, samples, answer), (17, [77; 2], [0, 0, 0, 0, 0, 0, 0, 0, 77]));
     }
 }

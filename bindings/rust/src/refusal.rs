@@ -74,6 +74,7 @@ refusals! {
     14 NotWave "no sound file of the one form that is taken, or a rate outside 1 to 192,000",
     15 FieldAbove31 "a field above 31",
     16 NotReinsertable "a sample that is the image of no sample",
+    17 LogWordOutOfReach "a log word of 8192 or more, or of -8192 or less",
 }
 
 impl Refusal {
@@ -98,7 +99,7 @@ mod tests {
         for number in (1..100).chain([u32::MAX]) {
             let refusal = Refusal::outcome(number).unwrap_err();
             assert_eq!(refusal.number(), number);
-            assert_eq!(matches!(refusal, Refusal::Unknown { .. }), number > 16);
+            assert_eq!(matches!(refusal, Refusal::Unknown { .. }), number > 17);
         }
     }
 }

@@ -11,17 +11,22 @@ pub struct TermByte {
     pub delta: Delta,
 }
 
-/// The signed value of a log word.
+/// The signed value of a log word, -2,143,289,344 to 2,143,289,344.
+///
+/// Refuses [`Refusal::LogWordOutOfReach`].
 ///
 /// ```
-/// assert_eq!(wavpack_stereo::log_word(2304), 256);
-/// assert_eq!(wavpack_stereo::log_word(-256), -1);
+/// use wavpack_stereo::{Refusal, log_word};
+/// assert_eq!(log_word(2304), Ok(256));
+/// assert_eq!(log_word(-256), Ok(-1));
+/// assert_eq!(log_word(8191), Ok(2_143_289_344));
+/// assert_eq!(log_word(8192), Err(Refusal::LogWordOutOfReach));
+/// assert_eq!(log_word(-8192), Err(Refusal::LogWordOutOfReach));
 /// ```
-pub fn log_word(word: i16) -> i32 {
+pub fn log_word(word: i16) -> Result<i32, Refusal> {
     let mut value = [0];
-    // Only a list without a slot is refused.
-    ffi::log_word(word, &mut value);
-    value[0]
+    Refusal::outcome(ffi::log_word(word, &mut value))?;
+    Ok(value[0])
 }
 
 /// The term and the delta of a term byte.
@@ -53,16 +58,47 @@ pub fn weight_byte(byte: u8) -> Weight {
 /// The signed medians of an entropy payload of 6 bytes (mono: the right ones are 0) or 12 bytes
 /// (stereo).
 ///
-/// Refuses [`Refusal::EntropyLength`].
+/// Refuses [`Refusal::EntropyLength`], then [`Refusal::LogWordOutOfReach`] for one of its three or six
+/// log words.
 ///
 /// ```
 /// use wavpack_stereo::{Refusal, entropy};
 /// let payload = [0, 1, 0, 9, 0, 0, 0, 255, 0, 1, 0, 1];
 /// assert_eq!(entropy(&payload), Ok([[1, 256, 0], [-1, 1, 1]]));
-/// assert_eq!(entropy(&payload[..11]), Err(Refusal::EntropyLength));
+///
+/// // The second word is 8192, whose bytes are 0 and 32.
+/// let worn = [0, 1, 0, 32, 0, 0];
+/// assert_eq!(entropy(&worn), Err(Refusal::LogWordOutOfReach));
+/// assert_eq!(entropy(&worn[..5]), Err(Refusal::EntropyLength));
 /// ```
 pub fn entropy(payload: &[u8]) -> Result<Medians<i32>, Refusal> {
     let mut medians = [0; 6];
     Refusal::outcome(ffi::entropy(payload, &mut medians))?;
     Ok(Medians::from_slots(medians))
+}
+
+#[cfg(test)]
+mod tests {
+    use super::*;
+
+    #[test]
+    fn a_refused_log_word_leaves_its_list() {
+        for word in i16::MIN..=i16::MAX {
+            let (mut value, out_of_reach) = ([77; 2], word >= 8192 || word <= -8192);
+            assert_eq!(ffi::log_word(word, &mut []), 6);
+            assert_eq!(ffi::log_word(word, &mut value), if out_of_reach { 17 } else { 0 }, "{word}");
+            assert_eq!(value, [if out_of_reach { 77 } else { log_word(word).unwrap() }, 77]);
+        }
+    }
+
+    #[test]
+    fn a_refused_payload_leaves_its_list() {
+        for word in 0..6 {
+            let (mut payload, mut medians) = ([0; 12], [77; 7]);
+            payload[2 * word + 1] = 32;
+            assert_eq!(ffi::entropy(&payload, &mut medians), 17);
+            assert_eq!(ffi::entropy(&payload[..11], &mut medians), 1);
+            assert_eq!(medians, [77; 7]);
+        }
+    }
 }

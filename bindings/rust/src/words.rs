@@ -56,7 +56,8 @@ impl WordState {
 
     /// The state before the first word of a block with this entropy payload.
     ///
-    /// Refuses as [`read`] refuses a payload: [`Refusal::EntropyLength`], [`Refusal::NotStereo`].
+    /// Refuses as [`read`] refuses a payload: [`Refusal::EntropyLength`],
+    /// [`Refusal::LogWordOutOfReach`], [`Refusal::NotStereo`].
     pub fn from_entropy(entropy: &[u8]) -> Result<WordState, Refusal> {
         // A reading of no frames reads no bit and tells the medians that it starts from.
         let reading = read(entropy, &[], 0, &mut [])?;

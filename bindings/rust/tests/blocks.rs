@@ -28,8 +28,8 @@ fn take_words(file: &mut &[u8], count: usize) -> Vec<i16> {
 fn take_pass(file: &mut &[u8]) -> Result<Pass, Refusal> {
     let (head, words) = (take(file, 4), take_words(file, 16));
     let (told, seeds) = (term_byte(head[0]), usize::from(head[3]));
-    let seed = |from: usize| words[from..from + seeds].iter().copied().map(log_word).collect::<Vec<i32>>();
-    Pass::new(told.term, told.delta, [head[1], head[2]].map(weight_byte), [&seed(0), &seed(8)])
+    let seed = |from: usize| words[from..from + seeds].iter().copied().map(log_word).collect::<Result<Vec<_>, _>>();
+    Pass::new(told.term, told.delta, [head[1], head[2]].map(weight_byte), [&seed(0)?, &seed(8)?])
 }
 
 fn take_block(file: &mut &[u8]) -> Result<Block, Refusal> {

@@ -1,4 +1,8 @@
-//! Each refusal, reached through the safe functions, and that the lent lists are then as they were.
+//! Each refusal, reached through the safe functions, and that the lent lists are then as they were. More
+//! of the log words out of reach is in reach.rs.
+mod marks;
+
+use marks::{unpacked, unread};
 use wavpack_stereo::{
     Delta, Int32Info, MAX_ELEMENTS, MAX_FRAMES, MAX_PASSES, MAX_PAYLOAD_BYTES, MAX_RATE, MAX_WAVE_BYTES, Pass, Reading,
     Refusal, WAVE_HEADER_BYTES, Weight, WordState, analyse, deconstruct_int32, decorrelate, entropy, pack, read,
@@ -7,15 +11,8 @@ use wavpack_stereo::{
 
 const ONES: [u8; 12] = [0, 1, 0, 1, 0, 1, 0, 1, 0, 1, 0, 1];
 const PAYLOAD: [u8; 2] = [0x7e, 0x02];
-
-/// A reading into `length` marks that is refused before any word.
-fn unread(entropy: &[u8], payload: &[u8], frames: usize, length: usize) -> Refusal {
-    let mut samples = vec![77; length];
-    let error = read(entropy, payload, frames, &mut samples).unwrap_err();
-    assert_eq!(error.reading, Reading::default());
-    assert!(samples.iter().all(|&sample| sample == 77));
-    error.refusal
-}
+/// The last log word is 8192.
+const WORN: [u8; 12] = [0, 1, 0, 1, 0, 1, 0, 1, 0, 1, 0, 32];
 
 #[test]
 fn readings() {
@@ -25,6 +22,7 @@ fn readings() {
     assert_eq!(unread(&ONES, &PAYLOAD, 1, 1), Refusal::ListLength);
     assert_eq!(unread(&ONES, &PAYLOAD, 1, 3), Refusal::ListLength);
     assert_eq!(unread(&[], &PAYLOAD, 1, 2), Refusal::EntropyLength);
+    assert_eq!(unread(&WORN, &PAYLOAD, 1, 2), Refusal::LogWordOutOfReach);
     assert_eq!(unread(&ONES[..6], &PAYLOAD, 1, 2), Refusal::NotStereo);
     let reading = read(&ONES, &[], 0, &mut []).unwrap();
     assert_eq!(reading, Reading { bits_used: 0, medians: [[1; 3]; 2], written: 0 });
@@ -95,6 +93,8 @@ fn entropy_payloads() {
     }
     assert_eq!(entropy(&ONES[..6]), Ok([[1; 3], [0; 3]]));
     assert_eq!(WordState::from_entropy(&ONES[..6]), Err(Refusal::NotStereo));
+    assert_eq!(entropy(&WORN), Err(Refusal::LogWordOutOfReach));
+    assert_eq!(WordState::from_entropy(&WORN), Err(Refusal::LogWordOutOfReach));
 }
 
 #[test]
@@ -130,18 +130,13 @@ fn passes() {
 
 #[test]
 fn packings() {
-    let refused = |residuals: &[i32], entropy: &[u8], frames: usize, room: usize| {
-        let mut out = vec![77; room];
-        let refusal = pack(residuals, entropy, frames, &mut out).unwrap_err();
-        assert!(out.iter().all(|&byte| byte == 77));
-        refusal
-    };
-    assert_eq!(refused(&[], &ONES, MAX_FRAMES + 1, 0), Refusal::TooLarge);
-    assert_eq!(refused(&[3], &ONES, 1, 28), Refusal::ListLength);
-    assert_eq!(refused(&[3, -1], &ONES[..11], 1, 28), Refusal::EntropyLength);
-    assert_eq!(refused(&[3, -1], &ONES[..6], 1, 28), Refusal::NotStereo);
-    assert_eq!(refused(&[3, -1], &ONES, 1, 27), Refusal::OutputTooShort);
-    assert_eq!(refused(&[3, 1_879_048_192], &ONES, 1, 28), Refusal::ResidualOutOfSpan);
+    assert_eq!(unpacked(&[], &ONES, MAX_FRAMES + 1, 0), Refusal::TooLarge);
+    assert_eq!(unpacked(&[3], &ONES, 1, 28), Refusal::ListLength);
+    assert_eq!(unpacked(&[3, -1], &ONES[..11], 1, 28), Refusal::EntropyLength);
+    assert_eq!(unpacked(&[3, -1], &WORN, 1, 28), Refusal::LogWordOutOfReach);
+    assert_eq!(unpacked(&[3, -1], &ONES[..6], 1, 28), Refusal::NotStereo);
+    assert_eq!(unpacked(&[3, -1], &ONES, 1, 27), Refusal::OutputTooShort);
+    assert_eq!(unpacked(&[3, 1_879_048_192], &ONES, 1, 28), Refusal::ResidualOutOfSpan);
     assert_eq!(pack(&[], &ONES, 0, &mut []).unwrap().bytes(), 0);
 }
 

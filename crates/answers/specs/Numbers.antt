@@ -23,6 +23,7 @@ numberOf Refusal.SampleOutOfSpan = 13
 numberOf Refusal.NotWave = 14
 numberOf Refusal.FieldAbove31 = 15
 numberOf Refusal.NotReinsertable = 16
+numberOf Refusal.LogWordOutOfReach = 17
 
 -- the number of an outcome: 0 means accepted
 abbrev pub outcomeNumber : Outcome → ℕ

@@ -2,11 +2,12 @@
 // enum for all of them, and what an entry answers. Every entry answers with an `Outcome`; none
 // refuses for a reason that is not listed here.
 ghost use mathlib.Core.Path.{_≡_};
+ghost use Rattle.answers.specs.Guard.{orElse};
 ghost use Rattle.answers.specs.Numbers.{numberOf, outcomeNumber};
 
 pub mod limits;
 
-// A reason to refuse. The order is that of the numbers 1 to 16.
+// A reason to refuse. The order is that of the numbers 1 to 17.
 pub enum Refusal {
     // The entropy payload is neither 6 nor 12 bytes long.
     EntropyLength,
@@ -40,6 +41,8 @@ pub enum Refusal {
     FieldAbove31,
     // A wide sample is the image of no sample under the redundancy setting.
     NotReinsertable,
+    // A log word is 8192 or more, or -8192 or less.
+    LogWordOutOfReach,
 }
 
 // What an entry says: that it accepted its input, or why not.
@@ -48,7 +51,7 @@ pub enum Outcome {
     Refused(Refusal),
 }
 
-// The number of a refusal, 1 to 16.
+// The number of a refusal, 1 to 17.
 pub fn number(refusal: Refusal) -> u32
     ensures { λ r. ⌜ r ≡ numberOf refusal ⌝ }
 {
@@ -69,6 +72,7 @@ pub fn number(refusal: Refusal) -> u32
         Refusal::NotWave => 14,
         Refusal::FieldAbove31 => 15,
         Refusal::NotReinsertable => 16,
+        Refusal::LogWordOutOfReach => 17,
     }
 }
 
@@ -80,4 +84,14 @@ pub fn outcome_number(outcome: Outcome) -> u32
         Outcome::Accepted => 0,
         Outcome::Refused(refusal) => number(refusal),
     }
+}
+
+// The first of two outcomes that is a refusal.
+pub fn or_else(first: Outcome, later: Outcome) -> Outcome
+    ensures { λ r. ⌜ outcomeNumber r ≡ orElse (outcomeNumber first) (outcomeNumber later) ⌝ }
+{
+    let Outcome::Accepted = first else {
+        return first;
+    };
+    later
 }

@@ -1,9 +1,11 @@
 // The parts of a stored block: words of two bytes, the low one first, and passes of 36 bytes.
 use answers::Outcome;
 use answers::Refusal;
+use answers::or_else;
 use answers::outcome_number;
 use decorrelation::DecorrPass;
 use little_endian::signed_word;
+use logpack::LogWordAnswer;
 use logpack::expand_log_word;
 use pass_bytes::decode_term_byte;
 use pass_bytes::expand_weight_byte;
@@ -13,6 +15,24 @@ use passes::PassAnswer;
 pub struct Passes {
     pub complete: bool,
     pub list: [DecorrPass; 16],
+}
+
+// The seeds of one channel, and the refusal of one that is out of reach.
+struct Seeds {
+    outcome: Outcome,
+    values: [i32; 8],
+}
+
+// A pass that runs no step: what stands behind the passes of a block.
+fn no_pass() -> DecorrPass {
+    DecorrPass {
+        term: 0,
+        delta: 0,
+        weight_a: 0,
+        weight_b: 0,
+        history_a: [0i32; 8],
+        history_b: [0i32; 8],
+    }
 }
 
 fn word(low: u8, high: u8) -> u16 {
@@ -46,22 +66,24 @@ pub fn holds(bytes: &[u8], list: &[i32]) -> bool {
     true
 }
 
-// The value of the log word with this index.
-fn log_word_at(bytes: &[u8], index: usize) -> i32 {
+// The value of the log word with this index, or its refusal.
+fn log_word_at(bytes: &[u8], index: usize) -> LogWordAnswer {
     let word = word_at(bytes, index);
     expand_log_word((word % 256) as u8, (word / 256) as u8)
 }
 
-// The values of eight log words.
-fn seeds_of(bytes: &[u8]) -> [i32; 8] {
-    let mut seeds = [0i32; 8];
+// The values of eight log words, and the first refusal of one.
+fn seeds_of(bytes: &[u8]) -> Seeds {
+    let mut outcome = Outcome::Accepted;
+    let mut values = [0i32; 8];
     let mut i: usize = 0;
     while i < 8 {
-        let value = log_word_at(bytes, i);
-        seeds[i] = value;
+        let word = log_word_at(bytes, i);
+        outcome = or_else(outcome, word.outcome);
+        values[i] = word.value;
         i += 1;
     }
-    seeds
+    Seeds { outcome, values }
 }
 
 // The pass of 36 bytes: the term byte, both weight bytes, how many seeds a channel has, and eight
@@ -70,27 +92,24 @@ fn pass_of(bytes: [u8; 36]) -> PassAnswer {
     let term = decode_term_byte(bytes[0]);
     let seed_a = seeds_of(&bytes[4..20]);
     let seed_b = seeds_of(&bytes[20..]);
+    let outcome = or_else(seed_a.outcome, seed_b.outcome);
+    let Outcome::Accepted = outcome else {
+        return PassAnswer {
+            outcome,
+            pass: no_pass(),
+        };
+    };
+    let values_a = seed_a.values;
+    let values_b = seed_b.values;
     let count = (bytes[3] % 9) as usize;
     DecorrPass::new(
         term.term,
         term.delta,
         expand_weight_byte(bytes[1]),
         expand_weight_byte(bytes[2]),
-        &seed_a[..count],
-        &seed_b[..count],
+        &values_a[..count],
+        &values_b[..count],
     )
-}
-
-// A pass that runs no step: what stands behind the passes of a block.
-fn no_pass() -> DecorrPass {
-    DecorrPass {
-        term: 0,
-        delta: 0,
-        weight_a: 0,
-        weight_b: 0,
-        history_a: [0i32; 8],
-        history_b: [0i32; 8],
-    }
 }
 
 // The next pass of the file.

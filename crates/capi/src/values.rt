@@ -2,12 +2,12 @@
 // was.
 ghost use mathlib.Core.Path.{_≡_};
 ghost use Rattle.slots.specs.Slots.{slotRefusal, leaveValues};
-ghost use Rattle.value_slots.specs.Values.{logWordValues, termByteValues, weightByteValues, entropyValues, entropyAnswer};
+ghost use Rattle.value_slots.specs.Values.{logWordValues, logWordAnswer, termByteValues, weightByteValues, entropyValues, entropyAnswer};
 
-// The value of a log word, into 1 slot. Refuses 6.
+// The value of a log word, into 1 slot. Refuses 6, then 17.
 #[no_mangle]
 pub extern "C" fn wv_log_word(word: i16, value: &mut [i32]) -> u32
-    ensures answer { λ r. ⌜ r ≡ slotRefusal 1 (now (value .entry)) ⌝ }
+    ensures answer { λ r. ⌜ r ≡ logWordAnswer word (now (value .entry)) ⌝ }
     ensures value { λ r. ⌜
         now (value .exit) ≡ leaveValues r (logWordValues word) (now (value .entry))
         ⌝ }
@@ -37,7 +37,8 @@ pub extern "C" fn wv_weight_byte(byte: u8, out: &mut [i32]) -> u32
     value_slots::weight_byte(byte, out)
 }
 
-// The signed medians of an entropy payload, left then right, into 6 slots. Refuses 6, then 1.
+// The signed medians of an entropy payload, left then right, into 6 slots. Refuses 6, then 1, then
+// 17.
 #[no_mangle]
 pub extern "C" fn wv_entropy(entropy: &[u8], medians: &mut [i32]) -> u32
     ensures answer { λ r. ⌜ r ≡ entropyAnswer (now (entropy .entry)) (now (medians .entry)) ⌝ }

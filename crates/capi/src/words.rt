@@ -6,7 +6,7 @@ ghost use Rattle.word_slots.specs.Calls.{readCall, wordCall};
 
 // The samples of `frames` frames into `samples`, left then right; bits used, left medians, right
 // medians and samples written into 8 slots of `answer`. Refuses 6 for `answer`, with nothing
-// written; then, with `answer` written, 5, 6, 1, 2, and 3 or 4 in a word.
+// written; then, with `answer` written, 5, 6, 1, 17, 2, and 3 or 4 in a word.
 #[no_mangle]
 pub extern "C" fn wv_read(
     entropy: &[u8],

@@ -1,11 +1,13 @@
 // Document 01, "Proved cases (*) and others" (C10): the cases that are run only, fields through a
-// reader, a zero right set (document 02, §2: Q2.1 to Q2.3) and pass lists joined (§4). Each prints a
-// line, what it is, the refusal number (0 means accepted) and the values that were answered. What is
-// printed is held to the file `stdout`.
+// reader, a zero right set (document 02, §2: Q2.1 to Q2.3), log words out of reach (§7: Q7.1 to Q7.3)
+// and pass lists joined (§4). Each prints a line, what it is, the refusal number (0 means accepted)
+// and the values that were answered. What is printed is held to the file `stdout`.
 mod joined;
+mod reach;
 
 use crate::joined::run_joined;
 use crate::joined::run_seventeen;
+use crate::reach::run_reach;
 use answers::outcome_number;
 use bit_reader::field_at;
 use bits::BitAnswer;
@@ -64,7 +66,7 @@ pub(crate) fn print_values(values: &[i32]) {
 }
 
 // An entropy payload, and its six medians.
-fn run_entropy(name: &[u8], payload: &[u8]) {
+pub(crate) fn run_entropy(name: &[u8], payload: &[u8]) {
     let answer = entropy::expand_entropy(payload);
     let outcome = answer.outcome;
     let info = answer.info;
@@ -77,7 +79,7 @@ fn run_entropy(name: &[u8], payload: &[u8]) {
 
 // One frame of a packed payload: the bits used, the samples written, and the list, which held 77
 // before.
-fn run_reading_from(name: &[u8], entropy: &[u8], payload: &[u8]) {
+pub(crate) fn run_reading_from(name: &[u8], entropy: &[u8], payload: &[u8]) {
     let mut list = [77, 77];
     let answer = decode_packed_samples_stereo_from_entropy(entropy, payload, 1, &mut list);
     let outcome = answer.outcome;
@@ -95,7 +97,7 @@ fn run_reading(name: &[u8], payload: &[u8]) {
 
 // The frame 3 -1, packed: the bits written, and the first two bytes of the buffer, which held 77
 // before.
-fn run_packing(name: &[u8], entropy: &[u8]) {
+pub(crate) fn run_packing(name: &[u8], entropy: &[u8]) {
     let mut out = [77u8; 28];
     let answer = encode_packed_samples_stereo_from_entropy(&[3, -1], entropy, 1, &mut out);
     let outcome = answer.outcome;
@@ -189,6 +191,7 @@ fn main() {
     run_trip(b"right medians 0, round trip", &left_only);
     run_reading_from(b"6 entropy bytes, read", &left_only[..6], &word);
     run_packing(b"6 entropy bytes, packed", &left_only[..6]);
+    run_reach();
     run_joined();
     run_seventeen();
 }

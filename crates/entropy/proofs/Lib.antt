@@ -3,4 +3,6 @@ pub mod SignTests
 pub mod EntropyLaws
 pub mod SeedLaws
 pub mod SeedBounds
+pub mod ReasonLaws
 pub mod SilentLaws
+pub mod ReachLaws

@@ -1,4 +1,4 @@
--- The seed medians are numbers of 32 bits, and a refusal of a payload is 1 or 2.
+-- The seed medians are numbers of 32 bits, and a refusal of a payload is at most 17.
 -- Assumes nothing.
 use mathlib.Core.Path.{_≡_, refl}
 use mathlib.Core.Bool.{Bool, true, false, cond, _||_}
@@ -14,7 +14,7 @@ use Rattle.answers.specs.Guard.{orElse}
 use Rattle.logpack.proofs.LogWordLaws.{logWord-fits}
 use Rattle.entropy.specs.declared.EntropyInfo.{EntropyInfo}
 use Rattle.entropy.specs.Medians.{MedianPair, Small, mediansOf, zeroSet, zeroPair}
-use Rattle.entropy.specs.Entropy.{wordSet, zeroWords, entropyInfo, entropyRefusal}
+use Rattle.entropy.specs.Entropy.{wordSet, zeroWords, pastReach, lengthRefusal, entropyInfo, entropyRefusal}
 use Rattle.entropy.specs.Seed.{isNegative, notStereo, seedRefusal, seedSet, seedPair, seedMedians}
 use Rattle.entropy.proofs.EntropyLaws.{info-cases}
 use Rattle.entropy.proofs.SeedLaws.{NoneNegative, none-negative, stereo}
@@ -83,11 +83,15 @@ pub cond-le : (t : Bool) (a b n : ℕ) → a ≤ n → b ≤ n → cond t a b �
 cond-le true a b n h k = h
 cond-le false a b n h k = k
 
+-- of two refusals, the first that applies
+or-le : (a b n : ℕ) → a ≤ n → b ≤ n → orElse a b ≤ n
+or-le zero b n h k = k
+or-le (suc a) b n h k = h
+
 -- the refusal of a payload
-pub seed-le : (p : List ℕ) → seedRefusal p ≤ 2
+pub seed-le : (p : List ℕ) → seedRefusal p ≤ 17
 unfolding seedRefusal entropyRefusal
-seed-le p = go (cond (eqb (length p) 6 || eqb (length p) 12) 0 1) (cond-le (eqb (length p) 6 || eqb (length p) 12) 0 1 2 (omega arith) (omega arith))
-  where
-    go : (c : ℕ) → c ≤ 2 → orElse c (cond (notStereo p) 2 0) ≤ 2
-    go zero h = cond-le (notStereo p) 2 0 2 (omega arith) (omega arith)
-    go (suc c) h = h
+seed-le p =
+    or-le (entropyRefusal p) (cond (notStereo p) 2 0) 17
+    (or-le (lengthRefusal p) (cond (pastReach p) 17 0) 17 (cond-le (eqb (length p) 6 || eqb (length p) 12) 0 1 17 (omega arith) (omega arith)) (cond-le (pastReach p) 17 0 17 (omega arith) (omega arith)))
+    (cond-le (notStereo p) 2 0 17 (omega arith) (omega arith))

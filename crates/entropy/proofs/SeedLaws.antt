@@ -17,6 +17,7 @@ use Rattle.answers.specs.declared.Refusal.{Refusal}
 use Rattle.answers.specs.declared.Outcome.{Outcome}
 use Rattle.answers.specs.Numbers.{outcomeNumber}
 use Rattle.answers.proofs.NumberLaws.{number-positive}
+use Rattle.answers.proofs.TestLaws.{neither}
 use Rattle.entropy.specs.declared.EntropyInfo.{EntropyInfo}
 use Rattle.entropy.specs.Medians.{Medians, MedianPair, zeroPair}
 use Rattle.entropy.specs.Entropy.{entropyInfo, entropyRefusal, isMono}
@@ -26,13 +27,13 @@ use Rattle.entropy.specs.Seed.{isNegative, anyNegative, notStereo, seedR
 abbrev pub Seeds : List ℕ → ℕ → MedianPair → Type 0
 Seeds payload n pair = (n ≡ seedRefusal payload) × (pair ≡ seedMedians payload)
 
--- a payload of another length is refused with its number
+-- a payload that is refused before its signs are asked is refused with that number
 pub length-refused : (p : List ℕ) (n : ℕ) → 0 < n → n ≡ entropyRefusal p → Seeds p n zeroPair
 unfolding seedMedians seedRefusal
 length-refused p zero h e = absurd (omega arith)
 length-refused p (suc n) h e = rw (← e) (refl, simp eqb·suc-zero)
 
--- a payload of the right length is refused with 2 where it is mono or has a negative median
+-- any other payload is refused with 2 where it is mono or has a negative median
 pub not-stereo : (p : List ℕ) → 0 ≡ entropyRefusal p → notStereo p ≡ true → Seeds p 2 zeroPair
 unfolding seedMedians seedRefusal
 not-stereo p e t = rw (← e, t) (refl, refl)
@@ -48,23 +49,15 @@ pub record NoneNegative (set : List ℤ) : Type 0 where
   pub n1 : isNegative (getD set 1 (pos 0)) ≡ false
   pub n2 : isNegative (getD set 2 (pos 0)) ≡ false
 
--- what is not one thing or another is neither
-or-left : (a b : Bool) → (a || b) ≡ false → a ≡ false
-or-left true b e = e
-or-left false b e = refl
-
-or-right : (a b : Bool) → (a || b) ≡ false → b ≡ false
-or-right true b e = cc
-or-right false b e = e
-
 pub none-negative : (set : List ℤ) → anyNegative set ≡ false → NoneNegative set
 unfolding anyNegative
 none-negative set e =
     let a = isNegative (getD set 0 (pos 0)) in
     let b = isNegative (getD set 1 (pos 0)) in
     let d = isNegative (getD set 2 (pos 0)) in
-    let f : (a || b) ≡ false = or-left (a || b) d e in
-    record { n0 = or-left a b f; n1 = or-right a b f; n2 = or-right (a || b) d e }
+    let all = neither (a || b) d e in
+    let two = neither a b (all .0) in
+    record { n0 = two .0; n1 = two .1; n2 = all .1 }
 
 -- the test behind refusal 2, by what the code finds of the payload and of what it expands to
 pub not-stereo-by :
@@ -84,7 +77,8 @@ stereo p e =
     let m = isMono p in
     let a = anyNegative (entropyInfo p .«medians_left») in
     let b = anyNegative (entropyInfo p .«medians_right») in
-    record { left = or-right m a (or-left (m || a) b e); right = or-right (m || a) b e }
+    let all = neither (m || a) b e in
+    record { left = neither m a (all .0) .1; right = all .1 }
 
 -- nor has what it expands to, as the code holds it
 pub stereo-raw : (p : List ℕ) (i : EntropyInfo) → i ≡ entropyInfo p → notStereo p ≡ false → Stereo i

@@ -1,22 +1,28 @@
 -- Document 01, "Entropy": what an entropy payload holds.
 -- Assumes nothing.
 use Prim.Native.Nat.{ℕ, suc}
-use mathlib.Core.Bool.{Bool, cond, _||_}
+use mathlib.Core.Bool.{Bool, false, cond, _||_}
 use mathlib.Core.List.{List, [], _∷_}
 use lib.Dec.{eqb}
 use lib.IntN.{ℤ, pos}
 use lib.ListN.{length, getD, drop}
+use Rattle.answers.specs.Guard.{orElse, unlessRefused}
 use Rattle.little_endian.specs.LittleEndian.{signedWord}
 use Rattle.logpack.specs.LogWord.{logWord}
+use Rattle.logpack.specs.Reach.{outOfReach}
 use Rattle.entropy.specs.declared.EntropyInfo.{EntropyInfo}
 
--- document 01, "Entropy" (E1): the signed little-endian 16-bit log word at byte i, expanded
+-- document 01, "Entropy" (E1): the signed little-endian 16-bit log word at byte i
 abbrev pub wordAt : List ℕ → ℕ → ℤ
-wordAt bytes i = logWord (signedWord (getD bytes i 0) (getD bytes (suc i) 0))
+wordAt bytes i = signedWord (getD bytes i 0) (getD bytes (suc i) 0)
 
--- three of them: a set of medians
+-- three of them, expanded: a set of medians
 unfoldable pub wordSet : List ℕ → List ℤ
-wordSet bytes = wordAt bytes 0 ∷ wordAt bytes 2 ∷ wordAt bytes 4 ∷ []
+wordSet bytes = logWord (wordAt bytes 0) ∷ logWord (wordAt bytes 2) ∷ logWord (wordAt bytes 4) ∷ []
+
+-- document 02, §7 (Q7.2): one of a set's three log words is out of reach
+abbrev pub setOutOfReach : List ℕ → Bool
+setOutOfReach bytes = outOfReach (wordAt bytes 0) || outOfReach (wordAt bytes 2) || outOfReach (wordAt bytes 4)
 
 -- a set of zeros
 abbrev pub zeroWords : List ℤ
@@ -30,7 +36,7 @@ monoInfo payload = record { «medians_left» = wordSet payload; «medians_right�
 abbrev pub stereoInfo : List ℕ → EntropyInfo
 stereoInfo payload = record { «medians_left» = wordSet payload; «medians_right» = wordSet (drop 6 payload) }
 
--- a payload of another length holds no set
+-- a payload that is refused tells of no set
 abbrev pub noInfo : EntropyInfo
 noInfo = record { «medians_left» = zeroWords; «medians_right» = zeroWords }
 
@@ -38,11 +44,20 @@ noInfo = record { «medians_left» = zeroWords; «medians_right» = zeroWords }
 unfoldable pub isMono : List ℕ → Bool
 isMono payload = eqb (length payload) 6
 
+-- document 02, §7 (Q7.2): one of a payload's log words is out of reach, three of a mono payload and
+-- six of a stereo one
+abbrev pub pastReach : List ℕ → Bool
+pastReach payload = setOutOfReach payload || cond (isMono payload) false (setOutOfReach (drop 6 payload))
+
+-- document 01, "Why each operation says no" (X1): 1, length not 6 or 12
+abbrev pub lengthRefusal : List ℕ → ℕ
+lengthRefusal payload = cond (eqb (length payload) 6 || eqb (length payload) 12) 0 1
+
+-- document 02, §7 (Q7.2): "17 .. after 1"; 0 means accepted
+unfoldable pub entropyRefusal : List ℕ → ℕ
+entropyRefusal payload = orElse (lengthRefusal payload) (cond (pastReach payload) 17 0)
+
 -- document 01, "Entropy" (E1): "6 bytes are mono, 12 stereo"
 unfoldable pub entropyInfo : List ℕ → EntropyInfo
 entropyInfo payload =
-    cond (isMono payload) (monoInfo payload) (cond (eqb (length payload) 12) (stereoInfo payload) noInfo)
-
--- document 01, "Why each operation says no" (X1): 1, length not 6 or 12
-unfoldable pub entropyRefusal : List ℕ → ℕ
-entropyRefusal payload = cond (eqb (length payload) 6 || eqb (length payload) 12) 0 1
+    unlessRefused (entropyRefusal payload) (λ number. noInfo) (cond (isMono payload) (monoInfo payload) (stereoInfo payload))

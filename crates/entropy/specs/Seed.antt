@@ -28,12 +28,13 @@ notStereo payload =
     isMono payload || anyNegative (entropyInfo payload .«medians_left»)
     || anyNegative (entropyInfo payload .«medians_right»)
 
--- document 01 (X2): the refusals about the entropy payload, 1 before 2; 0 means accepted
+-- document 01 (X2), document 02, §7 (Q7.3): the refusals about the entropy payload, 1 before 17 and
+-- 17 before 2; 0 means accepted
 unfoldable pub seedRefusal : List ℕ → ℕ
 seedRefusal payload = orElse (entropyRefusal payload) (cond (notStereo payload) 2 0)
 
 -- document 01, "The words of demand 3" (M4): reading accepts an entropy payload when none of the
--- refusals about it applies
+-- refusals about it applies; 17 is one of them (Q7.4)
 abbrev pub acceptsEntropy : List ℕ → Type 0
 acceptsEntropy payload = seedRefusal payload ≡ 0
 

@@ -1,2 +1,3 @@
 pub mod Exp2Table
 pub mod LogWord
+pub mod Reach

@@ -130,7 +130,7 @@ module _ (residuals : List ℤ) (entropy : List ℕ) (frames : ℕ) (buffer : Li
   refuses o p e t =
       rw (e, t .outcome-is, t .no-bits, t .no-medians) (sym (guard-refused (outcomeNumber o) (refusePacking buffer) (tellPacking buffer (packedFrom entropy residuals)) p))
 
-  -- 5, 6, 1, 2 and 11
+  -- 5, 6, 1, 17, 2 and 11
   pub refuses-before : (o : Outcome) (x : Refusal) → o ≡ Outcome.Refused x → outcomeNumber o ≡ refusalBeforeSpan (length residuals) entropy frames (length buffer)
       → PackRefuses o r → viewPacking r buffer ≡ packEntry residuals entropy frames buffer
   unfolding packRefusal

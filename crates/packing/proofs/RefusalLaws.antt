@@ -36,7 +36,7 @@ module _ (elements : ℕ) (entropy : List ℕ) (frames room : ℕ) where
   unfolding refusalBeforeSpan
   before-list f h = rw (le-ltb maxFrames frames f, ne-eqb elements (2 * frames) h)
 
-  -- 1 and 2: what is wrong with the entropy payload
+  -- 1, 17 and 2: what is wrong with the entropy payload
   pub before-seeds : frames ≤ maxFrames → elements ≡ 2 * frames → (o : Outcome) (x : Refusal) → o ≡ Outcome.Refused x → outcomeNumber o ≡ seedRefusal entropy
       → outcomeNumber o ≡ refusalBeforeSpan elements entropy frames room
   unfolding refusalBeforeSpan

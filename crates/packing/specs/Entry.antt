@@ -48,7 +48,8 @@ abbrev pub refusePacking : List ℕ → ℕ → PackTold
 refusePacking buffer number = record { refusal = number; bits = 0; medians = zeroPair; bytes = buffer }
 
 -- document 01 (X6), by the lengths and the entropy payload alone: "5, over 131,072 frames; 6,
--- residual list not twice the frames; 1; 2; 11, under 28 bytes per frame lent"; 0 for none of them
+-- residual list not twice the frames; 1; 2; 11, under 28 bytes per frame lent", and 17 between 1
+-- and 2 (Q7.3); 0 for none of them
 unfoldable pub refusalBeforeSpan : ℕ → List ℕ → ℕ → ℕ → ℕ
 refusalBeforeSpan elements entropy frames room =
     cond (ltb maxFrames frames) 5 (

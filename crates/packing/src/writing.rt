@@ -73,8 +73,8 @@ fn pack_words(residuals: &[i32], seeds: [AdaptiveMedians; 2], out: &mut [u8]) ->
 }
 
 // What packing refuses by the lengths of what is lent and by the entropy payload, before it looks
-// at a residual: 5 over 131,072 frames, 6 where there are not two residuals a frame, 1 and 2 about
-// the entropy payload, 11 where under 28 bytes a frame are lent. Writes nothing.
+// at a residual: 5 over 131,072 frames, 6 where there are not two residuals a frame, 1, 17 and 2
+// about the entropy payload, 11 where under 28 bytes a frame are lent. Writes nothing.
 pub fn refusal_before_span(elements: usize, entropy: &[u8], frames: usize, room: usize) -> Outcome
     ensures { λ r. ⌜ outcomeNumber r
         ≡ refusalBeforeSpan elements (now (entropy .entry)) frames room ⌝ }
@@ -108,7 +108,7 @@ fn refused(outcome: Outcome) -> PackAnswer
     }
 }
 
-// Answers the bits written and the medians after. Refuses with 5, 6, 1, 2 and 11 as
+// Answers the bits written and the medians after. Refuses with 5, 6, 1, 17, 2 and 11 as
 // `refusal_before_span` does, and then with 10 for a residual outside the span; the buffer then
 // keeps its bytes.
 pub fn encode_packed_samples_stereo_from_entropy(

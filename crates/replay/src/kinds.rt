@@ -55,15 +55,15 @@ fn signed_word(pattern: u16) -> i16 {
     }
 }
 
-// A log word's value; the word is the number of the record.
+// A log word's refusal and value; the word is the number of the record.
 fn next_log_word(fd: i32, record: u32) -> Step {
-    let mut bytes = [0u8; 4];
-    if io::read_full(fd, &mut bytes) < 4 {
+    let mut bytes = [0u8; 8];
+    if io::read_full(fd, &mut bytes) < 8 {
         return Step::End;
     }
     let mut value = [0i32; 1];
     let refusal = capi::wv_log_word(signed_word((record % 65536) as u16), &mut value);
-    told(refusal == 0 && holds_signed(&bytes, &value))
+    told(refusal == number_at(&bytes, 0) && holds_signed(&bytes[4..], &value))
 }
 
 // A term byte's term and delta; the byte is the number of the record.

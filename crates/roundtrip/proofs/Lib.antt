@@ -5,4 +5,6 @@ pub mod WordTrips
 pub mod ReadTrips
 pub mod TripLaws
 pub mod DemandLaws
+pub mod PayloadLaws
 pub mod SilentLaws
+pub mod ReachLaws

@@ -1,3 +1,4 @@
 pub mod Demand
 pub mod Trip
 pub mod Silent
+pub mod Reach

@@ -8,7 +8,7 @@ use Prim.Native.Nat.{ℕ, _*_, _≤_}
 use lib.IntN.{ℤ}
 use lib.ListN.{length, drop}
 use Rattle.answers.specs.Limits.{maxFrames, maxPayloadBytes, bytesPerFrame}
-use Rattle.entropy.specs.Entropy.{wordSet, zeroWords}
+use Rattle.entropy.specs.Entropy.{wordSet, zeroWords, pastReach}
 use Rattle.entropy.specs.Seed.{anyNegative}
 use Rattle.entropy.specs.Silent.{WhyTwo}
 use Rattle.samples.specs.View.{readEntry}
@@ -26,13 +26,13 @@ ReadingTwo = (entropy payload : List ℕ) (frames : ℕ) (list : List ℤ) → r
 abbrev pub PackingTwo : Type 0
 PackingTwo = (residuals : List ℤ) (entropy : List ℕ) (frames : ℕ) (buffer : List ℕ) → packEntry residuals entropy frames buffer .refusal ≡ 2 → WhyTwo entropy
 
--- (Q2.3) "Whatever is said of a recording's return covers them too": packed under 12 bytes whose
--- right set is zero and whose left set has no negative median, a recording whose residuals lie in
--- the span is returned
+-- (Q2.3) "Whatever is said of a recording's return covers them too": packed under 12 bytes in reach,
+-- whose right set is zero and whose left set has no negative median, a recording whose residuals lie
+-- in the span is returned
 abbrev pub SilentRightReturns : Type 0
 SilentRightReturns =
     (frames : ℕ) (passes : List DecorrPass) (recording : List ℤ) → frames ≤ maxFrames → WellMade passes → Recording frames recording
-    → let residuals = analysis passes recording .buffer in spanned residuals ≡ true → (entropy : List ℕ) → length entropy ≡ 12 → anyNegative (wordSet entropy) ≡ false
+    → let residuals = analysis passes recording .buffer in spanned residuals ≡ true → (entropy : List ℕ) → length entropy ≡ 12 → pastReach entropy ≡ false → anyNegative (wordSet entropy) ≡ false
     → wordSet (drop 6 entropy) ≡ zeroWords → (buffer behind : List ℕ) (list : List ℤ) → bytesPerFrame * frames ≤ length buffer
     → let p = packEntry residuals entropy frames buffer in length (packedBytes p ++ behind) ≤ maxPayloadBytes → length list ≡ 2 * frames
     → let read = readEntry entropy (packedBytes p ++ behind) frames list in Returned frames passes recording p read (decorrelation passes (read .list))

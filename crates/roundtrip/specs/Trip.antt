@@ -39,7 +39,7 @@ abbrev pub tellTrip : List ℤ → PackTold → TripTold
 tellTrip recording p = record { refusal = 0; bits = p .bits; same = true; scratch = recording; bytes = p .bytes }
 
 -- what analysis by the first `count` passes refuses (5, 9, 7), and then packing before it looks at
--- a residual (6, 1, 2, 11)
+-- a residual (6, 1, 17, 2, 11)
 abbrev pub earlyRefusal : List DecorrPass → ℕ → ℕ → List ℕ → ℕ → ℕ
 earlyRefusal passes count elements entropy room =
     orElse (analysisNumber (allValid (take count passes)) count elements) (refusalBeforeSpan elements entropy (elements / 2) room)

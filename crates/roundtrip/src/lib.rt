@@ -101,7 +101,7 @@ fn refused(outcome: Outcome) -> TripAnswer
 
 // Runs the first `count` passes' analysis on the recording, packs the residuals, reads the packed
 // bytes back, decorrelates what was read and compares. Refuses with 6 a scratch list of another
-// length, then as analysis does (5, 9, 7), then as packing does (6, 1, 2, 11), and both lent
+// length, then as analysis does (5, 9, 7), then as packing does (6, 1, 17, 2, 11), and both lent
 // storages keep their values; then with 10 a residual outside the span, which is known once the
 // scratch list holds the residuals: the packed bytes keep their values.
 pub fn round_trip(

@@ -1,5 +1,5 @@
--- What a reading tells is small: each sample has 32 bits, the refusal is at most 6, and the samples
--- written and the bits used fit 32 bits.
+-- What a reading tells is small: each sample has 32 bits, the refusal is at most 17 and one above 6
+-- comes before any bit is used, and the samples written and the bits used fit 32 bits.
 -- Assumes nothing.
 use mathlib.Core.Path.{_≡_, refl}
 use mathlib.Core.Bool.{Bool, true, false, cond, _||_}
@@ -27,7 +27,8 @@ use Rattle.samples.proofs.LocalLaws.{reading-inside}
 
 -- what is told of a payload of some bytes
 pub record SmallTold (bytes frames : ℕ) (t : ReadTold) : Type 0 where
-  pub refusal : t .refusal ≤ 6
+  pub refusal : t .refusal ≤ 17
+  pub refused-before : 6 < t .refusal → t .bits ≡ 0
   pub bits : t .bits ≤ 8 * bytes
   pub bits-small : t .bits ≤ 8 * maxPayloadBytes
   pub written : t .written ≤ 2 * frames
@@ -36,11 +37,11 @@ pub record SmallTold (bytes frames : ℕ) (t : ReadTold) : Type 0 where
 
 module _ (entropy payload : List ℕ) (frames : ℕ) (list : List ℤ) where
   -- a refusal before any word
-  pub refusal-le : readRefusal entropy payload frames list ≤ 6
+  pub refusal-le : readRefusal entropy payload frames list ≤ 17
   unfolding readRefusal
   refusal-le =
-      cond-le (ltb maxFrames frames || ltb maxPayloadBytes (length payload)) 5 (cond (eqb (length list) (2 * frames)) (seedRefusal entropy) 6) 6 (omega arith)
-      (cond-le (eqb (length list) (2 * frames)) (seedRefusal entropy) 6 6 (omega (arith, seed-le entropy)) (omega arith))
+      cond-le (ltb maxFrames frames || ltb maxPayloadBytes (length payload)) 5 (cond (eqb (length list) (2 * frames)) (seedRefusal entropy) 6) 17 (omega arith)
+      (cond-le (eqb (length list) (2 * frames)) (seedRefusal entropy) 6 17 (seed-le entropy) (omega arith))
 
   -- a reading that comes to its words has frames and payload bytes within their limits
   limits : readRefusal entropy payload frames list ≡ 0 → (frames ≤ maxFrames) × (length payload ≤ maxPayloadBytes)
@@ -69,6 +70,7 @@ module _ (entropy payload : List ℕ) (frames : ℕ) (list : List ℤ) where
           let inside = reading-inside (bitsOf payload) (2 * frames) 0 first (omega arith) in
           record {
             refusal = omega (arith, s .refusal);
+            refused-before = λ h. absurd (omega (arith, s .refusal));
             bits = omega (arith, length-bits payload, inside);
             bits-small = omega (arith, length-bits payload, l .1, inside);
             written = s .most;
@@ -77,6 +79,7 @@ module _ (entropy payload : List ℕ) (frames : ℕ) (list : List ℤ) where
           }
       go (suc c) e = record {
         refusal = omega (arith, refusal-le);
+        refused-before = λ h. refl;
         bits = omega arith;
         bits-small = omega arith;
         written = omega arith;

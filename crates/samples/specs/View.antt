@@ -84,7 +84,7 @@ tellReading list r = record {
 }
 
 -- document 01 (X2): "Reading: 5, over 131,072 frames or 4,194,304 payload bytes; 6, list length; 1;
--- 2, mono or a negative median"; 0: words follow
+-- 2, mono or a negative median", and 17 between 1 and 2 (Q7.3); 0: words follow
 unfoldable pub readRefusal : List ℕ → List ℕ → ℕ → List ℤ → ℕ
 readRefusal entropy payload frames list =
     cond (ltb maxFrames frames || ltb maxPayloadBytes (length payload)) 5 (cond (eqb (length list) (2 * frames)) (seedRefusal entropy) 6)

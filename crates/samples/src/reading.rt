@@ -145,9 +145,9 @@ fn not_read(outcome: Outcome) -> ReadAnswer
 }
 
 // The samples of `frames` frames, left then right, into `out`. Refuses with 5 over 131,072 frames
-// or 4,194,304 payload bytes, with 6 where `out` has not two elements a frame, with 1 or 2 what is
-// wrong with the entropy payload, then with 3 or 4 what a word runs into. Only a refusal in a word
-// leaves samples in `out`, those before it.
+// or 4,194,304 payload bytes, with 6 where `out` has not two elements a frame, with 1, 17 or 2 what
+// is wrong with the entropy payload, then with 3 or 4 what a word runs into. Only a refusal in a
+// word leaves samples in `out`, those before it.
 pub fn decode_packed_samples_stereo_from_entropy(
     entropy: &[u8],
     payload: &[u8],

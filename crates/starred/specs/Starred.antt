@@ -1,8 +1,9 @@
 -- Document 01, "Proved cases (*) and others": the starred cases, group by group (C11).
 -- Assumes nothing.
 use mathlib.Core.List.{List, [], _∷_}
-use lib.IntN.{pos}
-use Rattle.logpack.specs.LogWord.{logWord}
+use Prim.Native.Nat.{ℕ}
+use lib.IntN.{ℤ, pos}
+use Rattle.logpack.specs.Reach.{logWordRefusal, logWordTold}
 use Rattle.medians.specs.Adaptation.{up, down}
 use Rattle.weights.specs.Weights.{predict, updated, updatedClip}
 use Rattle.passes.specs.Making.{Made, made}
@@ -12,17 +13,21 @@ use Rattle.wvpair_text.specs.Starred.{firstInput, firstText, secondInput, secon
 use Rattle.wvpair_text.specs.Text.{wvpairText}
 use Rattle.starred.specs.Row.{Row, _gives_, minus}
 
--- "Log words 0, 256, -256, 2304, 8191, 8192, -32768 give 0, 1, -1, 256, 2143289344, -2147483648,
--- -2147483648" (C1)
+-- what the log word step answers: its refusal, 0 where there is none, and the value
+abbrev pub expanded : ℤ → ℕ × ℤ
+expanded w = (logWordRefusal w, logWordTold w)
+
+-- "Log words 0, 256, -256, 2304, 8191 .. give 0, 1, -1, 256, 2143289344" (C1); document 02, §7
+-- (Q7.5): "The 8192 and -32768 cases become refusals"
 abbrev pub logWords : List Row
 logWords =
-    (logWord (pos 0) gives pos 0)
-    ∷ (logWord (pos 256) gives pos 1)
-    ∷ (logWord (minus 256) gives minus 1)
-    ∷ (logWord (pos 2304) gives pos 256)
-    ∷ (logWord (pos 8191) gives pos 2143289344)
-    ∷ (logWord (pos 8192) gives minus 2147483648)
-    ∷ (logWord (minus 32768) gives minus 2147483648)
+    (expanded (pos 0) gives (0, pos 0))
+    ∷ (expanded (pos 256) gives (0, pos 1))
+    ∷ (expanded (minus 256) gives (0, minus 1))
+    ∷ (expanded (pos 2304) gives (0, pos 256))
+    ∷ (expanded (pos 8191) gives (0, pos 2143289344))
+    ∷ (expanded (pos 8192) gives (17, pos 0))
+    ∷ (expanded (minus 32768) gives (17, pos 0))
     ∷ []
 
 -- "Median 0 at d = 128: up 5; 2 down 0; 1 down 1; 4294967295 up stays" (C2)

@@ -5,6 +5,7 @@ use Prim.Native.Nat.{ℕ}
 use mathlib.Core.List.{List, [], _∷_, _++_}
 use lib.IntN.{ℤ}
 use Rattle.logpack.specs.LogWord.{logWord}
+use Rattle.logpack.specs.Reach.{logWordRefusal}
 use Rattle.entropy.specs.Entropy.{entropyInfo, entropyRefusal}
 use Rattle.answers.specs.Guard.{orElse}
 use Rattle.pass_bytes.specs.PassBytes.{termOfByte, deltaOfByte, weightOfByte}
@@ -13,6 +14,10 @@ use Rattle.slots.specs.Slots.{slotRefusal}
 -- `wv_log_word`: the value of the word
 abbrev pub logWordValues : ℤ → List ℤ
 logWordValues word = logWord word ∷ []
+
+-- 6 before 17 (Q7.1)
+abbrev pub logWordAnswer : ℤ → List ℤ → ℕ
+logWordAnswer word value = orElse (slotRefusal 1 value) (logWordRefusal word)
 
 -- `wv_term_byte`: the term, then the delta
 abbrev pub termByteValues : ℕ → List ℤ
@@ -26,6 +31,6 @@ weightByteValues byte = weightOfByte byte ∷ []
 abbrev pub entropyValues : List ℕ → List ℤ
 entropyValues payload = entropyInfo payload .«medians_left» ++ entropyInfo payload .«medians_right»
 
--- 6 before 1
+-- 6 before 1, and 1 before 17 (Q7.2)
 abbrev pub entropyAnswer : List ℕ → List ℤ → ℕ
 entropyAnswer payload medians = orElse (slotRefusal 6 medians) (entropyRefusal payload)

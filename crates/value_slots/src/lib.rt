@@ -7,11 +7,11 @@ use answers::outcome_number;
 use slots::lay;
 ghost use mathlib.Core.Path.{_≡_};
 ghost use Rattle.slots.specs.Slots.{slotRefusal, leaveValues};
-ghost use Rattle.value_slots.specs.Values.{logWordValues, termByteValues, weightByteValues, entropyValues, entropyAnswer};
+ghost use Rattle.value_slots.specs.Values.{logWordValues, logWordAnswer, termByteValues, weightByteValues, entropyValues, entropyAnswer};
 
-// `wv_log_word`: the value of a log word, into 1 slot. Refuses 6.
+// `wv_log_word`: the value of a log word, into 1 slot. Refuses 6, then 17.
 pub fn log_word(word: i16, value: &mut [i32]) -> u32
-    ensures answer { λ r. ⌜ r ≡ slotRefusal 1 (now (value .entry)) ⌝ }
+    ensures answer { λ r. ⌜ r ≡ logWordAnswer word (now (value .entry)) ⌝ }
     ensures value { λ r. ⌜
         now (value .exit) ≡ leaveValues r (logWordValues word) (now (value .entry))
         ⌝ }
@@ -19,7 +19,12 @@ pub fn log_word(word: i16, value: &mut [i32]) -> u32
     if value.len() < 1 {
         return number(Refusal::ListLength);
     }
-    let values = [logpack::wp_exp2s(word)];
+    let answer = logpack::wp_exp2s(word);
+    let outcome = answer.outcome;
+    let Outcome::Accepted = outcome else {
+        return outcome_number(outcome);
+    };
+    let values = [answer.value];
     lay(&values, 0, value);
     0
 }
@@ -58,7 +63,7 @@ pub fn weight_byte(byte: u8, out: &mut [i32]) -> u32
 }
 
 // `wv_entropy`: the signed medians of an entropy payload, left then right, into 6 slots. Refuses 6,
-// then 1.
+// then 1, then 17.
 pub fn entropy_medians(entropy: &[u8], medians: &mut [i32]) -> u32
     ensures answer { λ r. ⌜ r ≡ entropyAnswer (now (entropy .entry)) (now (medians .entry)) ⌝ }
     ensures medians { λ r. ⌜

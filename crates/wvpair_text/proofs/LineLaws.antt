@@ -1,6 +1,7 @@
 -- The lines of a list of samples, laid two samples at a time.
 -- Assumes nothing.
 use mathlib.Core.Path.{_≡_, refl, sym, ap, _∙_}
+use native.Mathlib.Decide.{decLt}
 use mathlib.Core.List.{List, [], _∷_, _++_, append-assoc, append-nil}
 use Prim.Native.Nat.{ℕ, suc, _+_, _*_, _≤_, _<_}
 use native.Mathlib.Numerals.{add-one}
@@ -35,9 +36,14 @@ unfolding endLine
 end-length refusal bits =
     omega (arith, length-append (decimal refusal) (bitsWord ++ (decimal bits ++ (10 ∷ []))), length-append (decimal bits) (10 ∷ []))
 
--- with a refusal of one digit and bits of six it is at most 18 bytes
-pub end-short : (refusal bits : ℕ) → refusal < 10 → bits < 1000000 → length (endLine refusal bits) ≤ 18
-end-short refusal bits h k = omega (arith, end-length refusal bits, decimal-short 0 refusal h, decimal-short 5 bits (omega arith))
+-- with a refusal of one digit and bits of six, or two digits where no bit was used, it is at most 18
+-- bytes
+pub end-short : (refusal bits : ℕ) → refusal < 100 → (6 < refusal → bits ≡ 0) → bits < 1000000 → length (endLine refusal bits) ≤ 18
+end-short refusal bits h none k = go (decLt 6 refusal)
+  where
+    go : Dec (6 < refusal) → length (endLine refusal bits) ≤ 18
+    go (yes long) = omega (arith, end-length refusal bits, decimal-short 1 refusal h, decimal-short 0 bits (omega (arith, none long)))
+    go (no short) = omega (arith, end-length refusal bits, decimal-short 0 refusal (omega arith), decimal-short 5 bits (omega arith))
 
 -- the lines of two samples and more: theirs, and those behind them
 lines-more : (left right : ℤ) (rest : List ℤ) → frameLines (left ∷ right ∷ rest) ≡ frameLine left right ++ frameLines rest

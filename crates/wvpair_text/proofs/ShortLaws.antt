@@ -53,7 +53,7 @@ printed-short input h k =
       length-append (frameLines samples) (endLine (told .refusal) (told .bits)),
       lines-short samples (s .samples),
       length-take (told .written) (told .list),
-      end-short (told .refusal) (told .bits) (omega (arith, s .refusal)) (omega (arith, s .bits, length-drop headBytes input)),
+      end-short (told .refusal) (told .bits) (omega (arith, s .refusal)) (s .refused-before) (omega (arith, s .bits, length-drop headBytes input)),
     )
 
 -- and of any input
@@ -61,7 +61,7 @@ pub text-short : (input : List ℕ) → length (wvpairText input) ≤ largestTex
 text-short input = go (decLt (length input) headBytes) (decLt mostFrames (frameCount input)) (decLt largestInput (length input))
   where
     go : Dec (length input < headBytes) → Dec (mostFrames < frameCount input) → Dec (largestInput < length input) → length (wvpairText input) ≤ largestText
-    go (yes a) b c = rw (text-under input a) (omega (arith, end-short 1 0 (omega arith) (omega arith)))
-    go (no a) (yes b) c = rw (text-frames input (omega arith) b) (omega (arith, end-short 5 0 (omega arith) (omega arith)))
-    go (no a) (no b) (yes c) = rw (text-payload input (omega arith) c) (omega (arith, end-short 5 0 (omega arith) (omega arith)))
+    go (yes a) b c = rw (text-under input a) (omega (arith, end-short 1 0 (omega arith) (λ h. refl) (omega arith)))
+    go (no a) (yes b) c = rw (text-frames input (omega arith) b) (omega (arith, end-short 5 0 (omega arith) (λ h. refl) (omega arith)))
+    go (no a) (no b) (yes c) = rw (text-payload input (omega arith) c) (omega (arith, end-short 5 0 (omega arith) (λ h. refl) (omega arith)))
     go (no a) (no b) (no c) = rw (text-reading input (omega arith) (omega arith) (omega arith)) (printed-short input (omega arith) (omega arith))

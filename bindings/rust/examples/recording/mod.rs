@@ -23,8 +23,8 @@ impl Recording {
         Some(Recording { entropy: *entropy, frames, payload: payload.to_vec() })
     }
 
-    /// The samples of a recording and, where a word ended it early, why; they are then those of the
-    /// whole frames before it.
+    /// The samples of a recording and, where the reading was refused, why; they are then those of the
+    /// whole frames before the word that ended it, or none.
     pub fn decode(&self, passes: &mut [Pass]) -> Result<(Vec<i32>, Option<Refusal>), Refusal> {
         let mut samples = vec![0; 2 * self.frames];
         let (written, ended) = match read(&self.entropy, &self.payload, self.frames, &mut samples) {

@@ -1,7 +1,8 @@
 -- `entropy::expand_entropy` meets its contract: one law for each of the three kinds of length.
 -- Assumes nothing.
-use mathlib.Core.Path.{sym, _∙_}
+use mathlib.Core.Path.{sym, ap, _∙_}
 use native.Mathlib.Omega.{arith}
+use Rattle.answers.specs.Numbers.{outcomeNumber}
 use Rattle.entropy.proofs.EntropyLaws.{mono-length, mono-answer, stereo-answer, no-answer}
 use borrow.Author.Needs.{needs}
 use Rattle.entropy.proofs.expand_entropy.Statement.{statement}
@@ -14,19 +15,24 @@ read-median-set-requires c κs =
 returns : tie.Need-returns
 returns c =
     let start : tie.Start = search needs in
-    mono-answer (start .args .payload .now) (c .read-median-set .result) (sym (c .before .before .is-mono .ensures) ∙ c .before .if1 .taken) (c .read-median-set .ensures)
+    let b = c .both-sets in
+    let l = c .before .read-median-set in
+    mono-answer (start .args .payload .now) (l .result) (sym (c .before .before .before .is-mono .ensures) ∙ c .before .before .if1 .taken) (l .ensures .0) (l .ensures .1) (b .ensures .0) (b .ensures .1)
 
 returns-2 : tie.Need-returns-2
 returns-2 c =
     let start : tie.Start = search needs in
     let then2 : tie.Then2 = search needs in
-    stereo-answer (start .args .payload .now) (c .before .before .read-median-set2 .result) (c .read-median-set3 .result) (then2 .if2 .taken) (c .before .before .read-median-set2 .ensures) (c .read-median-set3 .ensures)
+    let b = c .both-sets2 in
+    let r = c .before .read-median-set3 in
+    let l = c .before .before .before .read-median-set2 in
+    stereo-answer (start .args .payload .now) (l .result) (r .result) (then2 .if2 .taken) (l .ensures .0) (l .ensures .1) (r .ensures .0) (r .ensures .1) (b .ensures .0) (b .ensures .1)
 
 returns-3 : tie.Need-returns-3
 returns-3 c =
     let start : tie.Start = search needs in
     let after-is-mono : tie.After-is-mono = search needs in
-    no-answer (start .args .payload .now) (sym (after-is-mono .is-mono .ensures) ∙ c .before .if1 .left) (c .if2 .left)
+    no-answer (start .args .payload .now) (sym (after-is-mono .is-mono .ensures) ∙ c .before .before .if1 .left) (c .before .if2 .left) (ap outcomeNumber (c .no-medians .ensures .0)) (c .no-medians .ensures .1)
 
 pub expand-entropy-spec : {M : Type 1} → statement M
 expand-entropy-spec =
@@ -34,11 +40,14 @@ expand-entropy-spec =
     (tie.spec
     (λ c κs. search needs)
     read-median-set-requires
+    (λ c κs. search needs)
     returns
     (λ c κs. search needs)
     (λ c. search needs)
     (λ c. search needs)
     (λ c. search needs)
     (λ c κs. search needs)
+    (λ c κs. search needs)
     returns-2
+    (λ c κs. search needs)
     returns-3)

@@ -4,18 +4,18 @@ use mathlib.Core.Path.{_≡_, ap, _∙_}
 use native.Mathlib.Omega.{arith}
 use lib.ListN.{length}
 use Rattle.overlay.proofs.OverlayLaws.{overlay-length}
-use Rattle.value_slots.proofs.EntropyLaws.{entropy-short, entropy-refused, entropy-laid}
+use Rattle.value_slots.proofs.CallLaws.{call-short, call-refused, entropy-laid}
 use borrow.Author.Needs.{needs}
 use Rattle.value_slots.proofs.entropy_medians.Statement.{statement}
 use Rattle.value_slots.proofs.entropy_medians.Tie as tie
 
 returns : tie.Need-returns
-returns c = entropy-short _ _ _ (c .number .ensures) (c .before .if1 .taken)
+returns c = call-short _ _ _ _ _ (c .number .ensures) (c .before .if1 .taken)
 
 returns-2 : tie.Need-returns-2
 returns-2 c =
     let x = c .before .before .before .before .expand-entropy in
-    entropy-refused _ _ _ _ _ (c .outcome-number .ensures) (c .before .enum-told2 .given .1) (x .ensures .0) (c .before .before .before .before .before .if1 .left)
+    call-refused _ _ _ _ _ _ _ (c .outcome-number .ensures) (c .before .enum-told2 .given .1) (x .ensures .0) (c .before .before .before .before .before .if1 .left)
 
 lay-requires : tie.Need-lay-requires
 lay-requires c κs =

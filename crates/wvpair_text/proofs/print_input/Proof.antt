@@ -9,7 +9,7 @@ use Rattle.wvpair_text.proofs.print_input.Statement.{statement}
 use Rattle.wvpair_text.proofs.print_input.Tie as tie
 
 put-end-requires : tie.Need-put-end-requires
-put-end-requires c κs = omega (arith, end-short 1 0 (omega arith) (omega arith))
+put-end-requires c κs = omega (arith, end-short 1 0 (omega arith) (λ h. refl) (omega arith))
 
 returns : tie.Need-returns
 returns c =
@@ -17,7 +17,7 @@ returns c =
     rw (text-under (now (start .args .input)) (omega arith)) (c .before .before .put-end .ensures)
 
 put-end-requires-2 : tie.Need-put-end-requires-2
-put-end-requires-2 c κs = omega (arith, end-short 5 0 (omega arith) (omega arith))
+put-end-requires-2 c κs = omega (arith, end-short 5 0 (omega arith) (λ h. refl) (omega arith))
 
 returns-2 : tie.Need-returns-2
 returns-2 c =
@@ -25,7 +25,7 @@ returns-2 c =
     rw (text-frames (now (start .args .input)) (omega arith) (omega arith)) (c .before .before .put-end2 .ensures)
 
 put-end-requires-3 : tie.Need-put-end-requires-3
-put-end-requires-3 c κs = omega (arith, end-short 5 0 (omega arith) (omega arith))
+put-end-requires-3 c κs = omega (arith, end-short 5 0 (omega arith) (λ h. refl) (omega arith))
 
 returns-3 : tie.Need-returns-3
 returns-3 c =

@@ -65,7 +65,8 @@ record Room (r : ReadAnswer) (frames : ℕ) (list : List ℤ) : Type 0 where
   within : r .written ≤ length list
   lent : length list ≡ 2 * frames
   most : frames ≤ 1024
-  refusal : outcomeNumber (r .outcome) < 10
+  refusal : outcomeNumber (r .outcome) < 100
+  refused-before : 6 < outcomeNumber (r .outcome) → r .bits ≡ 0
   bits : r .bits < 1000000
 
 room : (k : Read) → Room (answer k) (frames k) (list k)
@@ -83,6 +84,7 @@ room k =
       lent = l;
       most = s .pre .1 .0 .1;
       refusal = omega (arith, e .refusal);
+      refused-before = λ h. b ∙ e .refused-before (omega arith);
       bits = omega (arith, e .bits, length-drop 14 (input k), s .pre .0 .1);
     }
 
@@ -91,7 +93,7 @@ end : (c : tie.After-outcome-number) → length (endLine (c .outcome-number .res
 end c =
     let k : tie.After-decode-packed-samples-stereo-from-entropy = search needs in
     let r = room k in
-    end-short (c .outcome-number .result) (answer k .bits) (omega (arith, c .outcome-number .ensures, r .refusal)) (r .bits)
+    end-short (c .outcome-number .result) (answer k .bits) (omega (arith, c .outcome-number .ensures, r .refusal)) (λ h. r .refused-before (omega (arith, c .outcome-number .ensures))) (r .bits)
 
 array-share-prefix-samples : tie.Need-array-share-prefix-samples
 array-share-prefix-samples c = let r = room (c .before .before) in simp length-append (omega arith)
