@@ -1,5 +1,6 @@
 -- Each way by the law of the tests that lead to it.
 -- Assumes nothing.
+use mathlib.Core.Path.{refl}
 use native.Mathlib.Omega.{arith}
 use denote.Ref.{now}
 use Rattle.wvpair_text.proofs.LineLaws.{end-short}
