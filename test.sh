@@ -29,7 +29,7 @@ docs/refusals.sh || fail 'the wording of the refusals'
 rt staticlib capi || fail 'rt staticlib capi'
 library=target/staticlib
 
-"${CC:-cc}" -std=c11 -Wall -Wextra -Werror -Iinclude ctest/answers.c ctest/joined.c ctest/pages.c ctest/waves.c ctest/wide.c "$library/libcapi.a" -o target/ctest || fail 'the C program does not build'
+"${CC:-cc}" -std=c11 -Wall -Wextra -Werror -Iinclude ctest/answers.c ctest/joined.c ctest/pages.c ctest/reach.c ctest/waves.c ctest/wide.c "$library/libcapi.a" -o target/ctest || fail 'the C program does not build'
 target/ctest || fail 'the C program'
 
 wv=bindings/rust/tests/data

@@ -21,6 +21,11 @@ pub trait Case: Clone + Debug {
     fn silent_right(&self) -> bool {
         false
     }
+    /// Whether it holds a log word out of reach, which is counted apart: there the rule decides and
+    /// not the Rust.
+    fn out_of_reach(&self) -> bool {
+        false
+    }
 }
 
 /// Simpler inputs, made one after the other.
@@ -49,28 +54,26 @@ pub fn same_list<T: PartialEq + Debug>(what: &str, ours: &[T], theirs: &[T]) -> 
     }
 }
 
-/// On how many inputs both sides agreed, for each refusal number.
-type Agreed = BTreeMap<u32, u64>;
+/// What inputs that are counted apart hold.
+const APART: [&str; 2] = ["a zero right set", "a log word out of reach"];
 
-/// The run of one kind: where its inputs come from, and on how many of them both sides agreed;
-/// those with a zero right set once more by themselves.
+/// How many counts there are: of all inputs, and of those with each of these.
+const COUNTS: usize = 1 + APART.len();
+
+/// On how many inputs both sides agreed, for each refusal number.
+type Agreed = BTreeMap<u32, [u64; COUNTS]>;
+
+/// The run of one kind: where its inputs come from, and on how many of them both sides agreed.
 pub struct Run {
     pub random: Random,
     pub scale: usize,
     agreed: Agreed,
-    silent_right: Agreed,
     apart: bool,
-}
-
-/// How many there are, by refusal number.
-fn counts(agreed: &Agreed) -> String {
-    let numbers: Vec<String> = agreed.iter().map(|(number, count)| format!("{number}: {count}")).collect();
-    format!("by refusal number {}", numbers.join(", "))
 }
 
 impl Run {
     pub fn new(seed: u64, scale: usize) -> Run {
-        Run { random: Random::new(seed), scale, agreed: Agreed::new(), silent_right: Agreed::new(), apart: false }
+        Run { random: Random::new(seed), scale, agreed: Agreed::new(), apart: false }
     }
 
     /// From now on each input is first compared in a child of its own, which shows whether a stray
@@ -79,11 +82,10 @@ impl Run {
         self.apart = true;
     }
 
-    /// How far it has come, in numbers that `go_on` takes: the state of its random numbers, and for
-    /// each refusal number how often it agreed, in all and with a zero right set.
+    /// How far it has come, in numbers that `go_on` takes: the state of its random numbers, and each
+    /// refusal number with what was counted.
     pub fn progress(&self) -> Vec<u64> {
-        let silent = |number| self.silent_right.get(number).copied().unwrap_or_default();
-        let agreed = self.agreed.iter().flat_map(|(number, &count)| [u64::from(*number), count, silent(number)]);
+        let agreed = self.agreed.iter().flat_map(|(&number, counts)| once(u64::from(number)).chain(*counts));
         once(self.random.state()).chain(agreed).collect()
     }
 
@@ -93,18 +95,26 @@ impl Run {
             unreachable!("a run tells the state of its random numbers first");
         };
         self.random = Random::new(*state);
-        let told = |place: usize| agreed.chunks_exact(3).map(move |told| (told[0] as u32, told[place]));
-        self.agreed = told(1).collect();
-        self.silent_right = told(2).filter(|&(_, count)| count > 0).collect();
+        let told = agreed.chunks_exact(1 + COUNTS);
+        self.agreed = told.map(|told| (told[0] as u32, std::array::from_fn(|count| told[1 + count]))).collect();
+    }
+
+    /// One of the counts, in all and by refusal number.
+    fn counted(&self, place: usize) -> (u64, String) {
+        let counts = self.agreed.iter().map(|(number, counts)| (number, counts[place])).filter(|(_, count)| *count > 0);
+        let numbers: Vec<String> = counts.clone().map(|(number, count)| format!("{number}: {count}")).collect();
+        (counts.map(|(_, count)| count).sum(), format!("by refusal number {}", numbers.join(", ")))
     }
 
     /// Says on how many inputs of a kind both sides agreed, and tells how many.
     pub fn report(&self, name: &str, began: Instant) -> u64 {
-        let [agreed, silent]: [u64; 2] = [&self.agreed, &self.silent_right].map(|agreed| agreed.values().sum());
-        let seconds = began.elapsed().as_secs_f64();
-        println!("compare: {name}: {agreed} agree, {} ({seconds:.1} s)", counts(&self.agreed));
-        if silent > 0 {
-            println!("compare:   of these {silent} with a zero right set, {}", counts(&self.silent_right));
+        let (agreed, numbers) = self.counted(0);
+        println!("compare: {name}: {agreed} agree, {numbers} ({:.1} s)", began.elapsed().as_secs_f64());
+        for (place, held) in (1..).zip(APART) {
+            let (count, numbers) = self.counted(place);
+            if count > 0 {
+                println!("compare:   of these {count} with {held}, {numbers}");
+            }
         }
         agreed
     }
@@ -123,10 +133,10 @@ impl Run {
         }
         match case.compare() {
             Ok(refusal) => {
-                *self.agreed.entry(refusal).or_default() += 1;
-                if case.silent_right() {
-                    *self.silent_right.entry(refusal).or_default() += 1;
-                }
+                let counted = [true, case.silent_right(), case.out_of_reach()];
+                assert!(refusal > 0 || !counted[2], "a log word out of reach is never accepted");
+                let counts = self.agreed.entry(refusal).or_default();
+                counts.iter_mut().zip(counted).for_each(|(count, is_counted)| *count += u64::from(is_counted));
                 Ok(())
             }
             Err(said) => {

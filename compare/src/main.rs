@@ -8,7 +8,8 @@
 //! `compare long` runs millions of damaged inputs.
 //!
 //! Sound files and morning pages are no part of the published Rust: there a plain statement of their
-//! rules stands for it, and in the table a plain loop. Wide samples are compared with both.
+//! rules stands for it, and in the table a plain loop. Wide samples are compared with both. A log word
+//! that the Rust takes and the rule refuses is left to the rule, and how many inputs hold one is told.
 #![deny(unsafe_code)]
 #![warn(clippy::undocumented_unsafe_blocks)]
 
@@ -27,6 +28,7 @@ mod page_sounds;
 mod payloads;
 mod plain_int32;
 mod random;
+mod reach;
 mod store;
 mod their_int32;
 mod their_packing;
@@ -62,10 +64,10 @@ fn compare(seed: u64, scale: usize) -> Result<(), Failed> {
         total += run.report(name, began);
     }
     if let Some(name) = store::stale() {
-        println!("DIFFERENCE crates/replay/data/{name} is not what the Rust answers");
+        println!("DIFFERENCE crates/replay/data/{name} is not what `compare store` writes");
         return Err(Failed);
     }
-    println!("compare: all {total} agree, and the stored answers are the Rust's");
+    println!("compare: all {total} agree, and the stored answers still hold");
     Ok(())
 }
 

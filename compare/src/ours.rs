@@ -25,8 +25,13 @@ pub fn log_word(word: i16, value: &mut [i32]) -> u32 {
     if watched() || value.len() != 1 {
         return ffi::log_word(word, value);
     }
-    value[0] = wavpack_stereo::log_word(word);
-    0
+    match wavpack_stereo::log_word(word) {
+        Ok(told) => {
+            value[0] = told;
+            0
+        }
+        Err(refusal) => both(refusal, ffi::log_word(word, value)),
+    }
 }
 
 pub fn term_byte(byte: u8, out: &mut [i32]) -> u32 {

@@ -3,9 +3,11 @@
 //! A refusal is a number. Of a refused word only the number counts: the Rust has then already
 //! changed medians and flags, the rules hand back the old ones (D1.4). A reading's bits and medians
 //! are those after its last accepted word.
+use crate::reach::{self, OUT_OF_REACH};
 use reference::PackedSamples;
 use reference::entropy::{EntropyInfo, expand_entropy};
 use reference::error::Error;
+use reference::logpack::expand_log_word;
 use reference::samples::{
     AdaptiveMedians, BitReader, RunState, StereoDecodeState, Zone, decode_packed_samples_stereo,
     decode_packed_samples_stereo_from_entropy, decode_sample_stateful_stereo, read_folded_ones_count,
@@ -95,12 +97,30 @@ pub fn word(payload: &[u8], state: &State) -> Result<Word, u32> {
     Ok(Word { sample, state, report: report.expect("an accepted word has a zone") })
 }
 
+/// The value of a log word, which lies within these ends, or its refusal (Q7.1).
+pub fn log_word(word: i16) -> Result<i32, u32> {
+    if reach::is_out_of_reach(word) {
+        return Err(OUT_OF_REACH);
+    }
+    let [low, high] = word.to_le_bytes();
+    let value = expand_log_word(low, high);
+    assert!((-2_143_289_344..=2_143_289_344).contains(&value));
+    Ok(value)
+}
+
+/// What an entropy payload expands to, or why it is refused: the Rust tells a wrong length, then the
+/// rule a log word out of reach (Q7.2).
+pub fn info(entropy: &[u8]) -> Result<EntropyInfo, u32> {
+    let info = expand_entropy(entropy).map_err(|_| 1u32)?;
+    if reach::holds_one(entropy) { Err(OUT_OF_REACH) } else { Ok(info) }
+}
+
 /// What an entropy payload expands to and the medians that it seeds, or why it is refused.
 ///
 /// Its length alone tells mono from stereo (Q2.1). The Rust takes a zero right set for mono: its
 /// own seeds are none there, and must be these everywhere else.
 pub fn expanded(entropy: &[u8]) -> Result<(EntropyInfo, [AdaptiveMedians; 2]), u32> {
-    let info = expand_entropy(entropy).map_err(|_| 1u32)?;
+    let info = info(entropy)?;
     let sets = [info.medians_left, info.medians_right].map(AdaptiveMedians::from_seed_values);
     let seeds = if let [Some(left), Some(right)] = sets { Some([left, right]) } else { None };
     assert_eq!(AdaptiveMedians::stereo_pair_from_entropy(&info), seeds.filter(|_| !info.is_mono()));

@@ -1,14 +1,16 @@
 //! Entropy payloads of every length from 0 to 16, with random words and words at the ends of each
-//! rule.
+//! rule; every log word at each place.
 use crate::case::{Case, Failed, Run, Smaller, plainer, same, shorter};
 use crate::lent::Lent;
 use crate::ours;
+use crate::payloads::around_reach;
 use crate::random::Random;
-use reference::entropy::expand_entropy;
+use crate::reach;
+use crate::theirs;
 use wavpack_stereo::Slots;
 
-/// Log words at the ends of a rule: the canonical zero, the shift's pivot, the top bit of 32, the
-/// ends of 16 bits.
+/// Log words at the ends of a rule: the canonical zero, the shift's pivot, the reach and the words
+/// whose bits are shifted out, the ends of 16 bits.
 const ENDS: [i16; 22] = [
     0, 1, 255, 256, 257, 2303, 2304, 2559, 2560, 8191, 8192, 8447, 8448, 32767, -1, -255, -256, -257, -8191, -8192,
     -32767, -32768,
@@ -25,8 +27,7 @@ impl Case for Entropy {
         let (mut payload, mut medians) = (Lent::holding(&self.payload), Lent::marked(self.slots));
         let refusal = ours::entropy(payload.list(), medians.list());
         payload.kept("payload")?;
-        let theirs = if self.slots < 6 { Err(6) } else { expand_entropy(&self.payload).map_err(|_| 1) };
-        match theirs {
+        match if self.slots < 6 { Err(6) } else { theirs::info(&self.payload) } {
             Ok(info) => {
                 same("refusal", &refusal, &0)?;
                 medians.written("medians", &[info.medians_left, info.medians_right].slots())?;
@@ -43,18 +44,41 @@ impl Case for Entropy {
         let payloads = shorter(&self.payload).chain(plainer(&self.payload));
         Box::new(payloads.map(|payload| Entropy { payload, ..*self }))
     }
+
+    fn out_of_reach(&self) -> bool {
+        reach::holds_one(&self.payload)
+    }
 }
 
-/// A payload of `length` bytes whose words are random, at an end, or both.
+/// A payload of `length` bytes whose words are random, at an end, or both; one in eight may hold words
+/// out of reach.
 pub fn payload(random: &mut Random, length: usize) -> Vec<u8> {
-    let ends = random.below(3);
+    let (ends, any) = (random.below(3), random.once_in(8));
     let mut out = random.bytes(length);
     for pair in out.chunks_exact_mut(2) {
-        if ends == 2 || (ends == 1 && random.once_in(2)) {
-            pair.copy_from_slice(&random.pick(&ENDS).to_le_bytes());
-        }
+        let is_end = ends == 2 || (ends == 1 && random.once_in(2));
+        let word = if is_end { random.pick(&ENDS) } else { random.next() as i16 };
+        let word = if any || !reach::is_out_of_reach(word) { word } else { word % 8192 };
+        pair.copy_from_slice(&word.to_le_bytes());
     }
     out
+}
+
+/// Every log word at each place of 6 and of 12 bytes, and limits of the reach with other faults.
+fn words(run: &mut Run) -> Result<(), Failed> {
+    for (length, place) in [6, 12].into_iter().flat_map(|length| (0..length).step_by(2).map(move |at| (length, at))) {
+        for word in i16::MIN..=i16::MAX {
+            let mut payload = [0, 4].repeat(length / 2);
+            payload[place..place + 2].copy_from_slice(&word.to_le_bytes());
+            run.agree(Entropy { payload, slots: 6 })?;
+        }
+    }
+    for payload in around_reach() {
+        for slots in 5..=7 {
+            run.agree(Entropy { payload: payload.clone(), slots })?;
+        }
+    }
+    Ok(())
 }
 
 pub fn run(run: &mut Run) -> Result<(), Failed> {
@@ -72,5 +96,5 @@ pub fn run(run: &mut Run) -> Result<(), Failed> {
             run.agree(Entropy { payload, slots })?;
         }
     }
-    Ok(())
+    words(run)
 }

@@ -2,7 +2,8 @@
 use crate::case::{Case, Failed, Run, Smaller, same};
 use crate::lent::Lent;
 use crate::ours;
-use reference::logpack::expand_log_word;
+use crate::reach::is_out_of_reach;
+use crate::theirs;
 
 #[derive(Clone, Debug)]
 struct LogWord {
@@ -14,14 +15,16 @@ impl Case for LogWord {
     fn compare(&self) -> Result<u32, String> {
         let mut value = Lent::marked(self.slots);
         let refusal = ours::log_word(self.word, value.list());
-        if self.slots < 1 {
-            same("refusal", &refusal, &6)?;
-            value.kept("value")?;
-            return Ok(refusal);
+        match if self.slots < 1 { Err(6) } else { theirs::log_word(self.word) } {
+            Ok(told) => {
+                same("refusal", &refusal, &0)?;
+                value.written("value", &[told])?;
+            }
+            Err(number) => {
+                same("refusal", &refusal, &number)?;
+                value.kept("value")?;
+            }
         }
-        let [lo, hi] = self.word.to_le_bytes();
-        same("refusal", &refusal, &0)?;
-        value.written("value", &[expand_log_word(lo, hi)])?;
         Ok(refusal)
     }
 
@@ -30,7 +33,13 @@ impl Case for LogWord {
         let size = |word: i32| (word.abs(), word < 0);
         let nearer = [0, -word, word % 256, word / 2, word - 256 * word.signum(), word - word.signum()];
         let nearer = nearer.into_iter().filter(move |&near| size(near) < size(word));
-        Box::new(nearer.map(|near| LogWord { word: near as i16, ..*self }))
+        // The opposite of the least word is none.
+        let nearer = nearer.filter_map(|near| i16::try_from(near).ok());
+        Box::new(nearer.map(|word| LogWord { word, ..*self }))
+    }
+
+    fn out_of_reach(&self) -> bool {
+        is_out_of_reach(self.word)
     }
 }
 

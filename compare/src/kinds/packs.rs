@@ -1,10 +1,12 @@
 //! Packing: residuals of every loudness under every kind of entropy payload, at the ends of the
-//! span, short and largest; each also with a zero right set.
+//! span, short and largest; each also with a zero right set. Log words at the limits of their reach,
+//! at each place and beside other faults.
 use crate::case::{Case, Failed, Run, Smaller, plainer, same, shorter};
 use crate::lent::Lent;
 use crate::ours;
-use crate::payloads::{entropy, entropy_of, residuals, silent_right};
+use crate::payloads::{around_reach, entropy, entropy_of, residuals, silent_right};
 use crate::random::Random;
+use crate::reach;
 use crate::their_packing::{self, SPAN};
 use crate::theirs::{self, MAX_FRAMES};
 use std::fmt;
@@ -68,6 +70,10 @@ impl Case for Pack {
     fn silent_right(&self) -> bool {
         theirs::silent_right(&self.entropy)
     }
+
+    fn out_of_reach(&self) -> bool {
+        reach::holds_one(&self.entropy)
+    }
 }
 
 /// All of a list, with just the room that it needs.
@@ -111,17 +117,36 @@ fn random_pack(random: &mut Random, entropy: fn(&mut Random) -> Vec<u8>) -> Pack
 }
 
 pub fn run(run: &mut Run) -> Result<(), Failed> {
-    for (entropy, rounds) in [(entropy as fn(&mut Random) -> Vec<u8>, 100_000), (silent_right, 50_000)] {
+    for (entropy, rounds) in [(entropy as fn(&mut Random) -> Vec<u8>, 100_000), (silent_right, 52_000)] {
         for _ in 0..rounds * run.scale {
             let case = random_pack(&mut run.random, entropy);
             run.agree(case)?;
         }
     }
+    at_limits(run)?;
     largest(run, [1500, 1400, 1300, 1600, 1500, 1400])?;
     largest(run, [1500, 1400, 1300, 0, 0, 0])?;
     // The widest words.
     for words in [[0, 0, 0, 256, 0, 0], [0; 6]] {
         run.agree(whole_pack([SPAN - 1, -SPAN].repeat(MAX_FRAMES), entropy_of(words)))?;
+    }
+    Ok(())
+}
+
+/// Limits of a log word's reach beside other faults: too many frames, a list that does not suit them,
+/// an answer of fewer slots, a short buffer, a residual outside the span.
+fn at_limits(run: &mut Run) -> Result<(), Failed> {
+    for entropy in around_reach() {
+        for (frames, count, slots) in [(2, 4, 6), (2, 4, 7), (2, 4, 8), (2, 3, 8), (MAX_FRAMES + 1, 4, 8)] {
+            for (residual, room) in [(5, 56), (5, 55), (SPAN, 56), (-SPAN - 1, 55)] {
+                let residuals = [residual, -7, 0, 1][..count].to_vec();
+                run.agree(Pack { residuals, entropy: entropy.clone(), frames, room, slots })?;
+            }
+        }
+    }
+    for frames in [MAX_FRAMES, MAX_FRAMES + 1] {
+        let residuals = vec![1; 2 * frames];
+        run.agree(whole_pack(residuals, entropy_of([1500, 1400, 1300, 8192, 1500, 1400])))?;
     }
     Ok(())
 }

@@ -1,11 +1,13 @@
 //! Whole readings: every payload of up to 2 bytes, random, damaged and cut payloads, and the
-//! largest sizes; each also with a zero right set.
+//! largest sizes; each also with a zero right set. Log words at the limits of their reach, at each
+//! place and beside other faults.
 use crate::case::{Case, Failed, Run, Smaller, plainer, same, shorter};
 use crate::fields;
 use crate::lent::Lent;
 use crate::ours;
-use crate::payloads::{encoded, entropy, entropy_of, residuals, silent_right};
+use crate::payloads::{around_reach, encoded, entropy, entropy_of, residuals, silent_right};
 use crate::random::Random;
+use crate::reach;
 use crate::theirs::{self, MAX_BYTES, MAX_FRAMES};
 use reference::samples::encode_packed_samples_stereo;
 use std::fmt;
@@ -62,6 +64,10 @@ impl Case for Read {
     fn silent_right(&self) -> bool {
         theirs::silent_right(&self.entropy)
     }
+
+    fn out_of_reach(&self) -> bool {
+        reach::holds_one(&self.entropy)
+    }
 }
 
 fn agree_on(run: &mut Run, entropy: &[u8], payload: Vec<u8>, frames: usize) -> Result<(), Failed> {
@@ -77,7 +83,7 @@ const WORDS: [[i16; 6]; 9] = [
     [8191; 6],
     [0; 6],
     [256, 256, 256, 0, 0, 0],
-    [1000, 900, 800, 255, -255, 8448],
+    [1000, 900, 800, 255, -255, 1],
     [8191, 8191, 8191, 0, 0, 0],
 ];
 
@@ -109,16 +115,37 @@ fn random_read(random: &mut Random, mut entropy: Vec<u8>, is_encoded: bool) -> R
 
 pub fn run(run: &mut Run) -> Result<(), Failed> {
     short_payloads(run)?;
-    for (make, rounds) in [(entropy as fn(&mut Random) -> Vec<u8>, 100_000), (silent_right, 50_000)] {
+    for (make, rounds) in [(entropy as fn(&mut Random) -> Vec<u8>, 100_000), (silent_right, 52_000)] {
         for round in 0..rounds * run.scale {
             let entropy = make(&mut run.random);
             let case = random_read(&mut run.random, entropy, round % 2 == 0);
             run.agree(case)?;
         }
     }
+    at_limits(run)?;
     largest(run, [1500, 1400, 1300, 1600, 1500, 1400])?;
     largest(run, [1500, 1400, 1300, 0, 0, 0])?;
     largest(run, [0; 6])
+}
+
+/// Limits of a log word's reach beside other faults, too many frames, a list that does not suit them,
+/// an answer of fewer slots; and at the largest sizes.
+fn at_limits(run: &mut Run) -> Result<(), Failed> {
+    for entropy in around_reach() {
+        for (frames, length) in [(2, 4), (2, 3), (MAX_FRAMES + 1, 4)] {
+            for slots in 7..=9 {
+                let payload = run.random.bytes(3);
+                run.agree(Read { entropy: entropy.clone(), payload, frames, length, slots })?;
+            }
+        }
+    }
+    for words in [[8192, 0, 0, 0, 0, 0], [0, 0, 0, 0, 0, -8192]] {
+        for (frames, bytes) in [(MAX_FRAMES, MAX_BYTES), (MAX_FRAMES + 1, MAX_BYTES), (MAX_FRAMES, MAX_BYTES + 1)] {
+            let payload = run.random.bytes(bytes);
+            agree_on(run, &entropy_of(words), payload, frames)?;
+        }
+    }
+    Ok(())
 }
 
 /// Frames and bytes at their limits and one above.

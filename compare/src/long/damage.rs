@@ -1,5 +1,6 @@
 //! Damage to bytes and to numbers.
 use crate::fields::{Bits, fresh};
+use crate::payloads::plant_limit;
 use crate::random::Random;
 use std::ops::Range;
 
@@ -48,6 +49,11 @@ pub fn bytes(random: &mut Random, bytes: &mut Vec<u8>) {
             bytes.extend(fresh(random, length));
         }
     }
+}
+
+/// Damages an entropy payload once: as any bytes, or by a log word at a limit of the reach.
+pub fn entropy(random: &mut Random, entropy: &mut Vec<u8>) {
+    if random.once_in(4) { plant_limit(random, entropy) } else { bytes(random, entropy) }
 }
 
 /// Overwrites a payload from a bit on by a field whose counts are near their caps, as far as the

@@ -37,7 +37,7 @@ pub fn pack(random: &mut Random, from: &Recordings) -> Pack {
         damage::numbers(random, &mut residuals, 2, beyond);
     }
     if random.once_in(5) {
-        damage::bytes(random, &mut entropy);
+        damage::entropy(random, &mut entropy);
     }
     let mut frames = residuals.len() / 2;
     if random.once_in(12) {

@@ -55,7 +55,7 @@ pub fn read(random: &mut Random, from: &Recordings) -> Read {
     let place = base.states[random.below(base.states.len())][0];
     let (mut entropy, payload) = (base.entropy.clone(), damaged(random, &base.payload, place));
     if random.once_in(6) {
-        damage::bytes(random, &mut entropy);
+        damage::entropy(random, &mut entropy);
     }
     let frames = frames_near(random, base.residuals.len() / 2);
     let length = length_near(random, frames);
@@ -65,7 +65,7 @@ pub fn read(random: &mut Random, from: &Recordings) -> Read {
 pub fn entropy(random: &mut Random, from: &Recordings) -> Entropy {
     let mut payload = from.pick(random).entropy.clone();
     for _ in 0..random.below(4) {
-        damage::bytes(random, &mut payload);
+        damage::entropy(random, &mut payload);
     }
     Entropy { payload, slots: slots_near(random, 6) }
 }

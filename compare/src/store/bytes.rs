@@ -2,16 +2,20 @@
 use super::{Records, SEED};
 use crate::kinds::entropy::payload;
 use crate::random::Random;
+use crate::theirs;
 use reference::decorrelation::{decode_term_byte, expand_weights};
-use reference::entropy::expand_entropy;
-use reference::logpack::expand_log_word;
 use wavpack_stereo::Slots;
 
-/// The value of each log word, in the order of their 16-bit patterns.
+/// The refusal and the value of each log word, in the order of their 16-bit patterns.
 pub fn log_words() -> Records {
     let mut out = Records::default();
-    for [lo, hi] in (0..=u16::MAX).map(u16::to_le_bytes) {
-        out.signed(&[expand_log_word(lo, hi)]);
+    for pattern in 0..=u16::MAX {
+        let (refusal, value) = match theirs::log_word(pattern as i16) {
+            Ok(value) => (0, value),
+            Err(refusal) => (refusal, 0),
+        };
+        out.numbers(&[refusal]);
+        out.signed(&[value]);
     }
     out
 }
@@ -39,9 +43,9 @@ pub fn entropy() -> Records {
     for round in 0..640 {
         let length = if round < 68 { round % 17 } else { random.pick(&[6, 12, 12]) };
         let bytes = payload(random, length);
-        let (refusal, medians) = match expand_entropy(&bytes) {
+        let (refusal, medians) = match theirs::info(&bytes) {
             Ok(info) => (0, [info.medians_left, info.medians_right].slots()),
-            Err(_) => (1, [0; 6]),
+            Err(refusal) => (refusal, [0; 6]),
         };
         out.numbers(&[length as u32, refusal]);
         out.bytes(&bytes, 16);

@@ -1,4 +1,5 @@
-//! The stored answers of the published Rust, which the program `replay` holds the library to.
+//! The stored answers of the published Rust, which the program `replay` holds the library to; for a
+//! log word out of reach that of the rule.
 //!
 //! One file for each kind, in records of one length; numbers are little-endian.
 //! `crates/replay/data/README.md` describes each record.

@@ -79,20 +79,37 @@ fn seeds_of(bytes: &[u8]) -> Seeds {
     let mut i: usize = 0;
     while i < 8 {
         let word = log_word_at(bytes, i);
-        outcome = or_else(outcome, word.outcome);
-        values[i] = word.value;
+        let of_word = word.outcome;
+        let value = word.value;
+        outcome = or_else(outcome, of_word);
+        values[i] = value;
         i += 1;
     }
     Seeds { outcome, values }
 }
 
+// The pass of 36 bytes and the values of its seeds.
+fn pass_with(bytes: [u8; 36], seed_a: [i32; 8], seed_b: [i32; 8]) -> PassAnswer {
+    let term = decode_term_byte(bytes[0]);
+    let count = (bytes[3] % 9) as usize;
+    DecorrPass::new(
+        term.term,
+        term.delta,
+        expand_weight_byte(bytes[1]),
+        expand_weight_byte(bytes[2]),
+        &seed_a[..count],
+        &seed_b[..count],
+    )
+}
+
 // The pass of 36 bytes: the term byte, both weight bytes, how many seeds a channel has, and eight
 // log words a channel.
 fn pass_of(bytes: [u8; 36]) -> PassAnswer {
-    let term = decode_term_byte(bytes[0]);
     let seed_a = seeds_of(&bytes[4..20]);
     let seed_b = seeds_of(&bytes[20..]);
-    let outcome = or_else(seed_a.outcome, seed_b.outcome);
+    let of_a = seed_a.outcome;
+    let of_b = seed_b.outcome;
+    let outcome = or_else(of_a, of_b);
     let Outcome::Accepted = outcome else {
         return PassAnswer {
             outcome,
@@ -101,15 +118,7 @@ fn pass_of(bytes: [u8; 36]) -> PassAnswer {
     };
     let values_a = seed_a.values;
     let values_b = seed_b.values;
-    let count = (bytes[3] % 9) as usize;
-    DecorrPass::new(
-        term.term,
-        term.delta,
-        expand_weight_byte(bytes[1]),
-        expand_weight_byte(bytes[2]),
-        &values_a[..count],
-        &values_b[..count],
-    )
+    pass_with(bytes, values_a, values_b)
 }
 
 // The next pass of the file.

@@ -7,10 +7,10 @@ use Rattle.blocks.proofs.record.seeds_of.Statement.{statement}
 use Rattle.blocks.proofs.record.seeds_of.Tie as tie
 
 abbrev Inv-loop : tie.InvT-loop
-Inv-loop bytes seeds₀ i₀ seeds i = i ≤ 8
+Inv-loop bytes outcome₀ values₀ i₀ outcome values i = i ≤ 8
 
 abbrev μ-loop : tie.MeasureT-loop
-μ-loop bytes seeds₀ i₀ seeds i = 8 - i
+μ-loop bytes outcome₀ values₀ i₀ outcome values i = 8 - i
 
 pub seeds-of-spec : {M : Type 1} → statement M
 seeds-of-spec =
@@ -19,6 +19,7 @@ seeds-of-spec =
     Inv-loop
     μ-loop
     (λ c. omega arith)
+    (λ c κs. search needs)
     (λ c κs. search needs)
     (λ c. search needs)
     (λ c. search needs)
