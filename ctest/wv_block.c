@@ -108,16 +108,18 @@ const char *find_parts(struct bytes block, struct bytes parts[PARTS])
 }
 
 /* Takes the seeds of a term off, A's and B's, each newest first; none where no more are stored. */
-static int take_seeds(int32_t term, struct bytes *stored, int32_t seed_a[8], int32_t seed_b[8], size_t *count)
+static const char *take_seeds(int32_t term, struct bytes *stored, int32_t seed_a[8], int32_t seed_b[8], size_t *count)
 {
     struct bytes mine;
     int32_t value;
     size_t each = term >= 1 && term <= 8 ? (size_t)term : term == 17 || term == 18 ? 2 : 1;
     *count = stored->count > 0 ? each : 0;
     if (!take(stored, 4 * *count, &mine))
-        return 0;
+        return holds("a part of a pass's seeds");
     for (size_t i = 0; i < 2 * *count; i++) {
-        wv_log_word((int16_t)(mine.at[2 * i] | mine.at[2 * i + 1] << 8), &value, 1);
+        uint32_t refusal = wv_log_word((int16_t)(mine.at[2 * i] | mine.at[2 * i + 1] << 8), &value, 1);
+        if (refusal != WV_ACCEPTED)
+            return refused(refusal);
         if (term == 17 || term == 18)
             (i < 2 ? seed_a : seed_b)[i % 2] = value;
         else if (term == -3)
@@ -125,7 +127,7 @@ static int take_seeds(int32_t term, struct bytes *stored, int32_t seed_a[8], int
         else
             (i % 2 ? seed_b : seed_a)[each - 1 - i / 2] = value;
     }
-    return 1;
+    return NULL;
 }
 
 const char *make_passes(struct bytes parts[PARTS], int32_t *passes)
@@ -133,6 +135,7 @@ const char *make_passes(struct bytes parts[PARTS], int32_t *passes)
     size_t count = parts[TERMS].count, seeds;
     int32_t told[2], weights[2] = {0, 0}, seed_a[8], seed_b[8];
     struct bytes pair;
+    const char *why;
     if (count > MAX_PASSES)
         return refused(WV_TOO_MANY_PASSES);
     for (size_t i = 0; i < count; i++) {
@@ -142,8 +145,8 @@ const char *make_passes(struct bytes parts[PARTS], int32_t *passes)
             return holds("half a pair of weights");
         wv_weight_byte(stored ? pair.at[0] : 0, &weights[0], 1);
         wv_weight_byte(stored ? pair.at[1] : 0, &weights[1], 1);
-        if (!take_seeds(told[0], &parts[SEEDS], seed_a, seed_b, &seeds))
-            return holds("a part of a pass's seeds");
+        if ((why = take_seeds(told[0], &parts[SEEDS], seed_a, seed_b, &seeds)))
+            return why;
         uint32_t refusal = wv_pass((int8_t)told[0], told[1], weights[0], weights[1], seed_a, seeds, seed_b, seeds,
                                    passes + WV_PASS_SLOTS * (count - 1 - i), WV_PASS_SLOTS);
         if (refusal != WV_ACCEPTED)

@@ -144,19 +144,20 @@ pub fn parts<'a>(block: &Block<'a>) -> Result<Parts<'a>, Why> {
 }
 
 /// Takes the seeds of a term off, A's and B's, each newest first; empty where no more are stored.
-fn take_seeds(term: i32, stored: &mut &[u8]) -> Option<[Vec<i32>; 2]> {
+fn take_seeds(term: i32, stored: &mut &[u8]) -> Result<[Vec<i32>; 2], Why> {
     if stored.is_empty() {
-        return Some(Default::default());
+        return Ok(Default::default());
     }
     let each = match term {
         1..=8 => term as usize,
         17 | 18 => 2,
         _ => 1,
     };
-    let words = take(stored, 4 * each)?.chunks_exact(2).map(|word| i16::from_le_bytes([word[0], word[1]]));
-    let values: Vec<i32> = words.map(log_word).collect();
+    let mine = take(stored, 4 * each).ok_or(Why::Holds("a part of a pass's seeds"))?;
+    let words = mine.chunks_exact(2).map(|word| i16::from_le_bytes([word[0], word[1]]));
+    let values = words.map(log_word).collect::<Result<Vec<i32>, Refusal>>()?;
     let every_other = |from: usize| values[from..].iter().copied().step_by(2);
-    Some(match term {
+    Ok(match term {
         17 | 18 => [values[..2].to_vec(), values[2..].to_vec()],
         -3 => [every_other(1).collect(), every_other(0).collect()],
         _ => [every_other(0).rev().collect(), every_other(1).rev().collect()],
@@ -173,7 +174,7 @@ pub fn passes(parts: &Parts<'_>) -> Result<Vec<Pass>, Why> {
         let told = term_byte(byte);
         let pair = if weights.is_empty() { Some(&[0, 0][..]) } else { take(&mut weights, 2) };
         let pair = pair.ok_or(Why::Holds("half a pair of weights"))?;
-        let [seed_a, seed_b] = take_seeds(told.term, &mut seeds).ok_or(Why::Holds("a part of a pass's seeds"))?;
+        let [seed_a, seed_b] = take_seeds(told.term, &mut seeds)?;
         passes.push(Pass::new(told.term, told.delta, [pair[0], pair[1]].map(weight_byte), [&seed_a, &seed_b])?);
     }
     passes.reverse();

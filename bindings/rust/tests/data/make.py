@@ -62,16 +62,31 @@ def part(data, at):
     return begin, begin + 2 * int.from_bytes(data[at + 1:begin], "little")
 
 
-def flip(data, block, wanted, byte, bit):
-    """Flips one bit of a sub-block, of the block with a number from 0."""
+def place(data, block, wanted):
+    """Where the data of a sub-block begin, in the block with a number from 0."""
     at = 0
     for _ in range(block):
         at += 8 + struct.unpack_from("<I", data, at + 4)[0]
     at += 32
     while data[at] & 0x3f != wanted:
         _, at = part(data, at)
-    begin, _ = part(data, at)
-    data[begin + byte] ^= 1 << bit
+    return part(data, at)[0]
+
+
+def far(name, data, wanted, words):
+    """Puts other log words into a sub-block, each with the number of its block and its number there."""
+    data = bytearray(data)
+    for block, word, value in words:
+        struct.pack_into("<h", data, place(data, block, wanted) + 2 * word, value)
+    write(os.path.join(sys.argv[1], name), data)
+
+
+def loud():
+    """Slow tones at full scale, then a period of three frames with the channels opposed: the residuals
+    of its start are so much larger than samples that a median takes all of 32 bits."""
+    top = 2**23 - 1
+    tones = [(round(top * math.sin(i * 0.004)), round(top * math.sin(i * 0.01 + 2))) for i in range(210)]
+    return tones + [(top, 1 - top) if i % 3 < 2 else (1 - top, top) for i in range(210, 350)]
 
 
 def each(frames, change):
@@ -105,7 +120,7 @@ def large_blocks():
     ]
     data = bytearray(pack("large_blocks.wv", pcm(sum(kinds, []), 4), (32, 2), "--blocksize=128"))
     for block, wanted, byte, bit in (0, 0x0c, 100, 3), (1, 0x09, 0, 1), (2, 0x09, 1, 5), (3, 0x09, 2, 0):
-        flip(data, block, wanted, byte, bit)
+        data[place(data, block, wanted) + byte] ^= 1 << bit
     write(os.path.join(sys.argv[1], "large_flipped.wv"), data)
 
 
@@ -113,11 +128,12 @@ def main():
     long, short = sound(640), sound(128)
     stereo, three, one = (16, 2), "--blocksize=256", "--blocksize=128"
     plain = pack("plain.wv", pcm(long), stereo, three, "-j0", "-m", "-w", "Title=Stem")
-    pack("joint.wv", pcm(long), stereo, three, "-j1")
+    joint = pack("joint.wv", pcm(long), stereo, three, "-j1")
     pack("deep.wv", pcm(sound(128, 251), 3), (24, 2), one)
+    pack("loud.wv", pcm(loud(), 3), (24, 2), "--blocksize=170", "-h", "-j1")
     late = [(left, right if i > 300 else 0) for i, (left, right) in enumerate(long)]
     pack("silent_right.wv", pcm(late), stereo, three, "-j0")
-    pack("silence.wv", pcm([(0, 0)] * 640), stereo, three)
+    silence = pack("silence.wv", pcm([(0, 0)] * 640), stereo, three)
     pack("mono.wv", pcm([(left,) for left, _ in short]), (16, 1), one)
     pack("hybrid.wv", pcm(short), stereo, one, "-b4")
     floats = [struct.pack("<ff", left / 32768, right / 32768) for left, right in short]
@@ -128,6 +144,8 @@ def main():
     pack("four_channels.wv", pcm([frame + frame[::-1] for frame in short]), (16, 4), one)
     write(os.path.join(sys.argv[1], "flipped.wv"), flipped(plain))
     write(os.path.join(sys.argv[1], "cut.wv"), plain[:1000])
+    far("far_seeds.wv", joint, 0x04, [(0, 3, -8192), (1, 0, 8192), (2, 0, 8191), (2, 3, -8191)])
+    far("far_medians.wv", silence, 0x05, [(0, 5, 8192), (1, 0, -8191), (1, 5, -8192), (2, 5, 8191)])
     large()
     large_blocks()
 
