@@ -1,31 +1,19 @@
 -- Document 02, §2: why reading and packing refuse with 2, and that a recording comes back where the
 -- right set is zero. The second is demand 3: such a payload is one that reading accepts.
 -- Assumes nothing.
-use native.Mathlib.Omega.{arith}
+use mathlib.Core.Path.{refl}
 use Rattle.entropy.proofs.SilentLaws.{two-exactly, silent-right}
 use Rattle.roundtrip.specs.Silent.{ReadingTwo, PackingTwo, SilentRightReturns}
-use Rattle.roundtrip.proofs.PayloadLaws.{OfPayload, reading-payload, packing-payload}
+use Rattle.roundtrip.proofs.PayloadLaws.{reading-payload, packing-payload}
 use Rattle.roundtrip.proofs.DemandLaws.{demand-3}
-
--- 2 is told of an entropy payload only
-only-two : OfPayload 2
-only-two = record {
-  accepted = λ e. omega arith;
-  truncated = λ e. omega arith;
-  ended = λ e. omega arith;
-  large = λ e. omega arith;
-  list = λ e. omega arith;
-  span = λ e. omega arith;
-  room = λ e. omega arith;
-}
 
 -- (Q2.2)
 pub reading-two : ReadingTwo
-reading-two entropy payload frames list e = two-exactly entropy .1 (reading-payload only-two entropy payload frames list e)
+reading-two entropy payload frames list e = two-exactly entropy .1 (reading-payload 2 refl entropy payload frames list e)
 
 -- (Q2.2)
 pub packing-two : PackingTwo
-packing-two residuals entropy frames buffer e = two-exactly entropy .1 (packing-payload only-two residuals entropy frames buffer e)
+packing-two residuals entropy frames buffer e = two-exactly entropy .1 (packing-payload 2 refl residuals entropy frames buffer e)
 
 -- (Q2.3)
 pub silent-right-returns : SilentRightReturns
