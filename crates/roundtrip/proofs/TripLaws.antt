@@ -13,7 +13,7 @@ use Rattle.answers.specs.declared.Refusal.{Refusal}
 use Rattle.answers.specs.Guard.{orElse, unlessRefused}
 use Rattle.answers.specs.Limits.{maxElements, maxPayloadBytes, maxWordBits}
 use Rattle.answers.specs.Numbers.{outcomeNumber}
-use Rattle.answers.proofs.GuardLaws.{refused-first, guard-refused, guard-accepted}
+use Rattle.answers.proofs.GuardLaws.{guard-refused, guard-accepted}
 use Rattle.answers.proofs.NumberLaws.{number-positive}
 use Rattle.samples.specs.View.{ReadTold, viewReading, readEntry}
 use Rattle.samples.specs.declared.ReadAnswer.{ReadAnswer}
@@ -32,16 +32,6 @@ use Rattle.roundtrip.specs.Trip.{TripTold, viewTrip, refuseTrip, tellTri
 use Rattle.roundtrip.proofs.ReadTrips.{read-what-was-packed}
 
 -- ---- the early tests
-
--- a refusal of the first is told
-pub first-refuses : (o : Outcome) (q : Refusal) (m later : ℕ) → o ≡ Outcome.Refused q → outcomeNumber o ≡ m → outcomeNumber o ≡ orElse m later
-first-refuses o q m later s e =
-    let p : 0 < outcomeNumber o = rw s (number-positive q) in
-    rw (← e) (sym (refused-first (outcomeNumber o) later p))
-
--- where the first refuses nothing, the second decides
-pub second-decides : (o r : Outcome) (m later : ℕ) → o ≡ Outcome.Accepted → outcomeNumber o ≡ m → outcomeNumber r ≡ later → outcomeNumber r ≡ orElse m later
-second-decides o r m later s e t = let z : m ≡ 0 = sym e ∙ ap outcomeNumber s in rw z t
 
 -- analysis and packing before the span accept
 pub record Early (ps : List DecorrPass) (n : ℕ) (x : List ℤ) (entropy buffer : List ℕ) : Type 0 where

@@ -1,5 +1,5 @@
 -- Worked cases over the definitions: the two starred inputs of `wvpair` and the fields at their caps
--- (document 01), and a zero right set (document 02, §2).
+-- (document 01), a zero right set (document 02, §2) and log words out of reach (§7).
 -- Assumes nothing.
 use mathlib.Core.Path.{_≡_, refl}
 use mathlib.Core.Bool.{Bool, true, false}
@@ -72,6 +72,22 @@ silent-right-read = (refl, refl)
 pub six-bytes-refused : told (readEntry (0 ∷ 1 ∷ 0 ∷ 1 ∷ 0 ∷ 1 ∷ []) (126 ∷ 2 ∷ []) 1 (blank 2)) ≡ (2, 0, 0, blank 2)
 unfolding readEntry readRefusal seedRefusal entropyRefusal notStereo isMono
 six-bytes-refused = refl
+
+-- document 02, §7 (Q7.3): the sixth log word is 8192, and nothing is written
+pub out-of-reach-refused :
+    told (readEntry (0 ∷ 1 ∷ 0 ∷ 1 ∷ 0 ∷ 1 ∷ 0 ∷ 1 ∷ 0 ∷ 1 ∷ 0 ∷ 32 ∷ []) (126 ∷ 2 ∷ []) 1 (blank 2)) ≡ (17, 0, 0, blank 2)
+unfolding readEntry readRefusal seedRefusal entropyRefusal isMono
+out-of-reach-refused = refl
+
+-- the first of 6 bytes is -8192: 17 comes before 2
+pub mono-out-of-reach : told (readEntry (0 ∷ 224 ∷ 0 ∷ 1 ∷ 0 ∷ 1 ∷ []) (126 ∷ 2 ∷ []) 1 (blank 2)) ≡ (17, 0, 0, blank 2)
+unfolding readEntry readRefusal seedRefusal entropyRefusal isMono
+mono-out-of-reach = refl
+
+-- and behind 1: five bytes of them
+pub short-out-of-reach : told (readEntry (0 ∷ 224 ∷ 0 ∷ 1 ∷ 0 ∷ []) (126 ∷ 2 ∷ []) 1 (blank 2)) ≡ (1, 0, 0, blank 2)
+unfolding readEntry readRefusal seedRefusal entropyRefusal isMono
+short-out-of-reach = refl
 
 -- c ones and a zero, and 40 zeros behind them
 abbrev field : ℕ → List Bool

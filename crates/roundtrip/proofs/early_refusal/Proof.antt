@@ -1,7 +1,7 @@
 -- `roundtrip::early_refusal` meets its contract.
 -- Assumes nothing.
 use borrow.Author.Needs.{needs}
-use Rattle.roundtrip.proofs.TripLaws.{first-refuses, second-decides}
+use Rattle.answers.proofs.NumberLaws.{first-refuses, second-decides}
 use Rattle.roundtrip.proofs.early_refusal.Statement.{statement}
 use Rattle.roundtrip.proofs.early_refusal.Tie as tie
 
