@@ -14,7 +14,7 @@ use borrow.Author.Tests.{ne-eqb, eqb-true, eqb-false}
 use Rattle.answers.specs.declared.Outcome.{Outcome}
 use Rattle.answers.specs.Guard.{orElse, unlessRefused}
 use Rattle.answers.specs.Numbers.{outcomeNumber}
-use Rattle.answers.proofs.GuardLaws.{refused-later, guard-refused, guard-accepted}
+use Rattle.answers.proofs.GuardLaws.{guard-refused, guard-accepted}
 use Rattle.answers.proofs.TestLaws.{neither}
 use Rattle.logpack.specs.Reach.{outOfReach, logWordRefusal, logWordTold}
 use Rattle.logpack.proofs.Negation.{again}
@@ -46,10 +46,15 @@ six-length p h = rw h
 twelve-length : (p : List ℕ) → length p ≡ 12 → lengthRefusal p ≡ 0
 twelve-length p h = rw h
 
--- there the log words decide
-refusal-reach : (p : List ℕ) → lengthRefusal p ≡ 0 → entropyRefusal p ≡ cond (pastReach p) 17 0
+-- there the log words decide; a case for each outcome of their test, so that the order of the two
+-- refusals does not matter here
+reach-decides : (p : List ℕ) (past : Bool) → lengthRefusal p ≡ 0 → pastReach p ≡ past → entropyRefusal p ≡ told past
 unfolding entropyRefusal
-refusal-reach p h = refused-later (lengthRefusal p) (cond (pastReach p) 17 0) h
+reach-decides p true h e = rw (h, e)
+reach-decides p false h e = rw (h, e)
+
+refusal-reach : (p : List ℕ) → lengthRefusal p ≡ 0 → entropyRefusal p ≡ told (pastReach p)
+refusal-reach p h = reach-decides p (pastReach p) h refl
 
 -- the three of 6 bytes
 pub past-mono : (p : List ℕ) → length p ≡ 6 → pastReach p ≡ (setOutOfReach p || false)

@@ -1,8 +1,8 @@
 -- Document 02, §7: a log word out of reach is refused with 17, behind 1 and before 2; the medians of an
 -- accepted payload are those of before, and small.
 -- Assumes nothing.
-use mathlib.Core.Path.{_≡_, refl, sym, ap, _∙_}
-use mathlib.Core.Bool.{Bool, true, false, _||_}
+use mathlib.Core.Path.{_≡_, sym, ap, _∙_}
+use mathlib.Core.Bool.{Bool, false, _||_}
 use mathlib.Core.List.{List}
 use Prim.Native.Nat.{ℕ}
 use native.Mathlib.Omega.{arith}
@@ -13,7 +13,7 @@ use Rattle.entropy.specs.Entropy.{wordAt, wordSet, setOutOfReach, entrop
 use Rattle.entropy.specs.Seed.{seedSet, seedMedians}
 use Rattle.entropy.specs.Reach.{WhySeventeen, SeventeenExactly, SeventeenFirst, MediansAsBefore, Within, MediansWithin}
 use Rattle.entropy.proofs.EntropyLaws.{told, all-reached, past-mono, past-stereo, refusal-mono, refusal-stereo}
-use Rattle.entropy.proofs.ReasonLaws.{refused-before, reasons}
+use Rattle.entropy.proofs.ReasonLaws.{refused-before, reasons, or-true}
 use Rattle.entropy.proofs.SilentLaws.{twelve-are-stereo, accepted-exactly}
 
 -- each of the reasons is told
@@ -21,10 +21,6 @@ why-told : (p : List ℕ) → WhySeventeen p → entropyRefusal p ≡ 17
 why-told p (WhySeventeen.mono h e) = refusal-mono p h ∙ ap told (past-mono p h ∙ ap (λ (b : Bool). b || false) e)
 why-told p (WhySeventeen.left h e) = refusal-stereo p h ∙ ap told (past-stereo p h ∙ ap (λ (b : Bool). b || setOutOfReach (drop 6 p)) e)
 why-told p (WhySeventeen.right h e) = refusal-stereo p h ∙ ap told (past-stereo p h ∙ ap (λ (b : Bool). setOutOfReach p || b) e ∙ or-true (setOutOfReach p))
-  where
-    or-true : (a : Bool) → (a || true) ≡ true
-    or-true true = refl
-    or-true false = refl
 
 -- (Q7.3)
 pub seventeen-first : SeventeenFirst

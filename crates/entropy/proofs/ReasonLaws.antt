@@ -86,12 +86,13 @@ reasons p = by-length (eqb (length p) 6) (eqb (length p) 12) refl refl
         rw (refused-before p (refusal-length p (eqb-false (length p) 6 f) (eqb-false (length p) 12 g)) (omega arith))
         (record { two = λ e. absurd (omega arith); seventeen = λ e. absurd (omega arith); sets = λ e. absurd (omega arith) })
 
+-- a test that holds decides, whatever the one before it
+pub or-true : (a : Bool) → (a || true) ≡ true
+or-true true = refl
+or-true false = refl
+
 -- (Q2.2) each of the reasons for 2 is told
 pub two-told : (p : List ℕ) → WhyTwo p → seedRefusal p ≡ 2
 two-told p (WhyTwo.six h r) = six-refused p h r
 two-told p (WhyTwo.negative-left h r e) = rw (twelve-by-signs p h r, e)
-two-told p (WhyTwo.negative-right h r e) = rw (twelve-by-signs p h r, e) (or-true (anyNegative (wordSet p)))
-  where
-    or-true : (a : Bool) → _≡_ {A = ℕ} (cond (a || true) 2 0) 2
-    or-true true = refl
-    or-true false = refl
+two-told p (WhyTwo.negative-right h r e) = rw (twelve-by-signs p h r, e, or-true (anyNegative (wordSet p)))
