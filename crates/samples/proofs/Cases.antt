@@ -79,7 +79,7 @@ pub out-of-reach-refused :
 unfolding readEntry readRefusal seedRefusal entropyRefusal isMono
 out-of-reach-refused = refl
 
--- the first of 6 bytes is -8192: 17 comes before 2
+-- the first log word of 6 bytes is -8192: 17 comes before 2
 pub mono-out-of-reach : told (readEntry (0 ∷ 224 ∷ 0 ∷ 1 ∷ 0 ∷ 1 ∷ []) (126 ∷ 2 ∷ []) 1 (blank 2)) ≡ (17, 0, 0, blank 2)
 unfolding readEntry readRefusal seedRefusal entropyRefusal isMono
 mono-out-of-reach = refl
