@@ -5,6 +5,7 @@ pub mod RoundTrip
 pub mod LaidLaws
 pub mod WriteLaws
 pub mod Window
+pub mod RegisterLaws
 pub mod OnesLaws
 pub mod Trip
 pub mod CheckedLaws

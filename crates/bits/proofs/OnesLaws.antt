@@ -16,10 +16,10 @@ use lib.Seq.{drop-drop}
 use Rattle.bits.specs.Bits.{bitOf, low, num, ones}
 use Rattle.bits.specs.BitByBit.{BitByBit, oneMore}
 use Rattle.bits.specs.Fields.{getBits, unary, andThen}
+use Rattle.bits.specs.Window.{Window}
 use Rattle.bits.specs.declared.Field.the-variants.{Value, Truncated}
 use Rattle.bits.proofs.BitLaws.{length-low, low-shifted}
 use Rattle.bits.proofs.ReadLaws.{bits-yes, bits-no, unary-yes, unary-no, unary-missing}
-use Rattle.bits.proofs.Window.{Window}
 
 -- ---- the ones of joined bits
 

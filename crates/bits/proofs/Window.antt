@@ -13,16 +13,11 @@ use lib.ListN.{length, take, drop, getD, length-drop, length-take, take-append-d
 use lib.Seq.{drop-drop, drop-append-le, take-append-le, length-take-le, take-add, take-all, drop-cons}
 use Rattle.bits.specs.Bits.{low, num, bitsOf}
 use Rattle.bits.specs.Fields.{getBits}
+use Rattle.bits.specs.Window.{Window}
 use Rattle.bits.specs.declared.Field.the-variants.{Value}
 use Rattle.bits.proofs.BitLaws.{length-low, length-bits, drop-bytes, drop-low, take-low, num-low, num-lt, num-append, low-num}
 use Rattle.bits.proofs.ReadLaws.{bits-yes}
 use Rattle.bits.proofs.LaidLaws.{bits-append}
-
--- the j low bits of x stand at p, and x has no others
-pub record Window (bits : List Bool) (p j x : ℕ) : Type 0 where
-  pub small : x < 2 ^ j
-  pub room : p + j ≤ length bits
-  pub stands : drop p bits ≡ low j x ++ drop (p + j) bits
 
 -- n whole bytes from byte i on, without the first k bits
 pub window : (s : List ℕ) (i n k w : ℕ) → i + n ≤ length s → k ≤ 8 * n → w ≡ num (bitsOf (take n (drop i s)))

@@ -4,6 +4,7 @@
 pub mod checked;
 pub mod load;
 pub mod read;
+pub mod register;
 pub mod write;
 
 // What reading a field finds: its value and the place after it, or that a bit is missing.
