@@ -15,7 +15,7 @@ use Rattle.fields.specs.Code.{bitLength, codeOf, truncatedBinary}
 use Rattle.fields.proofs.LengthLaws.{long}
 
 -- a long code is at most M
-code-long-most : (b x s t M : ℕ) → M + x + 1 ≡ 2 * 2 ^ (b - 1) → s < 2 ^ (b - 1) → t < 2 → x ≤ s → 2 * s - x + t ≤ M
+pub code-long-most : (b x s t M : ℕ) → M + x + 1 ≡ 2 * 2 ^ (b - 1) → s < 2 ^ (b - 1) → t < 2 → x ≤ s → 2 * s - x + t ≤ M
 code-long-most b x s t M e hs ht h = omega arith
 
 -- a code is at most M
