@@ -24,15 +24,18 @@ pub up-is : (d m a : ℕ) → 32 ≤ d → a ≡ hold (m + d) → hold (m + a / 
 unfolding up
 up-is d m a h e = rw (sym e) (omega (arith, div-small a d h))
 
--- down, where the step would pass 0
-pub down-low : (d m a : ℕ) → 32 ≤ d → a ≡ hold (m + (d - 2)) → m < a / d * 2 → 0 ≡ down d m
-unfolding down
-down-low d m a h e l = rw (sym e) (omega (arith, div-small a d h))
+-- a step down never passes 0: where it is 1 at least, the median is 2 at least
+pub down-step : (d m a : ℕ) → 32 ≤ d → a ≡ hold (m + (d - 2)) → a / d * 2 ≤ m
+down-step d m a h e = go (a / d) (div-mul-le-self a d) (div-small a d h)
+  where
+    go : (q : ℕ) → q * d ≤ a → q * 32 ≤ a → q * 2 ≤ m
+    go zero f g = omega arith
+    go (suc q) f g = omega (arith, mul-le-mul-left q h)
 
--- down, where it does not
-pub down-high : (d m a : ℕ) → 32 ≤ d → a ≡ hold (m + (d - 2)) → a / d * 2 ≤ m → m - a / d * 2 ≡ down d m
+-- down, from the inner sum as it is held
+pub down-is : (d m a : ℕ) → 32 ≤ d → a ≡ hold (m + (d - 2)) → m - a / d * 2 ≡ down d m
 unfolding down
-down-high d m a h e l = rw (sym e) (omega (arith, div-small a d h))
+down-is d m a h e = rw (sym e) (omega (arith, div-small a d h, down-step d m a h e))
 
 -- ---- adaptation stays within 32 bits
 

@@ -28,7 +28,7 @@ pub fn dec_median(median: u32, divisor: u32) -> u32
     ensures { λ r. ⌜ r ≡ down divisor median ⌝ }
 {
     let step = held(u32_to_u64(median) + u32_to_u64(divisor - 2)) / divisor * 2;
-    if median < step { 0 } else { median - step }
+    median - step
 }
 
 // The medians after a word of the count `ones_count`. Refuses nothing.
