@@ -34,6 +34,16 @@ pub ends : (m : Medians) (k : ℕ) → (lowOf m k ≤ highOf m k) × (highOf m k
 unfolding lowOf highOf
 ends m k = (omega arith, omega arith)
 
+-- what is known of the ends of an interval: they are in order and have 31 bits, the last code 28
+pub record Ends (low high : ℕ) : Type 0 where
+  pub ordered : low ≤ high
+  pub within : high < 2147483648
+  pub last : high - low < 268435456
+
+pub told-ends : (m : Medians) (k low high : ℕ) → IntervalIs m k low high → Ends low high
+unfolding lowOf highOf
+told-ends m k low high i = record { ordered = omega arith; within = omega arith; last = omega arith }
+
 -- two cuts are one
 wrap-is : (n : ℕ) → wrapped n ≡ n % 2147483648
 wrap-is n = omega arith

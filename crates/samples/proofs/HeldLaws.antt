@@ -11,18 +11,8 @@ use Rattle.entropy.specs.declared.AdaptiveMedians.{AdaptiveMedians}
 use Rattle.entropy.specs.Medians.{mediansOf, pairOf, zeroSet}
 use Rattle.medians.specs.Adaptation.{adapt}
 use Rattle.word_state.proofs.StateLaws.{turned, noSet, there, picked}
+use Rattle.samples.specs.Standing.{Held}
 use Rattle.word_state.specs.State.{State, start, side, flip, due, withFlags, paid, inRun, unbroken, after}
-
--- the array of medians and the other locals hold the state before word i
-pub record Held (s : State) (medians : List AdaptiveMedians) (owed : ℕ) (broken zero one : Bool) (i : ℕ) : Type 0 where
-  pub pair : length medians ≡ 2
-  pub left-is : s .left ≡ pairOf medians .left
-  pub right-is : s .right ≡ pairOf medians .right
-  pub debt-is : s .debt ≡ owed
-  pub break-is : s .runBreak ≡ broken
-  pub zero-is : s .lastZero ≡ zero
-  pub one-is : s .lastOne ≡ one
-  pub channel-is : s .channel ≡ i % 2
 
 -- both sets, where the one of a channel is replaced by its adaptation
 pub record Replaced (ms : List AdaptiveMedians) (x : AdaptiveMedians) (c k : ℕ) : Type 0 where

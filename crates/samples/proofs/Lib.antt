@@ -1,12 +1,10 @@
 -- What the proofs of several functions use, and what other crates cite.
-pub mod SignLaws
-pub mod PartLaws
-pub mod JoinLaws
 pub mod ReadingLaws
 pub mod HeldLaws
 pub mod ZeroLaws
 pub mod WordLaws
 pub mod LoopLaws
+pub mod OnwardLaws
 pub mod EntryLaws
 pub mod Cases
 pub mod RefusalLaws

@@ -20,7 +20,7 @@ use Rattle.fields.proofs.Local.{Ended, at, never, fieldEnd, prefixEnd, Local, l
 use Rattle.fields.proofs.LocalLaws.{bits-local, run-local, prefix-local, truncated-binary-local}
 use Rattle.medians.specs.Interval.{lowOf, highOf}
 use Rattle.word_state.specs.State.{State, due, paid, inRun, unbroken, cleared, flagged, after, runDue, onZeros}
-use Rattle.samples.specs.Word.{Report, none, zoneOf, Word, given, refused, onField, onPrefix, signed, value, plain, fresh, word}
+use Rattle.words.specs.Word.{Report, none, zoneOf, Word, given, refused, onField, onPrefix, signed, value, plain, fresh, word}
 use Rattle.samples.specs.Reading.{Reading, onWord, more, reading}
 use Rattle.samples.proofs.RefusalLaws.{word-refused}
 

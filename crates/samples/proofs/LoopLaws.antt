@@ -17,25 +17,18 @@ use Rattle.overlay.specs.Overlay.{overlay}
 use Rattle.overlay.proofs.OverlayLaws.{overlay-first, overlay-none}
 use Rattle.word_state.specs.State.{State, start, paid, runDue}
 use Rattle.word_state.proofs.StateLaws.{noSet, there}
-use Rattle.samples.specs.Word.{Report, given, refused, word}
+use Rattle.words.specs.Word.{Report, given, refused, word}
 use Rattle.samples.specs.Reading.{reading}
-use Rattle.samples.specs.Parts.{codedWord, CodedIs, zeroed, ZerosIs}
+use Rattle.words.specs.Parts.{codedWord, CodedIs}
+use Rattle.samples.specs.Standing.{prepend, Held, Words, standing, Onward}
+use Rattle.samples.specs.Zeros.{zeroed, ZerosIs}
 use Rattle.samples.specs.View.{tellReading}
-use Rattle.samples.specs.declared.coded.Coded.{Coded}
-use Rattle.samples.proofs.ReadingLaws.{prepend, reading-on, reading-stop, reading-end}
-use Rattle.samples.proofs.HeldLaws.{Held, held-start, held-due, held-paid, held-run, held-sample}
+use Rattle.samples.specs.declared.plain.Standing.{Standing}
+use Rattle.words.specs.declared.coded.Coded.{Coded}
+use Rattle.samples.proofs.ReadingLaws.{reading-on, reading-stop, reading-end}
+use Rattle.samples.proofs.HeldLaws.{held-start, held-due, held-paid, held-run, held-sample}
 use Rattle.samples.proofs.WordLaws.{word-paid, word-fresh}
 use Rattle.samples.proofs.ZeroLaws.{zeroed-length, zeroed-next, zeroed-first}
-
--- before word i: the locals hold a state, the first i elements are written, the others are as they
--- were, and what is written joined to the reading of the words that are left is the whole reading
-pub record Words (payload : List ℕ) (out₀ : List ℤ) (s₀ : State) (out : List ℤ) (ms : List AdaptiveMedians) (owed : ℕ) (b z o : Bool) (p i : ℕ) : Type 0 where
-  pub state : State
-  pub held : Held state ms owed b z o i
-  pub here : i ≤ length out₀
-  pub same : length out ≡ length out₀
-  pub is : prepend (take i out) (reading (bitsOf payload) (length out₀ - i) p state) ≡ reading (bitsOf payload) (length out₀) 0 s₀
-  pub others : drop i out ≡ drop i out₀
 
 module _ (payload : List ℕ) (out₀ : List ℤ) (s₀ : State) (out : List ℤ) (ms : List AdaptiveMedians) (owed : ℕ) (b z o : Bool) (p i : ℕ) (l : Words payload out₀ s₀ out ms owed b z o p i) where
   -- an accepted word: its sample is written, and the locals hold the state after it
@@ -96,7 +89,7 @@ module _ (payload : List ℕ) (out₀ : List ℤ) (s₀ : State) (out : List ℤ
     words-run d q e =
         step (pos 0) q _ _ (zeroSet ∷ zeroSet ∷ []) d true z o h (sym coded ∙ ap (codedWord (l .state)) e) (held-run (l .state) ms owed b z o i (l .held) d)
 
-    words-sample : (v : ℤ) (k q : ℕ) (z' o' : Bool) (x : AdaptiveMedians) → r ≡ Coded.Sample v k q z' o' → mediansOf x ≡ adapt (mediansOf (getD ms (i % 2) noSet)) k
+    pub words-sample : (v : ℤ) (k q : ℕ) (z' o' : Bool) (x : AdaptiveMedians) → r ≡ Coded.Sample v k q z' o' → mediansOf x ≡ adapt (mediansOf (getD ms (i % 2) noSet)) k
         → Words payload out₀ s₀ (set out i v) (set ms (i % 2) x) owed false z' o' q (i + 1)
     words-sample v k q z' o' x e a =
         step v q _ _ (set ms (i % 2) x) owed false z' o' h (sym coded ∙ ap (codedWord (l .state)) e) (held-sample (l .state) ms owed b z o i (l .held) k x z' o' a)
@@ -124,6 +117,17 @@ words-zeros payload out₀ s₀ out ms owed b z o p i (suc n) l h k =
     let x = words-paid payload out₀ s₀ (zeroed out i n) ms (owed - n) b z o p (i + n) w (omega arith) (omega (arith, zeroed-length out i n (omega arith))) in
     words-as payload out₀ s₀ (set (zeroed out i n) (i + n) (pos 0)) (zeroed out i (suc n)) ms (owed - n - 1) (owed - suc n) b z o p (i + n + 1) (i + suc n)
     (zeroed-next out i n (omega arith)) (omega arith) (omega arith) x
+
+-- a list keeps room behind an element that is written
+pub room-behind : (out : List ℤ) (i j : ℕ) (v : ℤ) → i < length out → j ≡ i + 1 → j ≤ length (set out i v)
+room-behind out i j v h e = omega (arith, length-set out i v)
+
+-- two sets are the first and the second
+two-sets : (ms : List AdaptiveMedians) → length ms ≡ 2 → ms ≡ getD ms 0 zeroSet ∷ getD ms 1 zeroSet ∷ []
+two-sets [] e = absurd (omega arith)
+two-sets (a ∷ []) e = absurd (omega arith)
+two-sets (a ∷ b ∷ []) e = refl
+two-sets (a ∷ b ∷ c ∷ ms) e = absurd (omega arith)
 
 -- ---- the loop
 
@@ -166,14 +170,13 @@ module _ (payload : List ℕ) (out₀ : List ℤ) (s₀ : State) (out : List ℤ
           settled = λ t. omega (arith, zs .all (omega (arith, ap length (zs .list-is), zeroed-length out i (j - i) (omega (arith, zs .some, zs .within)))));
         }
 
-    -- a sample
-    pub loop-sample : (v : ℤ) (k q : ℕ) (z' o' : Bool) (x : AdaptiveMedians) → r ≡ Coded.Sample v k q z' o' → mediansOf x ≡ adapt (mediansOf (getD ms (i % 2) noSet)) k
-        → Loop payload out₀ s₀ (set out i v) (set ms (i % 2) x) false z' o' q (i + 1)
-    loop-sample v k q z' o' x e a = record {
-      owed = l .owed;
-      words = words-sample payload out₀ s₀ out ms (l .owed) b z o p i (l .words) r run (l .settled h) h f c v k q z' o' x e a;
-      settled = λ t. l .settled h;
-    }
+    -- a sample, and the plain words behind it
+    pub loop-sample : (v : ℤ) (k q : ℕ) (z' o' : Bool) (x : AdaptiveMedians) (after : List ℤ) (to : Standing) → r ≡ Coded.Sample v k q z' o'
+        → mediansOf x ≡ adapt (mediansOf (getD ms (i % 2) noSet)) k → Onward payload (set out i v) after (standing q (i + 1) (set ms (i % 2) x) z' o') to
+        → Loop payload out₀ s₀ after (to .left ∷ to .right ∷ []) false (to .«last_zero») (to .«last_one») (to .place) (to .written)
+    loop-sample v k q z' o' x after to e a g =
+        let w = words-sample payload out₀ s₀ out ms (l .owed) b z o p i (l .words) r run (l .settled h) h f c v k q z' o' x e a in
+        record { owed = 0; words = g .goes out₀ s₀ (rw (two-sets (set ms (i % 2) x) (w .held .pair), l .settled h) at w); settled = λ t. refl }
 
     -- a refused word
     pub loop-stop : (w : ℕ) → ((s : State) → codedWord s r ≡ refused w)

@@ -23,7 +23,7 @@ use Rattle.fields.proofs.Local.{fieldEnd}
 use Rattle.fields.proofs.LocalLaws.{truncated-binary-local}
 use Rattle.medians.specs.Interval.{lowOf, highOf}
 use Rattle.word_state.specs.State.{State, due, cleared, unbroken, after, runDue}
-use Rattle.samples.specs.Word.{Word, Report, given, refused, onField, signed, zoneOf, value, plain, fresh, word}
+use Rattle.words.specs.Word.{Word, Report, given, refused, onField, signed, zoneOf, value, plain, fresh, word}
 use Rattle.samples.specs.View.{WordTold, viewWord, tellWord, oneWord}
 use Rattle.samples.specs.declared.WordAnswer.{WordAnswer}
 use Rattle.samples.proofs.WordLaws.{word-paid, word-fresh}

@@ -6,12 +6,9 @@ use mathlib.Core.List.{List, [], _∷_, _++_, append-assoc, append-nil}
 use Prim.Native.Nat.{ℕ, suc}
 use lib.IntN.{ℤ}
 use Rattle.word_state.specs.State.{State}
-use Rattle.samples.specs.Word.{Report, given, refused, word}
-use Rattle.samples.specs.Reading.{Reading, reading}
-
--- a reading with the samples that were read before it in front
-abbrev pub prepend : List ℤ → Reading → Reading
-prepend vs r = record { refusal = r .refusal; samples = vs ++ r .samples; place = r .place; state = r .state }
+use Rattle.words.specs.Word.{Report, given, refused, word}
+use Rattle.samples.specs.Reading.{reading}
+use Rattle.samples.specs.Standing.{prepend}
 
 -- an accepted word
 pub reading-on : (bits : List Bool) (n p q : ℕ) (s t : State) (v : ℤ) (z : Report) (vs : List ℤ) → word bits p s ≡ given v q t z

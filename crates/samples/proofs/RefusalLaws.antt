@@ -19,10 +19,10 @@ use Rattle.bits.proofs.ReadLaws.{bits-missing}
 use Rattle.fields.proofs.RefusalLaws.{run-refused, prefix-refused, prefix-ended, code-refused}
 use Rattle.medians.specs.Interval.{lowOf}
 use Rattle.word_state.specs.State.{State, due, paid, inRun, unbroken, cleared, flagged, after, runHere, onZeros}
-use Rattle.samples.specs.Word.{none, zoneOf, Word, given, refused, onField, onPrefix, signed, value, plain, fresh, word}
+use Rattle.words.specs.Word.{none, zoneOf, Word, given, refused, onField, onPrefix, signed, value, plain, fresh, word}
 use Rattle.samples.specs.Reading.{Reading, onWord, more, reading}
 use Rattle.samples.specs.Refused.{lastCode, Starts, Counts, Why}
-use Rattle.samples.proofs.PartLaws.{fresh-word, fresh-run}
+use Rattle.words.proofs.PartLaws.{fresh-word, fresh-run}
 
 module _ (bits : List Bool) (p : ℕ) (s : State) (c : ℕ) where
   -- a reason, under the number that was told

@@ -20,7 +20,7 @@ use Rattle.fields.proofs.CodeLaws.{code-most}
 use Rattle.medians.specs.Interval.{lowOf, highOf}
 use Rattle.medians.proofs.IntervalLaws.{ends}
 use Rattle.word_state.specs.State.{State, due, paid, inRun, unbroken, cleared, flagged, after, runDue, onZeros}
-use Rattle.samples.specs.Word.{Word, given, refused, none, zoneOf, signed, onField, onPrefix, value, plain, fresh, word}
+use Rattle.words.specs.Word.{Word, given, refused, none, zoneOf, signed, onField, onPrefix, value, plain, fresh, word}
 use Rattle.samples.specs.Reading.{Reading, onWord, more, reading}
 
 -- ---- one word

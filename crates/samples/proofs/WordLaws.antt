@@ -15,10 +15,10 @@ use Rattle.word_state.specs.State.{State, paid, runDue}
 use Rattle.word_state.specs.View.{stateOf}
 use Rattle.word_state.specs.declared.StereoDecodeState.{StereoDecodeState}
 use Rattle.word_state.proofs.StateLaws.{noSet, there, picked, zeros-some, zeros-none}
-use Rattle.samples.specs.Word.{Word, given, refused, none, fresh, word}
-use Rattle.samples.specs.Parts.{codedWord, CodedIs}
+use Rattle.words.specs.Word.{Word, given, refused, none, fresh, word}
+use Rattle.words.specs.Parts.{codedWord, CodedIs}
 use Rattle.samples.specs.View.{tellWord, oneWord}
-use Rattle.samples.specs.declared.coded.Coded.{Coded}
+use Rattle.words.specs.declared.coded.Coded.{Coded}
 
 -- a zero is owed
 pub word-paid : (bits : List Bool) (p : ℕ) (s : State) → 0 < s .debt → word bits p s ≡ given (pos 0) p (paid (s .debt - 1) s) none

@@ -1,5 +1,6 @@
-pub mod Word
 pub mod Reading
-pub mod Parts
+pub mod Zeros
+pub mod Standing
+pub mod Steps
 pub mod View
 pub mod Refused

@@ -6,7 +6,7 @@ use mathlib.Core.List.{List, [], _∷_}
 use Prim.Native.Nat.{ℕ, zero, suc}
 use lib.IntN.{ℤ}
 use Rattle.word_state.specs.State.{State}
-use Rattle.samples.specs.Word.{Word, given, refused, word}
+use Rattle.words.specs.Word.{Word, given, refused, word}
 
 -- the refusal (0: none), the samples of the accepted words, the place after them and the state
 -- after them

@@ -15,7 +15,7 @@ use Rattle.entropy.specs.Seed.{seedRefusal, seedMedians}
 use Rattle.overlay.specs.Overlay.{overlay}
 use Rattle.word_state.specs.State.{State, start}
 use Rattle.word_state.specs.View.{stateOf}
-use Rattle.samples.specs.Word.{Report, none, zone0, zone1, zone2, over, Word, given, refused, word}
+use Rattle.words.specs.Word.{Report, none, zone0, zone1, zone2, over, Word, given, refused, word}
 use Rattle.samples.specs.Reading.{Reading, reading}
 use Rattle.samples.specs.declared.Zone.{Zone}
 use Rattle.samples.specs.declared.MaybeZone.{MaybeZone}

@@ -2,14 +2,14 @@
 // from numbers alone; the one-word entry and the reading loop both call it and keep the state: the
 // entry in a struct by value, the loop in locals, which is what makes it fast.
 ghost use mathlib.Core.Path.{_≡_};
-ghost use Rattle.samples.specs.Word.{zoneOf};
+ghost use Rattle.words.specs.Word.{zoneOf};
 ghost use Rattle.samples.specs.View.{reportOfZone};
 use answers::Outcome;
 use entropy::AdaptiveMedians;
 use word_state::StereoDecodeState;
 
-mod coded;
 pub mod one_word;
+mod plain;
 pub mod reading;
 
 // The zone of a count: 0, 1, 2, or above, which carries the count.

@@ -5,15 +5,13 @@ ghost use Prim.Native.Nat.{_<_};
 ghost use lib.IntN.{pos};
 ghost use Rattle.answers.specs.Numbers.{numberOf};
 ghost use Rattle.word_state.specs.State.{withFlags, paid, inRun, unbroken, after};
-ghost use Rattle.samples.specs.Word.{none, zoneOf, given, refused};
+ghost use Rattle.words.specs.Word.{none, zoneOf, given, refused};
 ghost use Rattle.word_state.specs.View.{stateOf};
 ghost use Rattle.samples.specs.View.{viewWord, tellWord, oneWord};
 use crate::MaybeZone;
 use crate::WordAnswer;
 use crate::WordReport;
 use crate::Zone;
-use crate::coded::Coded;
-use crate::coded::read_word;
 use answers::Outcome;
 use answers::Refusal;
 use answers::limits::MAX_PAYLOAD_BYTES;
@@ -21,6 +19,8 @@ use entropy::AdaptiveMedians;
 use medians::adaptation::adapt;
 use word_state::StereoDecodeState;
 use word_state::zero_run_eligible;
+use words::coded::Coded;
+use words::coded::read_word;
 
 // A refused word: sample 0, the old place and state, no report.
 fn refused(refusal: Refusal, place: usize, state: StereoDecodeState) -> WordAnswer

@@ -14,11 +14,11 @@ ghost use Rattle.bits.specs.Bits.{bitsOf};
 ghost use Rattle.entropy.specs.Medians.{pairOf};
 ghost use Rattle.word_state.specs.State.{start};
 ghost use Rattle.samples.specs.Reading.{reading};
-ghost use Rattle.samples.specs.Parts.{ZerosIs};
+ghost use Rattle.samples.specs.Zeros.{ZerosIs};
 ghost use Rattle.samples.specs.View.{viewReading, tellReading, refuseReading, readEntry};
 use crate::ReadAnswer;
-use crate::coded::Coded;
-use crate::coded::read_word;
+use crate::plain::read_plain_words;
+use crate::plain::stands_at;
 use answers::Outcome;
 use answers::Refusal;
 use answers::limits::MAX_FRAMES;
@@ -27,6 +27,8 @@ use entropy::AdaptiveMedians;
 use entropy::stereo_pair_from_entropy;
 use medians::adaptation::adapt;
 use word_state::zero_run_eligible;
+use words::coded::Coded;
+use words::coded::read_word;
 
 // The answer of a reading that accepted every word.
 fn accepted(bits: usize, medians: [AdaptiveMedians; 2], written: usize) -> ReadAnswer
@@ -116,12 +118,17 @@ fn decode_packed_samples_stereo(
             }
             Coded::Sample(value, ones_count, next, zero, one) => {
                 medians[written % 2] = adapt(due, ones_count);
-                run_break = false;
-                last_zero = zero;
-                last_one = one;
-                bits = next;
                 out[written] = value;
-                written = written + 1;
+                let from = stands_at(next, written + 1, medians, zero, one);
+                let at = read_plain_words(payload, out, from);
+                let left = at.left;
+                let right = at.right;
+                medians = [left, right];
+                run_break = false;
+                last_zero = at.last_zero;
+                last_one = at.last_one;
+                bits = at.place;
+                written = at.written;
             }
             Coded::EndOfStream => return stopped(Refusal::EndOfStream, bits, medians, written),
             Coded::Truncated => return stopped(Refusal::Truncated, bits, medians, written),

@@ -10,7 +10,7 @@ use Rattle.bits.specs.Bits.{val}
 use Rattle.entropy.specs.Medians.{Medians, MedianPair}
 use Rattle.overlay.specs.Overlay.{overlay}
 use Rattle.word_state.specs.State.{State}
-use Rattle.samples.specs.Word.{Report, none, zone0, zone1, zone2, over}
+use Rattle.words.specs.Word.{Report, none, zone0, zone1, zone2, over}
 use Rattle.samples.specs.View.{WordTold}
 use Rattle.slots.specs.Slots.{leaveValues}
 

@@ -17,7 +17,7 @@ use Rattle.medians.specs.Interval.{lowOf, highOf}
 use Rattle.samples.specs.Reading.{reading}
 use Rattle.word_state.specs.State.{paid, inRun, unbroken, cleared, flagged, after, runDue}
 use Rattle.samples.specs.View.{readRefusal, readEntry}
-use Rattle.samples.specs.Word.{value, plain, fresh, word}
+use Rattle.words.specs.Word.{value, plain, fresh, word}
 use Rattle.decimal.specs.Decimal.{digits, decimal}
 use Rattle.wvpair_text.specs.Signed.{signedDecimal}
 use Rattle.wvpair_text.specs.Lines.{frameLine, frameLines, endLine, report}

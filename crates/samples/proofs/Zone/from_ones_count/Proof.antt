@@ -2,7 +2,7 @@
 -- Assumes nothing.
 use borrow.Author.Needs.{needs}
 use native.Mathlib.Omega.{arith}
-use Rattle.samples.proofs.PartLaws.{zone-many}
+use Rattle.words.proofs.PartLaws.{zone-many}
 use Rattle.samples.proofs.Zone.from_ones_count.Statement.{statement}
 use Rattle.samples.proofs.Zone.from_ones_count.Tie as tie
 

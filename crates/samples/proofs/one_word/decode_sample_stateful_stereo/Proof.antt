@@ -13,10 +13,10 @@ use mir.Val.{SFits}
 use Rattle.bits.specs.Bits.{bitsOf}
 use Rattle.word_state.specs.State.{State}
 use Rattle.word_state.specs.View.{stateOf}
-use Rattle.samples.specs.Word.{given, none, zoneOf}
-use Rattle.samples.specs.Parts.{codedWord}
+use Rattle.words.specs.Word.{given, none, zoneOf}
+use Rattle.words.specs.Parts.{codedWord}
 use Rattle.samples.specs.View.{tellWord, oneWord}
-use Rattle.samples.specs.declared.coded.Coded.{Coded}
+use Rattle.words.specs.declared.coded.Coded.{Coded}
 use Rattle.word_state.proofs.StateLaws.{length-mapped}
 use Rattle.samples.proofs.WordLaws.{one-large, one-channel, one-word, word-paid, one-coded}
 use Rattle.samples.proofs.one_word.decode_sample_stateful_stereo.Statement.{statement}

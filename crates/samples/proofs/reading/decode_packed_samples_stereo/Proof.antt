@@ -4,7 +4,7 @@
 use borrow.Author.Needs.{needs}
 use native.Mathlib.Omega.{arith}
 use mathlib.Core.Path.{_≡_, ap}
-use Prim.Native.Nat.{_-_}
+use Prim.Native.Nat.{_+_, _-_, _<_}
 use denote.Ref.{now}
 use lib.ListN.{length}
 use mir.Facts.{toZ-ofZ}
@@ -12,9 +12,10 @@ use mir.Syntax.{w32}
 use mir.Val.{SFits}
 use Rattle.entropy.specs.Medians.{pairOf}
 use Rattle.word_state.specs.State.{start}
-use Rattle.samples.specs.Parts.{codedWord}
+use Rattle.words.specs.Parts.{codedWord}
 use Rattle.word_state.proofs.StateLaws.{length-mapped}
-use Rattle.samples.proofs.LoopLaws.{Loop, loop-start, loop-end, loop-run, loop-sample, loop-stop}
+use Rattle.samples.specs.declared.plain.Standing.{Standing}
+use Rattle.samples.proofs.LoopLaws.{Loop, loop-start, loop-end, loop-run, loop-sample, loop-stop, room-behind}
 use Rattle.samples.proofs.reading.decode_packed_samples_stereo.Statement.{statement}
 use Rattle.samples.proofs.reading.decode_packed_samples_stereo.Tie as tie
 
@@ -31,9 +32,12 @@ loop-holds c =
     let l : length (a .seeds) ≡ 2 = search (needs, length-mapped) in
     loop-start (now (a .payload)) (now (a .out)) (a .seeds) l
 
--- the loop's head, from where a word was read
+-- the loop's test and its head, from where a word was read
+abbrev in-loop : tie.After-read-word Inv-loop μ-loop → tie.In-loop Inv-loop μ-loop
+in-loop c = c .before .before .before .before .before
+
 abbrev at-loop : tie.After-read-word Inv-loop μ-loop → tie.At-loop Inv-loop μ-loop
-at-loop c = c .before .before .before .before .before .before
+at-loop c = in-loop c .before
 
 loop-less : tie.Need-loop-less Inv-loop μ-loop
 loop-less c =
@@ -49,15 +53,36 @@ loop-again c =
     let l = at-loop w .loop .inv in
     loop-run _ _ _ _ _ _ _ _ _ _ l _ _ (omega arith) (w .before .zero-run-eligible .ensures) (w .read-word .ensures) _ _ _ _ (y .behind .given .1) (c .before .put-zeros .ensures)
 
+read-plain-words-requires : tie.Need-read-plain-words-requires Inv-loop μ-loop
+read-plain-words-requires c κs =
+    let y : tie.After-value Inv-loop μ-loop = search needs in
+    let w = y .before .before in
+    let e = ap (λ (x : Standing). x .written) (c .before .stands-at .ensures) in
+    (at-loop w .before .before .pre, room-behind (at-loop w .loop .out) (at-loop w .loop .written) _ _ (in-loop w .loop-test .taken) e)
+
+loop-less-2 : tie.Need-loop-less-2 Inv-loop μ-loop
+loop-less-2 c =
+    let y : tie.After-value Inv-loop μ-loop = search needs in
+    let s : tie.After-stands-at Inv-loop μ-loop = search needs in
+    let g : tie.After-read-plain-words Inv-loop μ-loop = search needs in
+    let w = y .before .before in
+    let l = at-loop w .loop in
+    let e : s .stands-at .result .written ≡ l .written + 1 = ap (λ (x : Standing). x .written) (s .stands-at .ensures) in
+    let h : l .written < length (l .out) = in-loop w .loop-test .taken in
+    omega (arith, l .inv .words .same, g .read-plain-words .ensures .since)
+
 loop-again-2 : tie.Need-loop-again-2 Inv-loop μ-loop
 loop-again-2 c =
-    let y = c .before .before in
+    let y : tie.After-value Inv-loop μ-loop = search needs in
+    let d : tie.After-adapt Inv-loop μ-loop = search needs in
+    let s : tie.After-stands-at Inv-loop μ-loop = search needs in
+    let g : tie.After-read-plain-words Inv-loop μ-loop = search needs in
     let w = y .before .before in
     let l = at-loop w .loop .inv in
     let v = y .value .given .0 .0 in
     let f : SFits w32 v = search needs in
-    rw (toZ-ofZ f)
-    (loop-sample _ _ _ _ _ _ _ _ _ _ l _ _ (omega arith) (w .before .zero-run-eligible .ensures) (w .read-word .ensures) v _ _ _ _ _ (y .value .given .1) (c .adapt .ensures))
+    loop-sample _ _ _ _ _ _ _ _ _ _ l _ _ (in-loop w .loop-test .taken) (w .before .zero-run-eligible .ensures) (w .read-word .ensures) v _ _ _ _ _ _ _ (y .value .given .1) (d .adapt .ensures)
+    (rw (toZ-ofZ f, s .stands-at .ensures) at (g .read-plain-words .ensures))
 
 returns : tie.Need-returns Inv-loop μ-loop
 returns c =
@@ -102,7 +127,9 @@ decode-packed-samples-stereo-spec =
     (λ c. search needs)
     (λ c. search needs)
     (λ c. search needs)
-    (λ c. search needs)
+    (λ c κs. search needs)
+    read-plain-words-requires
+    loop-less-2
     loop-again-2
     (λ c. search needs)
     (λ c κs. search needs)

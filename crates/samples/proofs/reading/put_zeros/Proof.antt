@@ -9,7 +9,7 @@ use Prim.Native.Nat.{ℕ, _+_, _-_, _≤_, _<_}
 use denote.Ref.{now}
 use lib.IntN.{ℤ}
 use lib.ListN.{length}
-use Rattle.samples.specs.Parts.{zeroed}
+use Rattle.samples.specs.Zeros.{zeroed}
 use Rattle.samples.proofs.ZeroLaws.{zeroed-length, zeroed-none, zeroed-more}
 use Rattle.samples.proofs.reading.put_zeros.Statement.{statement}
 use Rattle.samples.proofs.reading.put_zeros.Tie as tie

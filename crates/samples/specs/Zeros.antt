@@ -1,0 +1,21 @@
+-- The zeros of a run, laid into a list.
+-- Assumes nothing.
+use mathlib.Core.Path.{_≡_}
+use mathlib.Core.List.{List}
+use Prim.Native.Nat.{ℕ, _+_, _-_, _≤_, _<_}
+use lib.IntN.{ℤ, pos}
+use lib.ListN.{length, replicate}
+use Rattle.overlay.specs.Overlay.{overlay}
+
+-- n zeros from i on, in a list that keeps its other elements
+abbrev pub zeroed : List ℤ → ℕ → ℕ → List ℤ
+zeroed l i n = overlay l i (replicate n (pos 0))
+
+-- the zeros of a run from `first` on, the first and `behind` more, as far as the list goes; r is
+-- the index after them
+pub record ZerosIs (before after : List ℤ) (first behind r : ℕ) : Type 0 where
+  pub list-is : after ≡ zeroed before first (r - first)
+  pub some : first < r
+  pub within : r ≤ length before
+  pub most : r ≤ first + 1 + behind
+  pub all : r < length before → r ≡ first + 1 + behind
