@@ -1,6 +1,7 @@
-//! Whole readings: every payload of up to 2 bytes, random, damaged and cut payloads, and the
-//! largest sizes; each also with a zero right set. Log words at the limits of their reach, at each
-//! place and beside other faults.
+//! Whole readings: every payload of up to 2 bytes, random, damaged and cut payloads, payloads of
+//! plain words cut to each of their last lengths, and the largest sizes; the random and the largest
+//! ones also with a zero right set. Log words at the limits of their reach, at each place and beside
+//! other faults.
 use crate::case::{Case, Failed, Run, Smaller, plainer, same, shorter};
 use crate::fields;
 use crate::lent::Lent;
@@ -122,10 +123,30 @@ pub fn run(run: &mut Run) -> Result<(), Failed> {
             run.agree(case)?;
         }
     }
+    plain_words(run)?;
     at_limits(run)?;
     largest(run, [1500, 1400, 1300, 1600, 1500, 1400])?;
     largest(run, [1500, 1400, 1300, 0, 0, 0])?;
     largest(run, [0; 6])
+}
+
+/// How many bytes before a payload's end no plain word is begun any more, and some.
+const TAIL: usize = 40;
+
+/// Payloads that are long enough for plain words, of residuals or of fields around every cap, and cut
+/// to each of their last lengths: the loop over plain words then ends at every word, before runs and
+/// escapes, in the left and in the right channel, and at each distance from the payload's end.
+fn plain_words(run: &mut Run) -> Result<(), Failed> {
+    for round in 0..3_000 * run.scale {
+        let random = &mut run.random;
+        let (entropy, frames, length) = (entropy(random), 32 + random.below(64), 64 + random.below(200));
+        let made = if round % 3 == 0 { None } else { encoded(random, &entropy, frames) };
+        let payload = made.unwrap_or_else(|| fields::payload(random, length));
+        for length in payload.len().saturating_sub(TAIL)..=payload.len() {
+            agree_on(run, &entropy, payload[..length].to_vec(), frames)?;
+        }
+    }
+    Ok(())
 }
 
 /// Limits of a log word's reach beside other faults, too many frames, a list that does not suit them,

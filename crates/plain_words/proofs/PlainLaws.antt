@@ -5,10 +5,11 @@ use mathlib.Core.Bool.{Bool, true, false, not, _&&_, and-false}
 use mathlib.Core.List.{List, _∷_}
 use Prim.Native.Nat.{ℕ, zero, suc, _+_, _-_, _*_, _/_, _%_, _^_, _≤_, _<_}
 use native.Mathlib.Omega.{arith}
-use borrow.Author.Tests.{not-true}
+use borrow.Author.Tests.{not-true, lt-ltb, le-ltb}
 use lib.IntN.{ℤ}
 use lib.Dec.{leb, eqb}
 use lib.Pow.{shr-shr}
+use Rattle.answers.proofs.TestLaws.{clash}
 use Rattle.bits.specs.Bits.{val, bitOf, low, ones}
 use Rattle.bits.specs.Window.{Window}
 use Rattle.bits.proofs.RegisterLaws.{window-shift}
@@ -25,7 +26,7 @@ use Rattle.words.specs.declared.coded.SignedValue.{SignedValue}
 use Rattle.words.proofs.JoinLaws.{plain-sample}
 use Rattle.words.proofs.PartLaws.{count-zero, count-read}
 use Rattle.plain_words.specs.declared.PlainWord.{PlainWord}
-use Rattle.plain_words.specs.Plain.{onesOf, ShortPrefix, PlainWordIs, CountedIs}
+use Rattle.plain_words.specs.Plain.{onesOf, ShortPrefix, PlainWordIs, CountedIs, WordIs}
 
 -- ---- the prefix
 
@@ -104,6 +105,7 @@ module _ (w n lo hi : ℕ) (h : ShortPrefix w n lo hi) (after : AdaptiveMedians)
       let d : lo + (hi - lo) ≡ hi = omega (arith, h .ordered) in
       record {
         is = λ due other o i a. record {
+          given = refl;
           count = n / 2 + val o;
           is = λ bits p v.
               rw (even (n % 2) (omega arith), odd (n % 2) (omega arith))
@@ -136,6 +138,7 @@ module _ (w lo hi : ℕ) (due other : Medians) (o : Bool) (i : IntervalIs due 0 
   announced-is =
       let d : lo + (hi - lo) ≡ hi = omega (arith, told-ends due 0 lo hi i .ordered) in
       record {
+        given = refl;
         count = 0;
         is = λ bits p v.
             plain-sample bits p due true o 0 p false o (count-zero bits p o) sample (p + used)
@@ -145,3 +148,17 @@ module _ (w lo hi : ℕ) (due other : Medians) (o : Bool) (i : IntervalIs due 0 
         most = omega (arith, t .most);
         unbroken = λ x. sym f ∙ not-true run x;
       }
+
+-- ---- given or not
+
+-- behind an announced zero
+pub given-announced : (w : ℕ) (due other : Medians) (o : Bool) (r : PlainWord) → PlainWordIs w due other true o r → WordIs w due other true o r
+given-announced w due other o r p = record { fits = p .given; word = λ t. p }
+
+-- with fewer than 16 ones
+pub given-counted : (w n : ℕ) (due other : Medians) (o : Bool) (r : PlainWord) → n ≡ onesOf w → n < 16 → PlainWordIs w due other false o r → WordIs w due other false o r
+given-counted w n due other o r e h p = record { fits = p .given ∙ sym (rw (sym e) (lt-ltb n 16 h)); word = λ t. p }
+
+-- with more
+pub not-given : (w n : ℕ) (due other : Medians) (o : Bool) (r : PlainWord) → n ≡ onesOf w → 16 ≤ n → r .fit ≡ false → WordIs w due other false o r
+not-given w n due other o r e h f = record { fits = f ∙ sym (rw (sym e) (le-ltb n 16 h)); word = λ t. clash t f }

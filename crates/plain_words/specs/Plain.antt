@@ -2,9 +2,10 @@
 -- place where these bits stand (W3, W4).
 -- Assumes nothing.
 use mathlib.Core.Path.{_≡_}
-use mathlib.Core.Bool.{Bool, true, false}
+use mathlib.Core.Bool.{Bool, true, false, _||_}
 use mathlib.Core.List.{List}
 use Prim.Native.Nat.{ℕ, _+_, _-_, _/_, _≤_, _<_}
+use lib.Dec.{ltb}
 use Rattle.bits.specs.Bits.{val, low, ones}
 use Rattle.bits.specs.Window.{Window}
 use Rattle.entropy.specs.Medians.{Medians, mediansOf}
@@ -23,6 +24,7 @@ onesOf w = ones (low 64 w)
 -- r is the word at every place where w stands, for the medians due, those of the other channel and
 -- the two flags; no run length stands behind it where it says so
 pub record PlainWordIs (w : ℕ) (due other : Medians) (lastZero lastOne : Bool) (r : PlainWord) : Type 0 where
+  pub given : r .fit ≡ true
   pub count : ℕ
   pub is : (bits : List Bool) (p : ℕ) → Window bits p 64 w
       → PlainIs bits p due lastZero lastOne (Coded.Sample (r .value) count (p + r .used) (r .«last_zero») (r .«last_one»))
@@ -44,3 +46,8 @@ pub record ShortPrefix (w n lo hi : ℕ) : Type 0 where
 pub record CountedIs (w n lo hi : ℕ) (after : AdaptiveMedians) (r : PlainWord) : Type 0 where
   pub is : (due other : Medians) (lastOne : Bool) → let k = n / 2 + val lastOne in
       IntervalIs due k lo hi → mediansOf after ≡ adapt due k → PlainWordIs w due other false lastOne r
+
+-- a word behind an announced zero, or with fewer than 16 ones, is given; any other is not
+pub record WordIs (w : ℕ) (due other : Medians) (lastZero lastOne : Bool) (r : PlainWord) : Type 0 where
+  pub fits : r .fit ≡ (lastZero || ltb (onesOf w) 16)
+  pub word : r .fit ≡ true → PlainWordIs w due other lastZero lastOne r

@@ -2,13 +2,13 @@
 // of at most 15 ones, code and sign, all out of 64 bits that stand in a register. Any other word is
 // left to the crate words, whose definition is met by both.
 //
-// What must be fast hangs on branches. A count of 0 or 1 is tested for, since the medians make it
+// What must be fast hangs on branches. A count of 0 or 1 is tested for, since the medians make a 0
 // come five times in seven; what is as random as a coin is chosen (`fields::code`). Each way adapts
 // the medians by a count that the compiler knows.
 ghost use mathlib.Core.Path.{_≡_};
 ghost use mathlib.Core.Bool.{true, false};
 ghost use Rattle.entropy.specs.Medians.{mediansOf};
-ghost use Rattle.plain_words.specs.Plain.{ShortPrefix, PlainWordIs, CountedIs};
+ghost use Rattle.plain_words.specs.Plain.{ShortPrefix, PlainWordIs, CountedIs, WordIs};
 use entropy::AdaptiveMedians;
 use medians::adaptation::adapt;
 use medians::interval::SampleInterval;
@@ -90,7 +90,8 @@ fn no_word(medians: AdaptiveMedians) -> PlainWord
     }
 }
 
-// The left word.
+// The left word of a frame: with the medians of the other channel, for whether a run length may
+// follow.
 pub fn left_word(
     w: u64,
     medians: AdaptiveMedians,
@@ -99,8 +100,7 @@ pub fn left_word(
     last_one: bool,
 ) -> PlainWord
     ensures { λ r.
-        ⌜ (r .fit ≡ true
-        → PlainWordIs w (mediansOf medians) (mediansOf other) «last_zero» «last_one» r) ⌝ }
+        ⌜ WordIs w (mediansOf medians) (mediansOf other) «last_zero» «last_one» r ⌝ }
 {
     if last_zero {
         return announced_word(w, medians, other, last_one);
@@ -125,7 +125,8 @@ pub fn left_word(
     )
 }
 
-// The right word.
+// The right word of a frame. The same text as that of the left word: a function of this size is laid
+// into its caller only where it has no other.
 pub fn right_word(
     w: u64,
     medians: AdaptiveMedians,
@@ -134,8 +135,7 @@ pub fn right_word(
     last_one: bool,
 ) -> PlainWord
     ensures { λ r.
-        ⌜ (r .fit ≡ true
-        → PlainWordIs w (mediansOf medians) (mediansOf other) «last_zero» «last_one» r) ⌝ }
+        ⌜ WordIs w (mediansOf medians) (mediansOf other) «last_zero» «last_one» r ⌝ }
 {
     if last_zero {
         return announced_word(w, medians, other, last_one);

@@ -6,13 +6,16 @@ use mathlib.Core.List.{List, [], _∷_}
 use Prim.Native.Nat.{ℕ, _+_, _%_, _≤_, _<_}
 use native.Mathlib.Omega.{arith}
 use lib.IntN.{ℤ}
-use lib.ListN.{length, set, length-set}
+use lib.ListN.{length, getD, set, length-set}
 use Rattle.answers.proofs.TestLaws.{clash}
 use Rattle.bits.specs.Bits.{bitsOf}
-use Rattle.entropy.specs.Medians.{mediansOf}
+use Rattle.entropy.specs.Medians.{Medians, mediansOf}
+use Rattle.entropy.specs.declared.AdaptiveMedians.{AdaptiveMedians}
 use Rattle.plain_words.specs.Plain.{PlainWordIs}
 use Rattle.plain_words.specs.declared.PlainWord.{PlainWord}
+use Rattle.word_state.specs.State.{runDue}
 use Rattle.word_state.proofs.FlagLaws.{due-either}
+use Rattle.word_state.proofs.StateLaws.{noSet}
 use Rattle.words.proofs.JoinLaws.{coded-word}
 use Rattle.words.proofs.PartLaws.{run-skipped}
 use Rattle.samples.specs.Standing.{Onward}
@@ -35,35 +38,29 @@ onward-then payload a b c x y z f g = record {
 }
 
 module _ (payload : List ℕ) (out : List ℤ) (x : Standing) (w : ℕ) (h : x .written < length out) (v : Ready payload x w) (y : PlainWord) where
-  -- the left word
-  pub onward-left : x .written % 2 ≡ 0 → PlainWordIs w (mediansOf (x .left)) (mediansOf (x .right)) (x .«last_zero») (x .«last_one») y
-      → Onward payload out (set out (x .written) (y .value)) x (behind x y (y .medians) (x .right))
-  onward-left e t =
+  -- the word of the channel c, whose medians are due, and the two sets after it
+  onward-word : (c : ℕ) (due left right : AdaptiveMedians) (other : Medians) → x .written % 2 ≡ c → getD (x .left ∷ x .right ∷ []) c noSet ≡ due
+      → set (x .left ∷ x .right ∷ []) c (y .medians) ≡ left ∷ right ∷ [] → PlainWordIs w (mediansOf due) other (x .«last_zero») (x .«last_one») y
+      → Onward payload out (set out (x .written) (y .value)) x (behind x y left right)
+  onward-word c due left right other e d f t =
       let bits = bitsOf payload in
-      let c = coded-word bits (x .place) (mediansOf (x .left)) (x .«last_zero») (x .«last_one») false (x .place) _ (run-skipped bits (x .place)) (t .is bits (x .place) (v .window)) in
+      let k = coded-word bits (x .place) (mediansOf due) (x .«last_zero») (x .«last_one») false (x .place) _ (run-skipped bits (x .place)) (t .is bits (x .place) (v .window)) in
       record {
-        goes = λ out₀ s₀ l. rw e at
-            (words-sample payload out₀ s₀ out (x .left ∷ x .right ∷ []) 0 false (x .«last_zero») (x .«last_one») (x .place) (x .written) l _ false refl h (sym (v .no-run)) (rw e c)
-            (y .value) (t .count) (x .place + y .used) (y .«last_zero») (y .«last_one») (y .medians) refl (rw e (t .adapted)));
+        goes = λ out₀ s₀ l. rw (e, f) at
+            (words-sample payload out₀ s₀ out (x .left ∷ x .right ∷ []) 0 false (x .«last_zero») (x .«last_one») (x .place) (x .written) l _ false refl h (sym (v .no-run)) (rw (e, d) k)
+            (y .value) (t .count) (x .place + y .used) (y .«last_zero») (y .«last_one») (y .medians) refl (rw (e, d) (t .adapted)));
         since = omega arith;
         within = omega (arith, length-set out (x .written) (y .value));
         same = length-set out (x .written) (y .value);
       }
 
-  -- the right word
+  pub onward-left : x .written % 2 ≡ 0 → PlainWordIs w (mediansOf (x .left)) (mediansOf (x .right)) (x .«last_zero») (x .«last_one») y
+      → Onward payload out (set out (x .written) (y .value)) x (behind x y (y .medians) (x .right))
+  onward-left e t = onward-word 0 (x .left) (y .medians) (x .right) (mediansOf (x .right)) e refl refl t
+
   pub onward-right : x .written % 2 ≡ 1 → PlainWordIs w (mediansOf (x .right)) (mediansOf (x .left)) (x .«last_zero») (x .«last_one») y
       → Onward payload out (set out (x .written) (y .value)) x (behind x y (x .left) (y .medians))
-  onward-right e t =
-      let bits = bitsOf payload in
-      let c = coded-word bits (x .place) (mediansOf (x .right)) (x .«last_zero») (x .«last_one») false (x .place) _ (run-skipped bits (x .place)) (t .is bits (x .place) (v .window)) in
-      record {
-        goes = λ out₀ s₀ l. rw e at
-            (words-sample payload out₀ s₀ out (x .left ∷ x .right ∷ []) 0 false (x .«last_zero») (x .«last_one») (x .place) (x .written) l _ false refl h (sym (v .no-run)) (rw e c)
-            (y .value) (t .count) (x .place + y .used) (y .«last_zero») (y .«last_one») (y .medians) refl (rw e (t .adapted)));
-        since = omega arith;
-        within = omega (arith, length-set out (x .written) (y .value));
-        same = length-set out (x .written) (y .value);
-      }
+  onward-right e t = onward-word 1 (x .right) (x .left) (y .medians) (mediansOf (x .left)) e refl refl t
 
 -- ---- steps
 
@@ -72,25 +69,24 @@ pub step-none : (payload : List ℕ) (out : List ℤ) (x : Standing) (w : ℕ) �
 step-none payload out x w h = record { onward = onward-none payload out x h; ready = λ e. clash e refl; next = λ e. clash e refl; near = omega arith }
 
 module _ (payload : List ℕ) (out after : List ℤ) (x : Standing) (w : ℕ) (h : x .written < length out) (v : Ready payload x w) (y : PlainWord) (r : Step) where
-  -- the left word
-  pub left-step : x .written % 2 ≡ 0 → PlainWordIs w (mediansOf (x .left)) (mediansOf (x .right)) (x .«last_zero») (x .«last_one») y
-      → SteppedIs payload out after x y (y .medians) (x .right) r → StepIs payload out after x r
-  left-step e t s = record {
-    onward = rw (s .list-is, s .at-is) (onward-left payload out x w h v y e t);
-    ready = λ o. rw (s .at-is) (record { window = s .window; no-run = t .unbroken (sym (s .on-is) ∙ o) });
+  -- a word, with the two sets after it
+  stepped-on : (left right : AdaptiveMedians) → Onward payload out (set out (x .written) (y .value)) x (behind x y left right) → y .used ≤ 57
+      → (y .on ≡ true → runDue (mediansOf left) (mediansOf right) (y .«last_zero») (y .«last_one») ≡ false) → SteppedIs payload out after x y left right r
+      → StepIs payload out after x r
+  stepped-on left right g u n s = record {
+    onward = rw (s .list-is, s .at-is) g;
+    ready = λ o. rw (s .at-is) (record { window = s .window; no-run = n (sym (s .on-is) ∙ o) });
     next = λ o. rw (s .at-is);
-    near = rw (s .at-is) (omega (arith, t .most));
+    near = rw (s .at-is) (omega arith);
   }
 
-  -- the right word
+  pub left-step : x .written % 2 ≡ 0 → PlainWordIs w (mediansOf (x .left)) (mediansOf (x .right)) (x .«last_zero») (x .«last_one») y
+      → SteppedIs payload out after x y (y .medians) (x .right) r → StepIs payload out after x r
+  left-step e t s = stepped-on (y .medians) (x .right) (onward-left payload out x w h v y e t) (t .most) (t .unbroken) s
+
   pub right-step : x .written % 2 ≡ 1 → PlainWordIs w (mediansOf (x .right)) (mediansOf (x .left)) (x .«last_zero») (x .«last_one») y
       → SteppedIs payload out after x y (x .left) (y .medians) r → StepIs payload out after x r
-  right-step e t s = record {
-    onward = rw (s .list-is, s .at-is) (onward-right payload out x w h v y e t);
-    ready = λ o. rw (s .at-is) (record { window = s .window; no-run = due-either _ _ _ _ ∙ t .unbroken (sym (s .on-is) ∙ o) });
-    next = λ o. rw (s .at-is);
-    near = rw (s .at-is) (omega (arith, t .most));
-  }
+  right-step e t s = stepped-on (x .left) (y .medians) (onward-right payload out x w h v y e t) (t .most) (λ o. due-either _ _ _ _ ∙ t .unbroken o) s
 
 -- ---- the loop
 

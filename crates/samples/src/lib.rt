@@ -1,6 +1,6 @@
-// Implements document 01, "One word" and "Reading". `coded` reads a word where no zero is owed,
-// from numbers alone; the one-word entry and the reading loop both call it and keep the state: the
-// entry in a struct by value, the loop in locals, which is what makes it fast.
+// Implements document 01, "One word" and "Reading". The crate words reads a word where no zero is
+// owed, from numbers alone; the one-word entry and the reading loop both call it and keep the state:
+// the entry in a struct by value, the loop in locals. Plain words the loop reads in pairs (`plain`).
 ghost use mathlib.Core.Path.{_≡_};
 ghost use Rattle.words.specs.Word.{zoneOf};
 ghost use Rattle.samples.specs.View.{reportOfZone};

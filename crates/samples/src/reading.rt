@@ -1,8 +1,7 @@
 // Implements document 01, "Reading": the refusals that come before any word, then word after word
 // into a lent list. The medians are a local array that is indexed by channel, and the rest of the
-// state is in locals, so that the compiler keeps it in registers; a run is one turn, so that no
-// debt is held. The zero set stands outside the loop: made inside it, it cost loud payloads a
-// twentieth.
+// state is in locals; a run is one turn, so that no debt is held. Behind each word that is read field
+// by field come plain words, as far as they go (`plain`): most words are, and that is what is fast.
 ghost use mathlib.Core.Path.{_≡_};
 ghost use mathlib.Core.List.{List};
 ghost use Prim.Native.Nat.{_≤_, _<_};

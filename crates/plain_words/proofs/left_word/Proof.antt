@@ -4,42 +4,47 @@
 use borrow.Author.Needs.{needs}
 use native.Mathlib.Omega.{arith}
 use mathlib.Core.Bool.{true, false}
-use Rattle.answers.proofs.TestLaws.{clash}
 use Rattle.bits.proofs.OnesLaws.{trailing-ones}
 use Rattle.entropy.specs.Medians.{mediansOf}
-use Rattle.plain_words.proofs.PlainLaws.{few, short-prefix, few-counted}
+use Rattle.plain_words.proofs.PlainLaws.{few, short-prefix, few-counted, given-announced, given-counted, not-given}
 use Rattle.plain_words.proofs.left_word.Statement.{statement}
 use Rattle.plain_words.proofs.left_word.Tie as tie
 
 returns : tie.Need-returns
-returns c t = rw (c .before .if1 .taken) (c .announced-word .ensures)
+returns c = rw (c .before .if1 .taken) (given-announced _ _ _ _ _ (c .announced-word .ensures))
 
 counted-word-requires : tie.Need-counted-word-requires
 counted-word-requires c κs = short-prefix _ _ 1 _ _ (mediansOf (c .before .before .before .before .before .args .medians)) (few _ (search needs)) (omega arith) (c .before .sample-interval .ensures)
 
 returns-2 : tie.Need-returns-2
-returns-2 c t =
+returns-2 c =
     let start : tie.Start = search needs in
     let else1 : tie.Else1 = search needs in
     let then3 : tie.Then3 = search needs in
     let a = start .args in
     rw (else1 .if1 .left, then3 .if3 .taken)
-    (few-counted (a .w) _ _ _ _ _ (c .counted-word .ensures) (omega arith) (mediansOf (a .medians)) (mediansOf (a .other)) true (c .before .before .sample-interval .ensures) (c .before .adapt .ensures))
+    (given-counted (a .w) _ _ _ _ _ (few (a .w) (search needs)) (omega arith)
+    (few-counted (a .w) _ _ _ _ _ (c .counted-word .ensures) (omega arith) (mediansOf (a .medians)) (mediansOf (a .other)) true (c .before .before .sample-interval .ensures) (c .before .adapt .ensures)))
 
 counted-word-requires-2 : tie.Need-counted-word-requires-2
 counted-word-requires-2 c κs = short-prefix _ _ 0 _ _ (mediansOf (c .before .before .before .before .before .args .medians)) (few _ (search needs)) (omega arith) (c .before .sample-interval2 .ensures)
 
 returns-3 : tie.Need-returns-3
-returns-3 c t =
+returns-3 c =
     let start : tie.Start = search needs in
     let else1 : tie.Else1 = search needs in
     let else3 : tie.Else3 = search needs in
     let a = start .args in
     rw (else1 .if1 .left, else3 .if3 .left)
-    (few-counted (a .w) _ _ _ _ _ (c .counted-word2 .ensures) (omega arith) (mediansOf (a .medians)) (mediansOf (a .other)) false (c .before .before .sample-interval2 .ensures) (c .before .adapt2 .ensures))
+    (given-counted (a .w) _ _ _ _ _ (few (a .w) (search needs)) (omega arith)
+    (few-counted (a .w) _ _ _ _ _ (c .counted-word2 .ensures) (omega arith) (mediansOf (a .medians)) (mediansOf (a .other)) false (c .before .before .sample-interval2 .ensures) (c .before .adapt2 .ensures)))
 
 returns-4 : tie.Need-returns-4
-returns-4 c t = clash t (c .no-word .ensures)
+returns-4 c =
+    let start : tie.Start = search needs in
+    let else1 : tie.Else1 = search needs in
+    let a = start .args in
+    rw (else1 .if1 .left) (not-given (a .w) _ _ _ _ _ (trailing-ones 64 (a .w) (omega arith)) (omega arith) (c .no-word .ensures))
 
 counted-word-requires-3 : tie.Need-counted-word-requires-3
 counted-word-requires-3 c κs =
@@ -47,14 +52,15 @@ counted-word-requires-3 c κs =
     short-prefix _ _ _ _ _ (mediansOf (a .medians)) (trailing-ones 64 (a .w) (omega arith)) (omega arith) (c .before .sample-interval3 .ensures)
 
 returns-5 : tie.Need-returns-5
-returns-5 c t =
+returns-5 c =
     let start : tie.Start = search needs in
     let else1 : tie.Else1 = search needs in
     let k : tie.After-one-if = search needs in
     let a = start .args in
     let e = k .one-if .ensures .0 in
     rw (else1 .if1 .left)
-    (c .counted-word3 .ensures .is (mediansOf (a .medians)) (mediansOf (a .other)) (a .last-one) (rw e at (c .before .before .sample-interval3 .ensures)) (rw e at (c .before .adapt3 .ensures)))
+    (given-counted (a .w) _ _ _ _ _ (trailing-ones 64 (a .w) (omega arith)) (omega arith)
+    (c .counted-word3 .ensures .is (mediansOf (a .medians)) (mediansOf (a .other)) (a .last-one) (rw e at (c .before .before .sample-interval3 .ensures)) (rw e at (c .before .adapt3 .ensures))))
 
 pub left-word-spec : {M : Type 1} → statement M
 left-word-spec =
