@@ -2,6 +2,7 @@
 pub mod TurnLaws
 pub mod FrameLaws
 pub mod LagLaws
+pub mod LookLaws
 pub mod TwoLaws
 pub mod CrossLaws
 pub mod SwapLaws

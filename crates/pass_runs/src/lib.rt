@@ -1,8 +1,8 @@
 // Implements document 01, "Passes": one pass over a whole buffer, decorrelation and analysis.
 ghost use mathlib.Core.Path.{_≡_};
 ghost use Rattle.passes.specs.Run.{passed};
+use crate::lookback::run_lag;
 use crate::loops::run_cross;
-use crate::loops::run_lag;
 use crate::loops::run_swap;
 use crate::loops::run_two;
 use passes::DecorrPass;
@@ -10,6 +10,7 @@ use passes::Direction;
 use passes::Term;
 
 mod frames;
+mod lookback;
 mod loops;
 mod turns;
 

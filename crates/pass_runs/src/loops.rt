@@ -17,8 +17,8 @@ use crate::turns::with_state;
 use passes::DecorrPass;
 use passes::Direction;
 
-// A fixed lag.
-pub(crate) fn run_lag(
+// A fixed lag, by a ring of the last eight samples.
+pub(crate) fn run_ring(
     direction: Direction,
     lag: usize,
     start: DecorrPass,

@@ -1,4 +1,4 @@
--- `loops::run_lag` meets its contract. At each turn `Done` holds; the measure is what is left of
+-- `loops::run_ring` meets its contract. At each turn `Done` holds; the measure is what is left of
 -- the buffer. Assumes nothing.
 use mathlib.Core.Path.{refl}
 use Prim.Native.Nat.{_-_, _+_, _<_}
@@ -13,8 +13,8 @@ use Rattle.pass_runs.specs.Turns.{lagAt}
 use Rattle.pass_runs.proofs.TurnLaws.{kept}
 use Rattle.pass_runs.proofs.FrameLaws.{Done, frame-fits, turned-fits, done-start, done-end}
 use Rattle.pass_runs.proofs.LagLaws.{lag-turn}
-use Rattle.pass_runs.proofs.loops.run_lag.Statement.{statement}
-use Rattle.pass_runs.proofs.loops.run_lag.Tie as tie
+use Rattle.pass_runs.proofs.loops.run_ring.Statement.{statement}
+use Rattle.pass_runs.proofs.loops.run_ring.Tie as tie
 
 abbrev Inv-loop : tie.InvT-loop
 Inv-loop direction lag start buffer₀ delta ga₀ gb₀ wa₀ wb₀ m₀ i₀ buffer ga gb wa wb m i =
@@ -61,8 +61,8 @@ returns c =
     let s = at .before .before .before .before .before .before in
     done-end (turn (s .args .direction) (Lag (s .args .lag))) (s .args .start) (s .args .buffer .now) (at .loop .inv) (omega arith) (c .with-state .ensures)
 
-pub run-lag-spec : {M : Type 1} → statement M
-run-lag-spec =
+pub run-ring-spec : {M : Type 1} → statement M
+run-ring-spec =
     tie.close
     (tie.spec
     Inv-loop
