@@ -1,9 +1,10 @@
 //! With the feature `before`, links an earlier archive, `libcapi_before.a`, from the folder that
-//! CAPI_BEFORE names by an absolute path. It is made of an earlier `libcapi.a`, with one name that
-//! is seen from outside, so that none of its names meets one of today's archive:
+//! CAPI_BEFORE names by an absolute path. It is made of an earlier `libcapi.a`, with two names that
+//! are seen from outside, so that none of its names meets one of today's archive:
 //!
 //! ```text
 //! objcopy --redefine-sym wv_read=before_wv_read --keep-global-symbol=before_wv_read \
+//!     --redefine-sym wv_word=before_wv_word --keep-global-symbol=before_wv_word \
 //!     OLD/libcapi.a FOLDER/libcapi_before.a
 //! ```
 use std::env;

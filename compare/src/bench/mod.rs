@@ -8,6 +8,7 @@ use crate::random::Random;
 use crate::theirs::MAX_FRAMES;
 use reading::Read;
 use std::time::{Duration, Instant};
+use words::Word;
 
 #[cfg(feature = "before")]
 mod before;
@@ -19,12 +20,19 @@ mod pages;
 mod passes;
 mod reading;
 mod waves;
+mod words;
 
 /// Reading by an earlier archive, where the program has one.
 #[cfg(feature = "before")]
 const BEFORE: Option<Read> = Some(before::read);
 #[cfg(not(feature = "before"))]
 const BEFORE: Option<Read> = None;
+
+/// One word a call by it.
+#[cfg(feature = "before")]
+const BEFORE_WORD: Option<Word> = Some(before::word);
+#[cfg(not(feature = "before"))]
+const BEFORE_WORD: Option<Word> = None;
 
 const TURNS: usize = 40;
 
@@ -70,6 +78,7 @@ pub fn run(seed: u64) {
     let random = &mut Random::new(seed);
     let sounds = reading::sounds(random);
     reading::run(&sounds);
+    words::run(&sounds);
     passes::run(random);
     packing::run(&sounds);
     waves::run(random);
