@@ -1,4 +1,4 @@
--- What holds at a turn of each of the four loops over a buffer, and what a frame makes of it: once
+-- What holds at a turn of each of the loops over a buffer, and what a frame makes of it: once
 -- for all of them. Assumes nothing.
 use mathlib.Core.Path.{_≡_, refl, sym, ap, _∙_}
 use mathlib.Core.List.{List}

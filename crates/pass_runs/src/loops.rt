@@ -1,8 +1,9 @@
 // Four loops serve the thirteen terms and both directions: the fixed lags; 17 and 18; -1 and -2;
-// -3. The match on the term stands outside them, the weights and the samples that are looked back
-// at are locals, and the pass is put together again behind the loop: a match or a struct inside the
-// loop is several times slower. The history index runs along in each loop, as the definition has
-// it; only the fixed lags look at it.
+// -3. A fifth is for the lags that look back in the buffer (`lookback`). The match on the term
+// stands outside them, the weights and the samples that are looked back at are locals, and the pass
+// is put together again behind the loop: a match or a struct inside the loop is several times
+// slower. The history index runs along in each loop, as the definition has it; only the fixed lags
+// look at it.
 ghost use mathlib.Core.Path.{_≡_};
 ghost use Rattle.passes.specs.Run.{run, turn};
 ghost use Rattle.passes.specs.declared.Term.the-variants.{Lag, MinusThree};
