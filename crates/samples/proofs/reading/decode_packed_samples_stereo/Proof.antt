@@ -57,8 +57,10 @@ read-plain-words-requires : tie.Need-read-plain-words-requires Inv-loop μ-loop
 read-plain-words-requires c κs =
     let y : tie.After-value Inv-loop μ-loop = search needs in
     let w = y .before .before in
+    let l = at-loop w .loop in
     let e = ap (λ (x : Standing). x .written) (c .before .stands-at .ensures) in
-    (at-loop w .before .before .pre, room-behind (at-loop w .loop .out) (at-loop w .loop .written) _ _ (in-loop w .loop-test .taken) e)
+    let h : l .written < length (l .out) = omega (arith, in-loop w .loop-test .taken) in
+    (at-loop w .before .before .pre, room-behind (l .out) (l .written) _ _ h e)
 
 loop-less-2 : tie.Need-loop-less-2 Inv-loop μ-loop
 loop-less-2 c =
@@ -68,7 +70,7 @@ loop-less-2 c =
     let w = y .before .before in
     let l = at-loop w .loop in
     let e : s .stands-at .result .written ≡ l .written + 1 = ap (λ (x : Standing). x .written) (s .stands-at .ensures) in
-    let h : l .written < length (l .out) = in-loop w .loop-test .taken in
+    let h : l .written < length (l .out) = omega (arith, in-loop w .loop-test .taken) in
     omega (arith, l .inv .words .same, g .read-plain-words .ensures .since)
 
 loop-again-2 : tie.Need-loop-again-2 Inv-loop μ-loop
@@ -78,10 +80,11 @@ loop-again-2 c =
     let s : tie.After-stands-at Inv-loop μ-loop = search needs in
     let g : tie.After-read-plain-words Inv-loop μ-loop = search needs in
     let w = y .before .before in
-    let l = at-loop w .loop .inv in
+    let l = at-loop w .loop in
     let v = y .value .given .0 .0 in
     let f : SFits w32 v = search needs in
-    loop-sample _ _ _ _ _ _ _ _ _ _ l _ _ (in-loop w .loop-test .taken) (w .before .zero-run-eligible .ensures) (w .read-word .ensures) v _ _ _ _ _ _ _ (y .value .given .1) (d .adapt .ensures)
+    let h : l .written < length (l .out) = omega (arith, in-loop w .loop-test .taken) in
+    loop-sample _ _ _ _ _ _ _ _ _ _ (l .inv) _ _ h (w .before .zero-run-eligible .ensures) (w .read-word .ensures) v _ _ _ _ _ _ _ (y .value .given .1) (d .adapt .ensures)
     (rw (toZ-ofZ f, s .stands-at .ensures) at (g .read-plain-words .ensures))
 
 returns : tie.Need-returns Inv-loop μ-loop
