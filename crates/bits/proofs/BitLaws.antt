@@ -110,6 +110,10 @@ low-num (true ∷ a) =
     let q : (1 + 2 * num a) / 2 ≡ num a = omega arith in
     rw (m, q, low-num a)
 
+-- low bits depend on no others
+pub low-mod : (k n : ℕ) → low k (n % 2 ^ k) ≡ low k n
+low-mod k n = ap (low k) (sym (num-low k n)) ∙ ap (λ (m : ℕ). low m (num (low k n))) (sym (length-low k n)) ∙ low-num (low k n)
+
 -- a one shifted left by m loses nothing in w bits
 pub shl-one : (m w : ℕ) → m < w → 1 * 2 ^ m % 2 ^ w ≡ 2 ^ m
 shl-one m w h = shl-exact 1 m w (lit< tt) (omega arith) ∙ one-mul (2 ^ m)

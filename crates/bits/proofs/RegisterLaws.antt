@@ -11,7 +11,7 @@ use lib.Pow.{pow-pos, shr-lt, shl-shr, mod-pow-add}
 use lib.Seq.{drop-drop, drop-append-le}
 use Rattle.bits.specs.Bits.{low, num, bitsOf}
 use Rattle.bits.specs.Window.{Window}
-use Rattle.bits.proofs.BitLaws.{length-low, drop-low, low-add, num-low, num-append, low-num, join-lt}
+use Rattle.bits.proofs.BitLaws.{length-low, drop-low, low-add, low-mod, num-low, num-append, low-num, join-lt}
 use Rattle.bits.proofs.Window.{place-window}
 
 -- the bits of a window behind its first i
@@ -29,10 +29,6 @@ window-shift bits p j x i v h =
           ∙ ap₂ (λ (a b : List Bool). a ++ b) (ap (λ (k : ℕ). drop i (low k x)) w ∙ drop-low i n x) (ap (λ (k : ℕ). drop k bits) (sym q));
     }
 
--- the low i bits of a number are those of it modulo 2 ^ i
-low-mod : (i x : ℕ) → low i x ≡ low i (x % 2 ^ i)
-low-mod i x = sym (low-num (low i x)) ∙ ap₂ low (length-low i x) (num-low i x)
-
 -- the first i bits of a window
 pub window-cut : (bits : List Bool) (p j x i : ℕ) → Window bits p j x → i ≤ j → Window bits p i (x % 2 ^ i)
 window-cut bits p j x i v h =
@@ -46,7 +42,7 @@ window-cut bits p j x i v h =
       stands =
           v .stands ∙ ap (λ (a : List Bool). a ++ drop (p + j) bits) (ap (λ (k : ℕ). low k x) w ∙ low-add i n x)
           ∙ append-assoc (low i x) (low n (x / 2 ^ i)) (drop (p + j) bits)
-          ∙ ap₂ (λ (a b : List Bool). a ++ b) (low-mod i x) (ap (λ (k : ℕ). low n (x / 2 ^ i) ++ drop k bits) (sym q) ∙ sym (s .stands));
+          ∙ ap₂ (λ (a b : List Bool). a ++ b) (sym (low-mod i x)) (ap (λ (k : ℕ). low n (x / 2 ^ i) ++ drop k bits) (sym q) ∙ sym (s .stands));
     }
 
 -- the bits of two numbers, one above the other

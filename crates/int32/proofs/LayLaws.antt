@@ -20,16 +20,12 @@ use Rattle.overlay.proofs.OverlayLaws.{overlay-first}
 use Rattle.little_endian.specs.LittleEndian.{littleEndian}
 use Rattle.bits.specs.Bits.{low, num, bitsOf}
 use Rattle.bits.specs.Laid.{bytesHolding, put}
-use Rattle.bits.proofs.BitLaws.{length-low, low-add, low-num, num-low}
+use Rattle.bits.proofs.BitLaws.{low-add, low-mod}
 use Rattle.bits.proofs.LaidLaws.{Bytes, bytes-take, low-none, bits-append, holding-bytes, put-nil, put-start}
 use Rattle.int32_sample.specs.Sample.{lowBits, above}
 use Rattle.int32.specs.Deconstruct.{literalOf}
 
 -- ---- the bits of numbers
-
--- low bits depend on no others
-low-mod : (k n : ℕ) → low k (n % 2 ^ k) ≡ low k n
-low-mod k n = ap (low k) (sym (num-low k n)) ∙ ap (λ (m : ℕ). low m (num (low k n))) (sym (length-low k n)) ∙ low-num (low k n)
 
 -- a number above k bits
 pub low-join : (k j held v : ℕ) → held < 2 ^ k → low (k + j) (held + v * 2 ^ k) ≡ low k held ++ low j v

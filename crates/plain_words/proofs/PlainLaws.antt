@@ -1,6 +1,6 @@
 -- A word out of 64 bits: its prefix, its value, and that no run length stands behind it.
 -- Assumes nothing.
-use mathlib.Core.Path.{_≡_, refl, sym, ap, _∙_}
+use mathlib.Core.Path.{_≡_, refl, sym, _∙_}
 use mathlib.Core.Bool.{Bool, true, false, not, _&&_, and-false}
 use mathlib.Core.List.{List, _∷_}
 use Prim.Native.Nat.{ℕ, zero, suc, _+_, _-_, _*_, _/_, _%_, _^_, _≤_, _<_}
@@ -157,8 +157,8 @@ given-announced w due other o r p = record { fits = p .given; word = λ t. p }
 
 -- with fewer than 16 ones
 pub given-counted : (w n : ℕ) (due other : Medians) (o : Bool) (r : PlainWord) → n ≡ onesOf w → n < 16 → PlainWordIs w due other false o r → WordIs w due other false o r
-given-counted w n due other o r e h p = record { fits = p .given ∙ sym (rw (sym e) (lt-ltb n 16 h)); word = λ t. p }
+given-counted w n due other o r e h p = record { fits = p .given ∙ sym (rw (sym e) (lt-ltb n _ (omega arith))); word = λ t. p }
 
 -- with more
 pub not-given : (w n : ℕ) (due other : Medians) (o : Bool) (r : PlainWord) → n ≡ onesOf w → 16 ≤ n → r .fit ≡ false → WordIs w due other false o r
-not-given w n due other o r e h f = record { fits = f ∙ sym (rw (sym e) (le-ltb n 16 h)); word = λ t. clash t f }
+not-given w n due other o r e h f = record { fits = f ∙ sym (rw (sym e) (le-ltb n _ (omega arith))); word = λ t. clash t f }
