@@ -26,14 +26,14 @@ esac
 docs/carriers.sh || fail 'docs/PROVED.md'
 docs/refusals.sh || fail 'the wording of the refusals'
 
-rt staticlib capi || fail 'rt staticlib capi'
+rt staticlib wavpack_stereo || fail 'rt staticlib wavpack_stereo'
 library=target/staticlib
 
-"${CC:-cc}" -std=c11 -Wall -Wextra -Werror -Iinclude ctest/answers.c ctest/joined.c ctest/pages.c ctest/reach.c ctest/waves.c ctest/wide.c "$library/libcapi.a" -o target/ctest || fail 'the C program does not build'
+"${CC:-cc}" -std=c11 -Wall -Wextra -Werror -Iinclude ctest/answers.c ctest/joined.c ctest/pages.c ctest/reach.c ctest/waves.c ctest/wide.c "$library/libwavpack_stereo.a" -o target/ctest || fail 'the C program does not build'
 target/ctest || fail 'the C program'
 
 wv=bindings/rust/tests/data
-"${CC:-cc}" -std=c11 -Wall -Wextra -Werror -Iinclude ctest/wv_file.c ctest/wv_block.c "$library/libcapi.a" -o target/wv_file || fail 'the C example does not build'
+"${CC:-cc}" -std=c11 -Wall -Wextra -Werror -Iinclude ctest/wv_file.c ctest/wv_block.c "$library/libwavpack_stereo.a" -o target/wv_file || fail 'the C example does not build'
 target/wv_file "$wv"/*.wv | diff bindings/rust/examples/wv_file.txt - || fail 'real files in C'
 
 cargo test --quiet --offline --locked --manifest-path bindings/rust/Cargo.toml || fail 'the Rust bindings'

@@ -4,7 +4,7 @@
 # Each round starts each program once; a program decodes TIMES times, and the best time of all rounds counts.
 #
 # The files go to the folder that BENCH_FOLDER names, or to target/bench; recordings that are there are not made again.
-# The library is libcapi.a of the folder that CAPI_FOLDER names, or of target/staticlib.
+# The library is libwavpack_stereo.a of the folder that WAVPACK_STEREO_FOLDER names, or of target/staticlib.
 set -eu
 LC_ALL=C
 export LC_ALL
@@ -12,7 +12,7 @@ root=$(cd "$(dirname "$0")/.." && pwd)
 rounds=${1:-8}
 times=${2:-5}
 work=${BENCH_FOLDER:-$root/target/bench}
-library=${CAPI_FOLDER:-$root/target/staticlib}/libcapi.a
+library=${WAVPACK_STEREO_FOLDER:-$root/target/staticlib}/libwavpack_stereo.a
 
 fail() {
     echo "run.sh: $1" >&2

@@ -1,4 +1,4 @@
-/* The C interface of the stereo WavPack decoder. Link with libcapi.a.
+/* The C interface of the stereo WavPack decoder. Link with libwavpack_stereo.a.
  *
  * Every function answers WV_ACCEPTED or the number of a refusal. The rules behind the refusals are
  * the rows X1 to X9, Q1.3, Q1.4, Q2.2, Q5.6, Q6.6 and Q7.1 to Q7.3 of docs/PROVED.md; each function

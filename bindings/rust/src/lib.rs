@@ -1,6 +1,6 @@
 //! The proved decoder and writer of stereo WavPack recordings, for greenhouse controllers in Rust.
 //!
-//! Thin and safe functions over the archive `libcapi.a`: each hands its slices to the C interface
+//! Thin and safe functions over the archive `libwavpack_stereo.a`: each hands its slices to the C interface
 //! and names what it answers. Nothing is allocated, no list is copied, and no state is kept between
 //! calls.
 //!

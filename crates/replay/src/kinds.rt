@@ -62,7 +62,7 @@ fn next_log_word(fd: i32, record: u32) -> Step {
         return Step::End;
     }
     let mut value = [0i32; 1];
-    let refusal = capi::wv_log_word(signed_word((record % 65536) as u16), &mut value);
+    let refusal = wavpack_stereo::wv_log_word(signed_word((record % 65536) as u16), &mut value);
     told(refusal == number_at(&bytes, 0) && holds_signed(&bytes[4..], &value))
 }
 
@@ -73,7 +73,7 @@ fn next_term_byte(fd: i32, record: u32) -> Step {
         return Step::End;
     }
     let mut out = [0i32; 2];
-    let refusal = capi::wv_term_byte((record % 256) as u8, &mut out);
+    let refusal = wavpack_stereo::wv_term_byte((record % 256) as u8, &mut out);
     told(refusal == 0 && holds_signed(&bytes, &out))
 }
 
@@ -84,7 +84,7 @@ fn next_weight_byte(fd: i32, record: u32) -> Step {
         return Step::End;
     }
     let mut out = [0i32; 1];
-    let refusal = capi::wv_weight_byte((record % 256) as u8, &mut out);
+    let refusal = wavpack_stereo::wv_weight_byte((record % 256) as u8, &mut out);
     told(refusal == 0 && holds_signed(&bytes, &out))
 }
 
@@ -97,7 +97,7 @@ fn entropy_agrees(record: &[u8]) -> bool {
     let payload = &record[8..24];
     let stored = &record[24..];
     let mut medians = [0i32; 6];
-    let refusal = capi::wv_entropy(part(payload, number_at(record, 0)), &mut medians);
+    let refusal = wavpack_stereo::wv_entropy(part(payload, number_at(record, 0)), &mut medians);
     refusal == number_at(record, 1) && holds_signed(stored, &medians)
 }
 

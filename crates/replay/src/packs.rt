@@ -24,7 +24,7 @@ fn pack(
     }
     let count = 2 * frames;
     let room = BYTES_PER_FRAME * frames;
-    capi::wv_pack(
+    wavpack_stereo::wv_pack(
         &residuals[..count],
         entropy,
         frames,

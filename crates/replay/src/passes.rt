@@ -25,7 +25,7 @@ pub fn making_agrees(record: &[u8]) -> bool {
     load_signed(&record[24..], &mut seed_a);
     load_signed(&record[60..], &mut seed_b);
     let mut pass = [0i32; 20];
-    let refusal = capi::wv_pass(
+    let refusal = wavpack_stereo::wv_pass(
         term(record[0]),
         signed_at(record, 1),
         signed_at(record, 2),
@@ -40,9 +40,9 @@ pub fn making_agrees(record: &[u8]) -> bool {
 // Analysis, or decorrelation, of a buffer by passes of 20 slots each.
 fn run(analyse: bool, passes: &mut [i32], buffer: &mut [i32]) -> u32 {
     if analyse {
-        capi::wv_analyse(passes, buffer)
+        wavpack_stereo::wv_analyse(passes, buffer)
     } else {
-        capi::wv_decorrelate(passes, buffer)
+        wavpack_stereo::wv_decorrelate(passes, buffer)
     }
 }
 

@@ -16,7 +16,7 @@ pub fn word_agrees(record: &[u8]) -> bool {
     let mut sample = [0i32; 1];
     let mut report = [0u32; 2];
     let payload = part(&record[56..72], number_at(record, 0));
-    let refusal = capi::wv_word(payload, &mut state, &mut sample, &mut report);
+    let refusal = wavpack_stereo::wv_word(payload, &mut state, &mut sample, &mut report);
     if refusal != number_at(record, 18) {
         return false;
     }
@@ -35,7 +35,7 @@ fn read(
 ) -> u32 {
     let count = 2 * (frames as usize);
     if count < samples.len() {
-        return capi::wv_read(
+        return wavpack_stereo::wv_read(
             entropy,
             payload,
             frames as usize,
@@ -43,7 +43,7 @@ fn read(
             answer,
         );
     }
-    capi::wv_read(entropy, payload, frames as usize, samples, answer)
+    wavpack_stereo::wv_read(entropy, payload, frames as usize, samples, answer)
 }
 
 // Whether a reading of up to 16 frames, as a record of 232 bytes holds it, is answered as stored.

@@ -1,10 +1,10 @@
--- `capi::pass_lists::wv_pass` meets its contract: its numbers reach the call as they are.
+-- `wavpack_stereo::pass_lists::wv_pass` meets its contract: its numbers reach the call as they are.
 -- Assumes nothing.
 use mir.Syntax.{w8, w32}
 use mir.ValLaws.{toZ-ofZ}
 use borrow.Author.Needs.{needs}
-use Rattle.capi.proofs.pass_lists.wv_pass.Statement.{statement}
-use Rattle.capi.proofs.pass_lists.wv_pass.Tie as tie
+use Rattle.wavpack_stereo.proofs.pass_lists.wv_pass.Statement.{statement}
+use Rattle.wavpack_stereo.proofs.pass_lists.wv_pass.Tie as tie
 
 returns : tie.Need-returns
 returns c =
