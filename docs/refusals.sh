@@ -1,7 +1,7 @@
 #!/bin/sh
-# Holds what people read of the refusals to include/refusals.txt: the list in the C header, the table
-# in README.md and the strings of the Rust bindings have each number with its name and wording, and no
-# refusal more; the program `morning` has those that a recording can meet. Prints what does not hold.
+# Holds what people read of the refusals to include/refusals.txt: the C header, the table in
+# docs/REFUSALS.md and the Rust bindings have each number with its name and wording, and no other
+# refusal; the program `morning` has those that a recording can meet. Prints what does not hold.
 set -u
 cd "$(dirname "$0")/.." || exit 2
 table=include/refusals.txt
@@ -16,17 +16,12 @@ awk -v table="$table" '
         return text
     }
 
-    # A refusal as a file tells it; the name is empty where the file has none.
-    function told(number, name, text) {
+    # A refusal as a file words it; the name is empty where the file has none.
+    function worded(number, name, text) {
         seen[file, number] = 1
         if (!(number in wording)) wrong("there is no " number " in " table)
         else if (name && name != names[number]) wrong(number " is " names[number] " and not " name)
         else if (text != wording[number]) wrong(number " reads \"" text "\" and not \"" wording[number] "\"")
-    }
-
-    # A name of the bindings and its number.
-    function numbered(name, number) {
-        if (rust[name] != number) wrong(name " is " number ", and that is not what " table " has")
     }
 
     # Whether a recording can be refused with a number: up to what is too large, and for its log words.
@@ -40,7 +35,7 @@ awk -v table="$table" '
                 wrong("no " number ", \"" wording[number] "\"")
     }
 
-    FNR == 1 { ended(); file = FILENAME; section = 0; said = "" }
+    FNR == 1 { ended(); file = FILENAME }
 
     FILENAME == table {
         if (/^(#|$)/) next
@@ -51,51 +46,48 @@ awk -v table="$table" '
         wording[last] = $0
     }
 
-    # The header, up to an empty line: a comment, and below it the number that it is about.
+    # The header: each name with its number, and in a switch each name with its wording, which may be
+    # in pieces. 0 and a number without a name are no refusals of the table.
     FILENAME ~ /[.]h$/ {
-        if (/^[/][*] What a function answers/) section = 1
-        if (/^$/) section = 0
-        if (section && /^[/][*] .* [*][/]$/) said = substr($0, 4, length($0) - 6)
-        if (section && /^#define WV_[A-Z0-9_]+ [0-9]+u/ && $3 + 0) told($3 + 0, substr($2, 4), said)
-    }
-
-    # README.md: the rows of a section.
-    FILENAME ~ /[.]md$/ {
-        if (/^## /) section = /^## Refusals$/
-        if (!section || !/^[|] [1-9][0-9]* [|] /) next
-        number = $2
-        sub(/^[|] [0-9]+ [|] /, "")
-        sub(/ *[|]$/, "")
-        told(number, "", $0)
-    }
-
-    # The bindings: a number stands behind its name or before it, each wording is a string, and the name
-    # last before it is that of its number.
-    FILENAME ~ /[.]rs$/ && !/^ *[/][/]/ {
-        if (/^ *[A-Z][A-Za-z0-9]* = [0-9]+,/) numbered($1, $3 + 0)
-        if (/^ *[0-9]+ [A-Z][A-Za-z0-9]* "/) numbered($2, $1)
-        while (match($0, /"[^"]*"|[A-Za-z0-9_]+/)) {
-            token = substr($0, RSTART, RLENGTH)
-            $0 = substr($0, RSTART + RLENGTH)
-            if (token in rust) number = rust[token]
-            for (n in wording) if (token == "\"" wording[n] "\"") {
-                seen[file, n] = 1
-                if (number != n) wrong("the wording of " n " stands behind the name of " number)
-            }
+        if (/^#define WV_[A-Z0-9_]+ [0-9]+u$/) value[substr($2, 4)] = $3 + 0
+        if (/^ *default:/) name = ""
+        if (/^ *case WV_[A-Z0-9_]+:/) { name = substr($2, 4); sub(/:$/, "", name); text = "" }
+        if (/^ *(return )?"[^"]*";?$/) {
+            text = text substr($0, index($0, "\"") + 1)
+            sub(/";?$/, "", text)
+            if (/;$/ && name && !(name in value)) wrong("there is no number for " name)
+            else if (/;$/ && name && value[name]) worded(value[name], name, text)
         }
     }
 
-    # The program: a wording stands behind the arm of its number, and behind the arm `_` the one for what
-    # is too large.
+    # docs/REFUSALS.md: the rows with a number, a name and a wording.
+    FILENAME ~ /[.]md$/ && /^[|] [1-9][0-9]* [|] `[A-Z0-9_]+` [|] / {
+        split($0, cell, / *[|] */)
+        worded(cell[2] + 0, substr(cell[3], 2, length(cell[3]) - 2), cell[4])
+    }
+
+    # The bindings: a row has a number, a name and a wording, which may stand on the next line.
+    FILENAME ~ /[.]rs$/ && /^ *[0-9]+ [A-Z][A-Za-z0-9]*( "|$)/ {
+        number = $1 + 0
+        if (rust[$2] != number) wrong($2 " is " number ", and that is not what " table " has")
+    }
+    FILENAME ~ /[.]rs$/ && number && /^ *([0-9]+ [A-Z][A-Za-z0-9]* )?"[^"]*",$/ {
+        worded(number, "", substr($0, index($0, "\"") + 1, length($0) - index($0, "\"") - 2))
+        number = 0
+    }
+
+    # The program: after the arm of a number stands its wording, and after the arm `_` that of what is
+    # too large.
     FILENAME ~ /[.]rt$/ && !/^ *[/][/]/ {
         if (/^}/) arm = 0
         if (/^ *([0-9]+|_) =>/) arm = $1 == "_" ? rust["TooLarge"] : $1 + 0
-        if (arm && match($0, /"[^"]*"/)) told(arm, "", substr($0, RSTART + 1, RLENGTH - 2))
+        if (arm && match($0, /"[^"]*"/)) worded(arm, "", substr($0, RSTART + 1, RLENGTH - 2))
     }
 
     END {
         ended()
         if (bad || !last) exit 1
-        print "refusals: " last " in " table ", worded alike in the header, README.md, the bindings and the program"
+        print "refusals: " last " in " table ", worded alike in header, page, bindings and program"
     }
-' "$table" include/wavpack_stereo.h README.md bindings/rust/src/refusal.rs crates/morning/src/output.rt
+' "$table" include/wavpack_stereo_refusals.h docs/REFUSALS.md bindings/rust/src/refusal.rs \
+    crates/morning/src/output.rt

@@ -1,67 +1,69 @@
-/* The C interface of the stereo WavPack decoder. Link with libwavpack_stereo.a.
+/* The C interface of the stereo WavPack decoder and writer. Link with libwavpack_stereo.a.
  *
- * Every function answers WV_ACCEPTED or the number of a refusal. The rules behind the refusals are
- * the rows X1 to X9, Q1.3, Q1.4, Q2.2, Q5.6, Q6.6 and Q7.1 to Q7.3 of docs/PROVED.md; each function
- * below has its own in the order in which it tests.
+ * Every function answers WV_ACCEPTED or the number of a refusal; `wv_refusal_text` gives its wording. Each
+ * function below lists its refusals in the order in which it tests. The rules are the rows X1 to X9, Q1.3,
+ * Q1.4, Q2.2, Q5.6, Q6.6 and Q7.1 to Q7.3 of docs/PROVED.md.
  *
- * A list is a pointer to its first element and its number of elements; a list of 0 elements still
- * wants a pointer that is not null and is aligned for its type. A function reads and writes nothing
- * beyond the elements that it is given, and no list that it writes may overlap another. It keeps no
- * pointer and uses no storage of its own but the stack, so that calls may run at the same time.
+ * A list is a pointer to its first element and its number of elements. A list of 0 elements still needs a
+ * pointer that is not null and is aligned for its type. A function reads and writes nothing beyond the
+ * elements that it is given, and no list that it writes may overlap another. It keeps no pointer and uses
+ * no storage of its own but the stack, so that calls may run at the same time.
  *
- * A list that a function fills has slots, numbered below from the first element on. A list with
- * fewer elements than slots is refused with WV_LIST_LENGTH before anything is written; elements
- * behind the slots keep their values. On any other refusal `wv_read`, `wv_word` and `wv_pack` write
- * what is said there, and every other function leaves all lists as they were.
+ * A list that a function fills has slots, in the order given below, from the first element on. A list with
+ * fewer elements than slots is refused with WV_LIST_LENGTH before anything is written. Elements after the
+ * slots keep their values. On any other refusal `wv_read`, `wv_word` and `wv_pack` write what is said
+ * there, and every other function leaves all lists as they were.
  *
- * docs/WV_FILES.md shows how a block of a real file is decoded with these functions.
+ * docs/WV_FILES.md shows how a block of a real file is decoded with these functions; examples/c has
+ * programs that do it.
  */
 #ifndef WAVPACK_STEREO_H
 #define WAVPACK_STEREO_H
 
 #include <stddef.h>
 #include <stdint.h>
+#include "wavpack_stereo_refusals.h"
 
 #ifdef __cplusplus
 extern "C" {
 #endif
 
-/* What a function answers: accepted, or why not. */
-#define WV_ACCEPTED 0u
-/* the entropy payload is neither 6 nor 12 bytes long */
-#define WV_ENTROPY_LENGTH 1u
-/* the entropy payload is mono (6 bytes) or holds a negative median */
-#define WV_NOT_STEREO 2u
-/* a bit past the end is needed, or a count or a prefix value is over its cap */
-#define WV_TRUNCATED 3u
-/* end of stream: the second count of a prefix is 33 */
-#define WV_END_OF_STREAM 4u
-/* over 131,072 frames, 262,144 elements, 4,194,304 payload bytes or 524,332 bytes of a sound file */
-#define WV_TOO_LARGE 5u
-/* a lent list does not have the length asked for */
-#define WV_LIST_LENGTH 6u
-/* a term that is none of 1 to 8, 17, 18, -1, -2, -3 */
-#define WV_INVALID_TERM 7u
-/* a seed with too few samples for its term */
-#define WV_SEED_TOO_SHORT 8u
-/* over 16 passes */
-#define WV_TOO_MANY_PASSES 9u
-/* a residual outside -1,879,048,192 to 1,879,048,191 */
-#define WV_RESIDUAL_OUT_OF_SPAN 10u
-/* lent storage too short: under 28 bytes a frame to pack, 44 and 2 a sample for a sound file, an element a sample of one, 45 bytes a line of a page, or 4 bytes a sample for literal bits */
-#define WV_OUTPUT_TOO_SHORT 11u
-/* a channel due that is neither 0 nor 1 */
-#define WV_INVALID_CHANNEL 12u
-/* a sample outside -32,768 to 32,767 */
-#define WV_SAMPLE_OUT_OF_SPAN 13u
-/* no sound file of the one form that is taken, or a rate outside 1 to 192,000 */
-#define WV_NOT_WAVE 14u
-/* a field above 31 */
-#define WV_FIELD_ABOVE_31 15u
-/* a sample that is the image of no sample */
-#define WV_NOT_REINSERTABLE 16u
-/* a log word of 8192 or more, or of -8192 or less */
-#define WV_LOG_WORD_OUT_OF_REACH 17u
+/* The version of this header, and of the Rust bindings. */
+#define WV_VERSION "0.2.0"
+#define WV_VERSION_MAJOR 0
+#define WV_VERSION_MINOR 2
+#define WV_VERSION_PATCH 0
+
+/* Limits: more is refused with WV_TOO_LARGE, and more passes with WV_TOO_MANY_PASSES. An element is a
+ * sample or a residual; a frame has two of them, left and right. */
+#define WV_MAX_FRAMES 131072u
+#define WV_MAX_ELEMENTS 262144u
+#define WV_MAX_PAYLOAD_BYTES 4194304u
+#define WV_MAX_WAVE_BYTES 524332u
+#define WV_MAX_PASSES 16u
+
+/* The spans of a log word, a residual to pack, the rate of a sound file, and the four fields of wide
+ * samples. */
+#define WV_MIN_LOG_WORD (-8191)
+#define WV_MAX_LOG_WORD 8191
+#define WV_MIN_RESIDUAL (-1879048192)
+#define WV_MAX_RESIDUAL 1879048191
+#define WV_MIN_RATE 1u
+#define WV_MAX_RATE 192000u
+#define WV_MAX_FIELD 31u
+
+/* The entropy payload of a stereo block, and of a mono one. */
+#define WV_ENTROPY_BYTES 12u
+#define WV_MONO_ENTROPY_BYTES 6u
+
+/* The storage that a caller lends for what is written. */
+#define WV_BYTES_PER_FRAME 28u          /* wv_pack: for each frame */
+#define WV_WAVE_HEADER_BYTES 44u        /* wv_wave_export: before the samples */
+#define WV_WAVE_BYTES_PER_SAMPLE 2u     /* and for each of them */
+#define WV_LITERAL_BYTES_PER_SAMPLE 4u  /* wv_deconstruct_int32: for each sample */
+#define WV_LINE_BYTES 45u               /* wv_morning_page: for each line, which covers */
+#define WV_LINE_FRAMES 1024u            /* so many frames, the last one those that are left: */
+#define WV_PAGE_BYTES(frames) (((size_t)(frames) + WV_LINE_FRAMES - 1) / WV_LINE_FRAMES * WV_LINE_BYTES)
 
 /* Slots of the lists. */
 #define WV_LOG_WORD_SLOTS 1u
@@ -80,11 +82,6 @@ extern "C" {
 #define WV_REASSEMBLE_INT32_SLOTS 1u
 #define WV_DECONSTRUCT_INT32_SLOTS 1u
 
-/* A line of a morning page: how many bytes it has, and of how many frames it tells, the last line of
- * what is left. */
-#define WV_LINE_BYTES 45u
-#define WV_LINE_FRAMES 1024u
-
 /* The signed 32-bit value of a log word.
  * value: its value, -2,143,289,344 to 2,143,289,344.
  * Refuses WV_LIST_LENGTH, then WV_LOG_WORD_OUT_OF_REACH, with value as it was. */
@@ -102,141 +99,138 @@ uint32_t wv_weight_byte(uint8_t byte, int32_t *out, size_t out_len);
 
 /* The signed medians of an entropy payload of 6 bytes (mono: the right ones are 0) or 12 (stereo).
  * medians: left 0, 1, 2, right 0, 1, 2.
- * Refuses WV_LIST_LENGTH, then WV_ENTROPY_LENGTH, then WV_LOG_WORD_OUT_OF_REACH for one of its three
- * or six log words, with medians as it was. */
+ * Refuses WV_LIST_LENGTH, then WV_ENTROPY_LENGTH, then WV_LOG_WORD_OUT_OF_REACH for one of its three or six
+ * log words, with medians as it was. */
 uint32_t wv_entropy(const uint8_t *entropy, size_t entropy_len, int32_t *medians, size_t medians_len);
 
-/* Reads the packed payload of a stereo block: `frames` frames, left then right, into samples, which
- * has 2 times frames elements. An entropy payload of 12 bytes is stereo whatever it holds: three right
- * medians of 0 are a right channel that starts silent.
- * answer: bits used, left medians 0, 1, 2, right medians 0, 1, 2 after the last word, samples
- *   written.
+/* Reads the packed payload of a stereo block: `frames` frames, left then right, into samples, which has 2
+ * times frames elements. What it reads are residuals where the block has passes (`wv_decorrelate`). An
+ * entropy payload of 12 bytes is stereo whatever it holds: three right medians of 0 are a right channel
+ * that starts silent.
+ * answer: bits used, left medians 0, 1, 2, right medians 0, 1, 2 after the last word, samples written.
  * Refuses WV_LIST_LENGTH for answer, with nothing written.
- * Then refuses WV_TOO_LARGE, WV_LIST_LENGTH for samples, WV_ENTROPY_LENGTH, WV_LOG_WORD_OUT_OF_REACH
- * and WV_NOT_STEREO, with the slots of answer 0 and samples as it was.
- * Then, in a word, refuses WV_TRUNCATED or WV_END_OF_STREAM: answer tells of the words before it,
- * their samples are in samples, and behind them samples holds what it held. */
-uint32_t wv_read(const uint8_t *entropy, size_t entropy_len, const uint8_t *payload, size_t payload_len, size_t frames,
-                 int32_t *samples, size_t samples_len, uint32_t *answer, size_t answer_len);
+ * Then refuses WV_TOO_LARGE, WV_LIST_LENGTH for samples, WV_ENTROPY_LENGTH, WV_LOG_WORD_OUT_OF_REACH and
+ * WV_NOT_STEREO, with the slots of answer 0 and samples as it was.
+ * Then, in a word, refuses WV_TRUNCATED or WV_END_OF_STREAM: answer reports the words before it, their
+ * samples are in samples, and after them samples holds what it held. */
+uint32_t wv_read(const uint8_t *entropy, size_t entropy_len, const uint8_t *payload, size_t payload_len,
+                 size_t frames, int32_t *samples, size_t samples_len, uint32_t *answer, size_t answer_len);
 
-/* Reads one word of a packed payload. The caller holds the state: all 0 before the first word, but
- * for the seed medians.
- * state: place (how many bits lie before the word), next_channel (0 left, 1 right), last_zero,
- *   last_one, zero_run_pending, run_break, ever_took_zero_run, left medians 0, 1, 2, right medians
- *   0, 1, 2; before the word, and then after it. A flag is set when it is not 0, and is written as
- *   0 or 1.
+/* Reads one word of a packed payload. The caller holds the state: before the first word the medians of the
+ * entropy payload (`wv_entropy`), and 0 in every other slot.
+ * state: place (how many bits stand before the word), next_channel (0 left, 1 right), last_zero, last_one,
+ *   zero_run_pending, run_break, ever_took_zero_run, left medians 0, 1, 2, right medians 0, 1, 2; before
+ *   the word, and then after it. A flag is set when it is not 0, and is written as 0 or 1.
  * sample: the sample.
- * report: 0 for none, as a zero out of a run has it, or 1, 2, 3, 4 for the zones 0, 1, 2 and the
- *   overflow zone; then the count of the word, 0 for none.
+ * report: 0 for none, as a zero out of a run has it, or 1, 2, 3, 4 for the zones 0, 1, 2 and the overflow
+ *   zone; then the count of the word, 0 for none.
  * Refuses WV_LIST_LENGTH for the slots, with nothing written.
- * Then refuses WV_TOO_LARGE for the payload, WV_INVALID_CHANNEL, WV_TRUNCATED or WV_END_OF_STREAM,
- * with sample 0, report 0, 0 and state as it was. */
-uint32_t wv_word(const uint8_t *payload, size_t payload_len, uint32_t *state, size_t state_len, int32_t *sample,
-                 size_t sample_len, uint32_t *report, size_t report_len);
+ * Then refuses WV_TOO_LARGE for the payload, WV_INVALID_CHANNEL, WV_TRUNCATED or WV_END_OF_STREAM, with
+ * sample 0, report 0, 0 and state as it was. */
+uint32_t wv_word(const uint8_t *payload, size_t payload_len, uint32_t *state, size_t state_len,
+                 int32_t *sample, size_t sample_len, uint32_t *report, size_t report_len);
 
-/* Makes a pass. Any delta and weights are taken; an empty seed means zeros, except that a cross
- * term with an A seed needs a B seed.
+/* Makes a pass. Any delta and weights are accepted. An empty seed means zeros, except that a cross term
+ * with an A seed needs a B seed.
  * pass: term, delta, weight of A, weight of B, history of A (8), history of B (8).
- * Refuses WV_LIST_LENGTH, then WV_INVALID_TERM, then WV_SEED_TOO_SHORT for A or B, with pass as it
- * was. */
-uint32_t wv_pass(int8_t term, int32_t delta, int32_t weight_a, int32_t weight_b, const int32_t *seed_a, size_t seed_a_len,
-                 const int32_t *seed_b, size_t seed_b_len, int32_t *pass, size_t pass_len);
+ * Refuses WV_LIST_LENGTH, then WV_INVALID_TERM, then WV_SEED_TOO_SHORT for A or B, with pass as it was. */
+uint32_t wv_pass(int8_t term, int32_t delta, int32_t weight_a, int32_t weight_b, const int32_t *seed_a,
+                 size_t seed_a_len, const int32_t *seed_b, size_t seed_b_len, int32_t *pass, size_t pass_len);
 
-/* Decorrelation: turns the residuals of buffer, left then right, into samples, by each pass in
- * turn. An odd last element keeps its value.
- * passes: the slots of `wv_pass` for each pass, one pass behind the other; the passes before the
- *   call, and then after it.
+/* Decorrelation: turns the residuals of buffer, left then right, into samples, by each pass in turn. An odd
+ * last element keeps its value.
+ * passes: the slots of `wv_pass` for each pass, one pass after the other; the passes before the call, and
+ *   then after it.
  * Refuses WV_LIST_LENGTH for a passes_len that is no multiple of WV_PASS_SLOTS; then WV_TOO_LARGE,
- * WV_TOO_MANY_PASSES and WV_INVALID_TERM, also for a term outside 8 bits; with both lists as they
- * were.
- * Two accepted calls, by one list and then by a second, leave in buffer and in the slots of both
- * lists what one call by the second list's slots behind the first's leaves, where both have at most
- * 16 passes together. */
+ * WV_TOO_MANY_PASSES and WV_INVALID_TERM, also for a term outside 8 bits; with both lists as they were.
+ * A list of passes may be cut in two: accepted calls by the first part and then by the second leave in
+ * buffer and in the passes what one call by the whole list leaves, where it has at most WV_MAX_PASSES. */
 uint32_t wv_decorrelate(int32_t *passes, size_t passes_len, int32_t *buffer, size_t buffer_len);
 
-/* Analysis, the inverse: turns the samples of buffer into the residuals that decorrelate to them,
- * and leaves the passes as decorrelation would. Refuses as `wv_decorrelate` does.
- * Of two lists the second is undone before the first: two such calls that are accepted leave what
- * one call by the second list's slots behind the first's leaves, where both have at most 16 passes
- * together. */
+/* Analysis, the inverse: turns the samples of buffer into the residuals that decorrelate to them, and
+ * leaves the passes as decorrelation would. Refuses as `wv_decorrelate` does.
+ * Of a list that is cut in two the second part comes first: accepted calls by the second part and then by
+ * the first leave what one call by the whole list leaves, where it has at most WV_MAX_PASSES. */
 uint32_t wv_analyse(int32_t *passes, size_t passes_len, int32_t *buffer, size_t buffer_len);
 
-/* Packs the residuals of a stereo block: `frames` frames, left then right, 2 times frames
- * residuals, into out, which has at least 28 bytes a frame. Reading the bytes that hold the bits
- * written, with the same entropy payload and frames, gives the residuals.
- * out: the packed bytes from the first on; the spare bits of the last one are 0, and bytes behind
- *   keep their values.
+/* Packs the residuals of a stereo block: `frames` frames, left then right, 2 times frames residuals, into
+ * out, which has at least WV_BYTES_PER_FRAME for each frame. Reading the bytes that hold the bits written,
+ * with the same entropy payload and frames, gives the residuals.
+ * out: the packed bytes from the first on; the spare bits of the last one are 0, and bytes after it keep
+ *   their values.
  * answer: bits written, left medians 0, 1, 2, right medians 0, 1, 2 after the last word.
  * Refuses WV_LIST_LENGTH for answer, with nothing written.
- * Then refuses WV_TOO_LARGE, WV_LIST_LENGTH for residuals, WV_ENTROPY_LENGTH,
- * WV_LOG_WORD_OUT_OF_REACH, WV_NOT_STEREO, WV_OUTPUT_TOO_SHORT and WV_RESIDUAL_OUT_OF_SPAN, with the
- * slots of answer 0 and out as it was. */
-uint32_t wv_pack(const int32_t *residuals, size_t residuals_len, const uint8_t *entropy, size_t entropy_len, size_t frames,
-                 uint8_t *out, size_t out_len, uint32_t *answer, size_t answer_len);
+ * Then refuses WV_TOO_LARGE, WV_LIST_LENGTH for residuals, WV_ENTROPY_LENGTH, WV_LOG_WORD_OUT_OF_REACH,
+ * WV_NOT_STEREO, WV_OUTPUT_TOO_SHORT and WV_RESIDUAL_OUT_OF_SPAN, with the slots of answer 0 and out as it
+ * was. */
+uint32_t wv_pack(const int32_t *residuals, size_t residuals_len, const uint8_t *entropy, size_t entropy_len,
+                 size_t frames, uint8_t *out, size_t out_len, uint32_t *answer, size_t answer_len);
 
-/* Writes samples, left then right, as a sound file: RIFF WAVE of format 1, two channels, 16 bits and
- * `rate` frames a second, 1 to 192,000; a header of 44 bytes, then each sample in 2 bytes, the low
- * one first. `wv_wave_import` gives rate and samples back.
- * out: the file from the first byte on, 44 bytes and 2 a sample; bytes behind keep their values.
+/* Writes samples, left then right, as a sound file: RIFF WAVE of format 1, two channels, 16 bits and `rate`
+ * frames a second, WV_MIN_RATE to WV_MAX_RATE; a header of WV_WAVE_HEADER_BYTES, then each sample in 2
+ * bytes, the low one first. `wv_wave_import` gives rate and samples back.
+ * out: the file from the first byte on, the header and 2 bytes for each sample; bytes after it keep their
+ *   values.
  * answer: bytes written.
- * Refuses WV_LIST_LENGTH for answer; then WV_TOO_LARGE for over 262,144 samples, WV_LIST_LENGTH for
- * an odd number of them, WV_OUTPUT_TOO_SHORT, WV_NOT_WAVE for the rate and WV_SAMPLE_OUT_OF_SPAN;
- * with both lists as they were. */
-uint32_t wv_wave_export(uint32_t rate, const int32_t *samples, size_t samples_len, uint8_t *out, size_t out_len,
+ * Refuses WV_LIST_LENGTH for answer; then WV_TOO_LARGE for over WV_MAX_ELEMENTS samples, WV_LIST_LENGTH for
+ * an odd number of them, WV_OUTPUT_TOO_SHORT, WV_NOT_WAVE for the rate and WV_SAMPLE_OUT_OF_SPAN; with both
+ * lists as they were. */
+uint32_t wv_wave_export(uint32_t rate, const int32_t *samples, size_t samples_len, uint8_t *out,
+                        size_t out_len, uint32_t *answer, size_t answer_len);
+
+/* Reads a sound file, exactly as `wv_wave_export` writes it: no other header, chunk, length or rate is
+ * accepted, and no byte after the samples.
+ * samples: the samples, left then right, one for each 2 bytes after the header; elements after them keep
+ *   their values.
+ * answer: rate, samples written.
+ * Refuses WV_LIST_LENGTH for answer; then WV_TOO_LARGE for over WV_MAX_WAVE_BYTES, WV_NOT_WAVE, and
+ * WV_OUTPUT_TOO_SHORT where samples has fewer elements than the file has samples; with both lists as they
+ * were. */
+uint32_t wv_wave_import(const uint8_t *file, size_t file_len, int32_t *samples, size_t samples_len,
                         uint32_t *answer, size_t answer_len);
 
-/* Reads a sound file, just as `wv_wave_export` writes it: no other header, chunk, length or rate is
- * taken, and no byte behind the samples.
- * samples: the samples, left then right, one for each 2 bytes behind the header; elements behind
- *   keep their values.
- * answer: rate, samples written.
- * Refuses WV_LIST_LENGTH for answer; then WV_TOO_LARGE for over 524,332 bytes, WV_NOT_WAVE, and
- * WV_OUTPUT_TOO_SHORT for a samples list shorter than the file's samples; with both lists as they
- * were. */
-uint32_t wv_wave_import(const uint8_t *file, size_t file_len, int32_t *samples, size_t samples_len, uint32_t *answer,
-                        size_t answer_len);
-
-/* Writes the morning page of samples, left then right: a line of text for each block of
- * WV_LINE_FRAMES frames, the last for what is left, and none for no frames. A line has the number of
- * its block from 0 (6 wide), left peak (11), right peak (11), left clicks (8) and right clicks (8),
- * right-aligned with spaces, and a newline: WV_LINE_BYTES in all.
+/* Writes the morning page of samples, left then right: a line of text for each block of WV_LINE_FRAMES
+ * frames, the last for the frames that are left, and none for no frames. A line has the number of its block
+ * from 0 (6 wide), left peak (11), right peak (11), left clicks (8) and right clicks (8), right-aligned
+ * with spaces, and a newline: WV_LINE_BYTES in all.
  * A peak is the largest distance from 0 in the block, at most 2,147,483,648. A click is a sample whose
  * distance from 0 exceeds `threshold` while that of the sample before it in its channel, also across
- * blocks, did not; before the first sample the distance is 0. So the click columns add up to the
- * clicks of the whole recording. Any threshold is taken.
- * page: the lines from the first byte on, without a 0 at their end; bytes behind keep their values.
+ * blocks, did not; before the first sample the distance is 0. So the click columns add up to the clicks of
+ * the whole recording. Any threshold is accepted.
+ * page: the lines from the first byte on, WV_PAGE_BYTES of the frames, without a 0 at their end; bytes
+ *   after them keep their values.
  * answer: bytes written.
- * Refuses WV_LIST_LENGTH for answer; then WV_TOO_LARGE for over 262,144 samples, WV_LIST_LENGTH for
- * an odd number of them, and WV_OUTPUT_TOO_SHORT for under WV_LINE_BYTES a line; with both lists as
- * they were. */
-uint32_t wv_morning_page(const int32_t *samples, size_t samples_len, uint32_t threshold, uint8_t *page, size_t page_len,
-                         uint32_t *answer, size_t answer_len);
+ * Refuses WV_LIST_LENGTH for answer; then WV_TOO_LARGE for over WV_MAX_ELEMENTS samples, WV_LIST_LENGTH for
+ * an odd number of them, and WV_OUTPUT_TOO_SHORT for a shorter page; with both lists as they were. */
+uint32_t wv_morning_page(const int32_t *samples, size_t samples_len, uint32_t threshold, uint8_t *page,
+                         size_t page_len, uint32_t *answer, size_t answer_len);
 
-/* Completes samples that are wider than the words, each in turn: it is shifted left by sent_bits, with
- * the next sent_bits bits of literal below it; then the first of zeros, ones and dups that is not 0
- * puts as many bits below that: 0s, 1s, or copies of the lowest bit. What is shifted out of 32 bits is
- * lost. Each field is 0 to 31, in any combination.
- * literal: of each sample its bits, the lowest first, in the bits of the bytes, the lowest first; what
- *   stands behind the bits that are needed is not looked at.
+/* Completes samples that are wider than the words, each in turn: it is shifted left by sent_bits, with the
+ * next sent_bits bits of literal below it; then the first of zeros, ones and dups that is not 0 puts as
+ * many bits below that: 0s, 1s, or copies of the lowest bit. What is shifted out of 32 bits is lost. Each
+ * field is 0 to WV_MAX_FIELD, in any combination.
+ * literal: the bits of each sample, the lowest first, in the bits of the bytes, the lowest first; what
+ *   stands after the bits that are needed is not read.
  * answer: bits read, sent_bits for each sample.
- * Refuses WV_LIST_LENGTH for answer; then WV_FIELD_ABOVE_31, WV_TOO_LARGE for over 262,144 samples and
- * WV_TRUNCATED for too few literal bits; with all lists as they were. */
-uint32_t wv_reassemble_int32(uint32_t sent_bits, uint32_t zeros, uint32_t ones, uint32_t dups, int32_t *samples,
-                             size_t samples_len, const uint8_t *literal, size_t literal_len, uint32_t *answer,
-                             size_t answer_len);
+ * Refuses WV_LIST_LENGTH for answer; then WV_FIELD_ABOVE_31, WV_TOO_LARGE for over WV_MAX_ELEMENTS samples
+ * and WV_TRUNCATED for too few literal bits; with all lists as they were. */
+uint32_t wv_reassemble_int32(uint32_t sent_bits, uint32_t zeros, uint32_t ones, uint32_t dups,
+                             int32_t *samples, size_t samples_len, const uint8_t *literal, size_t literal_len,
+                             uint32_t *answer, size_t answer_len);
 
-/* The way back, which makes samples narrow: each is shifted right by the first of zeros, ones and dups
- * that is not 0; then its lowest sent_bits bits go into literal, and it is shifted right by sent_bits.
- * Both shifts keep the sign. `wv_reassemble_int32` by the same fields gives the samples back.
- * literal: at least 4 bytes a sample; the bits from the first byte on, as `wv_reassemble_int32` reads
- *   them; the spare bits of the last byte are 0, and bytes behind keep their values.
+/* The way back, which makes samples narrow: each is shifted right by the first of zeros, ones and dups that
+ * is not 0; then its lowest sent_bits bits go into literal, and it is shifted right by sent_bits. Both
+ * shifts keep the sign. `wv_reassemble_int32` by the same fields gives the samples back.
+ * literal: at least WV_LITERAL_BYTES_PER_SAMPLE for each; the bits from the first byte on, as
+ *   `wv_reassemble_int32` reads them; the spare bits of the last byte are 0, and bytes after it keep their
+ *   values.
  * answer: bits written, sent_bits for each sample.
- * Refuses WV_LIST_LENGTH for answer; then WV_FIELD_ABOVE_31, WV_TOO_LARGE for over 262,144 samples,
- * WV_OUTPUT_TOO_SHORT for literal, and WV_NOT_REINSERTABLE for a sample that does not end in the 0s, 1s
- * or copies that are to be taken out; with all lists as they were. */
-uint32_t wv_deconstruct_int32(uint32_t sent_bits, uint32_t zeros, uint32_t ones, uint32_t dups, int32_t *samples,
-                              size_t samples_len, uint8_t *literal, size_t literal_len, uint32_t *answer,
-                              size_t answer_len);
+ * Refuses WV_LIST_LENGTH for answer; then WV_FIELD_ABOVE_31, WV_TOO_LARGE for over WV_MAX_ELEMENTS samples,
+ * WV_OUTPUT_TOO_SHORT for literal, and WV_NOT_REINSERTABLE for a sample that does not end in the 0s, 1s or
+ * copies that zeros, ones or dups put in; with all lists as they were. */
+uint32_t wv_deconstruct_int32(uint32_t sent_bits, uint32_t zeros, uint32_t ones, uint32_t dups,
+                              int32_t *samples, size_t samples_len, uint8_t *literal, size_t literal_len,
+                              uint32_t *answer, size_t answer_len);
 
 #ifdef __cplusplus
 }
