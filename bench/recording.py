@@ -1,9 +1,10 @@
 #!/usr/bin/env python3
 """recording.py FILE [SEED]: writes 60 seconds of stereo sound, 44,100 frames a second, 16 bits.
 
-As two contact microphones on neighbouring stems would hear it: tones that are struck and die away, a rustle whose level
-wanders, clicks, and a rustle of each stem's own. What the stems share reaches them at different levels, and the rustle
-and the clicks come to the right one a second time, a little later. The same seed gives the same recording.
+As two contact microphones on neighbouring stems would hear it: tones that are struck and die away, a rustle
+whose level wanders, clicks, and a rustle of each stem's own. What the stems share reaches them at different
+levels, and the rustle and the clicks come to the right one a second time, a little later. The same seed gives
+the same recording.
 """
 import array
 import math
@@ -16,8 +17,8 @@ STEP = 441  # frames for which levels and pitches stay as they are
 STEPS = 6000
 LATER = 23  # frames until the right stem hears what runs through the ground
 # Of each tone: pitch in Hz, seconds in which it falls to 1 / e, the hardest strike.
-TONES = [(97, 1.2, 9000), (261, 1.0, 7500), (540, 0.8, 6000), (1130, 0.6, 4500), (2350, 0.4, 3500), (3900, 0.3, 3000),
-         (6100, 0.2, 2500)]
+TONES = [(97, 1.2, 9000), (261, 1.0, 7500), (540, 0.8, 6000), (1130, 0.6, 4500), (2350, 0.4, 3500),
+         (3900, 0.3, 3000), (6100, 0.2, 2500)]
 
 
 class Tone:

@@ -3,8 +3,9 @@
 #     run.sh [ROUNDS [TIMES]]
 # Each round starts each program once; a program decodes TIMES times, and the best time of all rounds counts.
 #
-# The files go to the folder that BENCH_FOLDER names, or to target/bench; recordings that are there are not made again.
-# The library is libwavpack_stereo.a of the folder that WAVPACK_STEREO_FOLDER names, or of target/staticlib.
+# The files go to the folder that BENCH_FOLDER names, or to target/bench; recordings that are there are not
+# made again. The library is libwavpack_stereo.a of the folder that WAVPACK_STEREO_FOLDER names, or of
+# target/staticlib.
 set -eu
 LC_ALL=C
 export LC_ALL
@@ -37,10 +38,10 @@ build() { # PROGRAM SOURCE... LIBRARY
     program=$1
     shift
     "${CC:-cc}" -std=c11 -O2 -Wall -Wextra -Werror -D_POSIX_C_SOURCE=200809L -pthread -I"$root/include" \
-        -I"$root/ctest" "$root/bench/$program.c" "$root/bench/turns.c" "$@" -o "$work/$program"
+        -I"$root/examples/c" "$root/bench/$program.c" "$root/bench/turns.c" "$@" -o "$work/$program"
 }
 
-# Prints what the programs print, behind `ours` or `theirs`. Both must have decoded the same samples.
+# Prints what the programs print, after `ours` or `theirs`. Both must have decoded the same samples.
 take_turns() { # FILE...
     round=0
     while [ "$round" -lt "$rounds" ]; do
@@ -61,7 +62,7 @@ done
 mkdir -p "$work"
 record recording 1
 record second 2
-build ours "$root/ctest/wv_block.c" "$library"
+build ours "$root/examples/c/wv_block.c" "$root/examples/c/wv_samples.c" "$library"
 build theirs -lwavpack
 
 echo '| mode | passes | size, % of the WAV file | ours, ms | libwavpack, ms | times as fast |'
@@ -74,8 +75,8 @@ for mode in -f '' -h -hh; do
         !($1 in best) || $4 < best[$1] { best[$1] = $4 }
         $1 == "ours" { passes = $3 }
         END {
-            printf "| %s | %d | %.1f | %.1f | %.1f | %.2f |\n", mode, passes, 100 * packed / whole, best["ours"],
-                best["theirs"], best["theirs"] / best["ours"]
+            printf "| %s | %d | %.1f | %.1f | %.1f | %.2f |\n", mode, passes, 100 * packed / whole,
+                best["ours"], best["theirs"], best["theirs"] / best["ours"]
         }' "$work/turns.txt"
 done
 
@@ -88,7 +89,8 @@ for mode in '' -h; do
         !($1 in one) || $4 < one[$1] { one[$1] = $4 }
         !($1 in two) || $5 < two[$1] { two[$1] = $5 }
         function row(name, side) {
-            printf "| %s | %s | %.1f | %.1f | %.2f |\n", mode, name, one[side], two[side], one[side] / two[side]
+            printf "| %s | %s | %.1f | %.1f | %.2f |\n", mode, name, one[side], two[side],
+                one[side] / two[side]
         }
         END {
             row("ours", "ours")

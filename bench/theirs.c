@@ -70,7 +70,8 @@ void decode(struct recording *recording)
         stop(recording->name, "another number of channels or frames");
     do {
         size_t left = recording->frames - done;
-        got = WavpackUnpackSamples(context, recording->samples + 2 * done, left < CHUNK ? (uint32_t)left : CHUNK);
+        uint32_t asked = left < CHUNK ? (uint32_t)left : CHUNK;
+        got = WavpackUnpackSamples(context, recording->samples + 2 * done, asked);
         done += got;
     } while (got > 0);
     if (done < recording->frames || WavpackGetNumErrors(context) != 0)

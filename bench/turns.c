@@ -1,7 +1,7 @@
 /* The turns of a program: PROGRAM TIMES FILE [FILE]
-   Decodes the files TIMES times and prints a line: a checksum of all samples, the passes of a block (0 where the
-   decoder does not tell), and the milliseconds of the best time; of two files first those of one after the other in one
-   thread, then those of both at once in two threads. */
+   Decodes the files TIMES times and prints a line: a checksum of all samples, the passes of a block (0 where
+   the decoder does not report them), and the milliseconds of the best time; of two files first those of one
+   after the other in one thread, then those of both at the same time in two threads. */
 #include "turns.h"
 #include <inttypes.h>
 #include <pthread.h>
@@ -29,7 +29,7 @@ static void *allocate(const char *name, size_t bytes)
     return memory;
 }
 
-/* Reads a file, and makes room for as many frames as its first block tells of the file. */
+/* Reads a file, and makes room for as many frames as its first block reports. */
 static struct recording read_file(const char *name)
 {
     struct recording recording = {.name = name};
@@ -42,10 +42,10 @@ static struct recording read_file(const char *name)
     if (fread(recording.file, 1, recording.size, file) != recording.size)
         stop(name, "cannot be read");
     fclose(file);
-    const uint8_t *told = recording.file + 12;
-    recording.frames = told[0] | (size_t)told[1] << 8 | (size_t)told[2] << 16 | (size_t)told[3] << 24;
+    const uint8_t *total = recording.file + 12;
+    recording.frames = total[0] | (size_t)total[1] << 8 | (size_t)total[2] << 16 | (size_t)total[3] << 24;
     if (recording.frames == UINT32_MAX)
-        stop(name, "does not tell its frames");
+        stop(name, "does not report its frames");
     recording.samples = allocate(name, CHANNELS * recording.frames * sizeof *recording.samples);
     return recording;
 }
@@ -81,8 +81,8 @@ static double milliseconds(void)
 
 typedef void decode_all(struct recording *recordings, size_t count);
 
-/* The milliseconds of the best time. Before it the samples are wiped, so that what was decoded earlier does not pass
-   for what is decoded now, and decoded once, so that pages and caches are there. */
+/* The milliseconds of the best time. Before it the samples are wiped, so that what was decoded earlier does
+   not pass for what is decoded now, and decoded once, so that pages and caches are there. */
 static double best(long times, decode_all *all, struct recording *recordings, size_t count)
 {
     double least = 0;
