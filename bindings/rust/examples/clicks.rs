@@ -1,11 +1,11 @@
 //! Prints the clicks of a stereo stem recording, the frame, the stem and the height of each, and then
-//! its morning page. It stops where the page tells another number of clicks of a block and a stem than
+//! its morning page. It stops where the page has another number of clicks of a block and a stem than
 //! it printed.
 //!
 //! `clicks` makes a recording with clicks, writes it (analysis, packing), decodes the written bytes
 //! and prints the clicks that it finds; it stops where they are not the ones that were put in.
 //!
-//! `clicks FILE THRESHOLD` prints the clicks of a recording as the program `wvpair` takes it: 12
+//! `clicks FILE THRESHOLD` prints the clicks of a recording as the program `wvpair` reads it: 12
 //! entropy bytes, the frame count in 2 bytes, the low one first, and the payload. A click is a sample
 //! whose distance from 0 exceeds the threshold while that of the same stem's sample before it did
 //! not; before the first sample the distance is 0.
@@ -14,7 +14,9 @@ mod recording;
 use recording::Recording;
 use std::error::Error;
 use std::fmt;
-use wavpack_stereo::{BYTES_PER_FRAME, LINE_FRAMES, Pass, Refusal, analyse, log_word, morning_page, pack, page_bytes};
+use wavpack_stereo::{
+    BYTES_PER_FRAME, LINE_FRAMES, Pass, Refusal, analyse, log_word, morning_page, pack, page_bytes,
+};
 use wavpack_stereo::{term_byte, weight_byte};
 
 /// What a file holds of a pass: the term byte, and for each channel a weight byte and seeds as log
@@ -70,9 +72,11 @@ fn counts_agree(page: &str, found: &[Click]) -> Result<(), String> {
         for (stem, name) in STEMS.iter().enumerate() {
             let is_here = |click: &&Click| click.stem == stem && click.frame / LINE_FRAMES == block;
             let here = found.iter().filter(is_here).count();
-            let told = line.split_whitespace().nth(3 + stem).unwrap_or("nothing");
-            if told != here.to_string() {
-                return Err(format!("clicks of block {block}, {name} stem: {here} found, {told} on the page"));
+            let shown = line.split_whitespace().nth(3 + stem).unwrap_or("nothing");
+            if shown != here.to_string() {
+                return Err(format!(
+                    "clicks of block {block}, {name} stem: {here} found, {shown} on the page"
+                ));
             }
         }
     }
@@ -93,10 +97,10 @@ fn print(samples: &[i32], threshold: u32) -> Result<Vec<Click>, Box<dyn Error>> 
 
 fn make_passes(stored: &[StoredPass]) -> Result<Vec<Pass>, Refusal> {
     let make = |pass: &StoredPass| {
-        let told = term_byte(pass.term);
+        let stored = term_byte(pass.term);
         let values = |words: &[i16]| words.iter().copied().map(log_word).collect::<Result<Vec<_>, _>>();
         let [seed_a, seed_b] = pass.seeds.map(values);
-        Pass::new(told.term, told.delta, pass.weights.map(weight_byte), [&seed_a?, &seed_b?])
+        Pass::new(stored.term, stored.delta, pass.weights.map(weight_byte), [&seed_a?, &seed_b?])
     };
     stored.iter().map(make).collect()
 }

@@ -1,6 +1,6 @@
 //! Writes a stereo stem recording as a sound file for audio editors: `sound_file FILE RATE OUT`
 //!
-//! FILE is a recording as the program `wvpair` takes it: 12 entropy bytes, the frame count in 2
+//! FILE is a recording as the program `wvpair` reads it: 12 entropy bytes, the frame count in 2
 //! bytes, the low one first, and the payload. RATE is the number of frames a second, and OUT the
 //! name of the sound file. Where the recording cannot be exported it says why, writes no file and
 //! has the exit status 1.
@@ -47,7 +47,11 @@ fn exported(rate: u32, samples: &[i32]) -> Result<Vec<u8>, String> {
     let written = wave_export(rate, samples, &mut file).map_err(|refusal| why(refusal, rate, samples))?;
     assert_eq!(written, file.len(), "another length than was lent");
     let mut back = vec![0; samples.len()];
-    assert_eq!(wave_import(&file, &mut back), Ok(Wave { rate, written: samples.len() }), "the file is not taken back");
+    assert_eq!(
+        wave_import(&file, &mut back),
+        Ok(Wave { rate, written: samples.len() }),
+        "the file is not read back"
+    );
     assert!(back == samples, "the samples do not come back");
     Ok(file)
 }

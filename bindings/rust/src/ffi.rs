@@ -1,17 +1,16 @@
 //! The C interface as it is: one function for each of `include/wavpack_stereo.h`, which documents
 //! their slots.
 //!
-//! The functions of the crate's root are made of these and are the ones to call. These take lists
+//! The functions of the crate's root are made of these and are the ones to call. These accept lists
 //! of any length and answer a number, 0 for accepted; with the feature `ffi` they are public, so
 //! that tests can lend lists with too few slots or too many. What each writes when it refuses
 //! stands in the header too: `read` then writes its answer, `word` sample 0 and report 0, 0, and
 //! `pack` an answer of zeros.
 //!
-//! All unsafe code of the crate is in this file. It rests on what the header promises, that a
-//! function reads and writes nothing beyond the elements that it is given and keeps no pointer, and
-//! on what slices are: not null, aligned, all of one length that is told beside the pointer, and,
-//! where they are written, lent to this call alone. These two together are "list" in the comments
-//! below.
+//! All unsafe code of the crate is in this file. It rests on two things. The header promises that a
+//! function reads and writes nothing beyond the elements that it is given, and keeps no pointer. And a
+//! slice is not null, is aligned, has as many elements as its length says, and where it is written is
+//! lent to this call alone. These two together are "list" in the comments below.
 use crate::{Delta, Int32Info, Pass, Weight};
 
 #[rustfmt::skip]
@@ -20,13 +19,13 @@ unsafe extern "C" {
     fn wv_term_byte(byte: u8, out: *mut i32, out_len: usize) -> u32;
     fn wv_weight_byte(byte: u8, out: *mut i32, out_len: usize) -> u32;
     fn wv_entropy(entropy: *const u8, entropy_len: usize, medians: *mut i32, medians_len: usize) -> u32;
-    fn wv_word(
-        payload: *const u8, payload_len: usize, state: *mut u32, state_len: usize,
-        sample: *mut i32, sample_len: usize, report: *mut u32, report_len: usize,
-    ) -> u32;
     fn wv_read(
         entropy: *const u8, entropy_len: usize, payload: *const u8, payload_len: usize, frames: usize,
         samples: *mut i32, samples_len: usize, answer: *mut u32, answer_len: usize,
+    ) -> u32;
+    fn wv_word(
+        payload: *const u8, payload_len: usize, state: *mut u32, state_len: usize,
+        sample: *mut i32, sample_len: usize, report: *mut u32, report_len: usize,
     ) -> u32;
     fn wv_pass(
         term: i8, delta: i32, weight_a: i32, weight_b: i32, seed_a: *const i32, seed_a_len: usize,
@@ -84,18 +83,6 @@ pub fn entropy(entropy: &[u8], medians: &mut [i32]) -> u32 {
     unsafe { wv_entropy(entropy.as_ptr(), entropy.len(), medians.as_mut_ptr(), medians.len()) }
 }
 
-/// `wv_word`: a state of 13 slots, a sample of 1, a report of 2.
-#[rustfmt::skip]
-pub fn word(payload: &[u8], state: &mut [u32], sample: &mut [i32], report: &mut [u32]) -> u32 {
-    // SAFETY: all four are lists; only the last three, each lent to this call alone, are written.
-    unsafe {
-        wv_word(
-            payload.as_ptr(), payload.len(), state.as_mut_ptr(), state.len(),
-            sample.as_mut_ptr(), sample.len(), report.as_mut_ptr(), report.len(),
-        )
-    }
-}
-
 /// `wv_read`: an answer of 8 slots.
 #[rustfmt::skip]
 pub fn read(entropy: &[u8], payload: &[u8], frames: usize, samples: &mut [i32], answer: &mut [u32]) -> u32 {
@@ -105,6 +92,18 @@ pub fn read(entropy: &[u8], payload: &[u8], frames: usize, samples: &mut [i32], 
         wv_read(
             entropy.as_ptr(), entropy.len(), payload.as_ptr(), payload.len(), frames,
             samples.as_mut_ptr(), samples.len(), answer.as_mut_ptr(), answer.len(),
+        )
+    }
+}
+
+/// `wv_word`: a state of 13 slots, a sample of 1, a report of 2.
+#[rustfmt::skip]
+pub fn word(payload: &[u8], state: &mut [u32], sample: &mut [i32], report: &mut [u32]) -> u32 {
+    // SAFETY: all four are lists; only the last three, each lent to this call alone, are written.
+    unsafe {
+        wv_word(
+            payload.as_ptr(), payload.len(), state.as_mut_ptr(), state.len(),
+            sample.as_mut_ptr(), sample.len(), report.as_mut_ptr(), report.len(),
         )
     }
 }
@@ -202,7 +201,9 @@ pub fn reassemble_int32(info: Int32Info, samples: &mut [i32], literal: &[u8], an
 
 /// `wv_deconstruct_int32`: an answer of 1 slot.
 #[rustfmt::skip]
-pub fn deconstruct_int32(info: Int32Info, samples: &mut [i32], literal: &mut [u8], answer: &mut [u32]) -> u32 {
+pub fn deconstruct_int32(
+    info: Int32Info, samples: &mut [i32], literal: &mut [u8], answer: &mut [u32],
+) -> u32 {
     let Int32Info { sent_bits, zeros, ones, dups } = info;
     // SAFETY: all three are lists, each lent to this call alone, whatever the fields are.
     unsafe {

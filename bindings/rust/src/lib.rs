@@ -1,19 +1,29 @@
 //! The proved decoder and writer of stereo WavPack recordings, for greenhouse controllers in Rust.
 //!
-//! Thin and safe functions over the archive `libwavpack_stereo.a`: each hands its slices to the C interface
-//! and names what it answers. Nothing is allocated, no list is copied, and no state is kept between
-//! calls.
+//! Thin and safe functions over the archive `libwavpack_stereo.a`: each hands its slices to the C
+//! interface and names what it answers. Nothing is allocated, no list is copied, and no state is kept
+//! between calls. They have the names of the C functions, without `wv_`, and the same order of arguments.
 //!
-//! Decoding: [`read`] turns a packed payload into residuals, and [`decorrelate`] these into samples
-//! by the passes that [`Pass::new`] makes from the [`term_byte`], the [`weight_byte`]s and the
-//! seeds, which are [`log_word`]s. Writing is the way back: [`analyse`], then [`pack`]. [`word`]
-//! reads one word at a time, for a controller that follows a recording as it comes in. The example
-//! `wv_file` decodes real `.wv` files, by the steps of docs/WV_FILES.md. [`wave_export`] writes
-//! samples as a sound file, which audio editors open, and [`wave_import`] reads such a file back;
-//! the example `sound_file` does both. [`morning_page`] writes peaks and clicks of samples as a page
-//! of text; the example `clicks` prints it. [`reassemble_int32`] completes samples that are wider
-//! than the words, behind [`decorrelate`], and [`deconstruct_int32`] makes such samples narrow, before
-//! [`analyse`].
+//! | function | what it does |
+//! |---|---|
+//! | [`log_word`] | gives the value of a log word: a seed or a median |
+//! | [`term_byte`] | gives the term and the delta of a pass |
+//! | [`weight_byte`] | gives a weight of a pass |
+//! | [`entropy`] | gives the medians of an entropy payload |
+//! | [`read`] | reads a packed payload into residuals |
+//! | [`word`] | reads one word, for a controller that follows a recording as it comes in |
+//! | [`Pass::new`] | makes a pass (`wv_pass`) |
+//! | [`decorrelate`] | turns residuals into samples by passes |
+//! | [`analyse`] | turns samples into residuals by passes |
+//! | [`pack`] | packs residuals into a payload |
+//! | [`wave_export`] | writes samples as a sound file, which audio editors open |
+//! | [`wave_import`] | reads such a sound file |
+//! | [`morning_page`] | writes peaks and clicks of samples as a page of text |
+//! | [`reassemble_int32`] | completes samples that are wider than the words, after [`decorrelate`] |
+//! | [`deconstruct_int32`] | makes such samples narrow, before [`analyse`] |
+//!
+//! The example `wv_file` decodes real `.wv` files, by the steps of docs/WV_FILES.md; `sound_file` exports a
+//! recording, and `clicks` prints its morning page.
 //!
 //! ```
 //! use wavpack_stereo::{BYTES_PER_FRAME, Delta, Pass, Refusal, Weight};
@@ -34,15 +44,18 @@
 //! # Ok::<(), Refusal>(())
 //! ```
 //!
-//! Every function tests its input itself and ends on every input. What it does not take it refuses
+//! Every function tests its input itself and ends on every input. What it does not accept it refuses
 //! with a [`Refusal`], and then `state`, `passes`, `buffer`, `samples`, `out`, `page` and `literal` are
 //! as they were, with one exception: a reading that a word ends has written the samples of the words
-//! before it and says how many ([`ReadError`]).
+//! before it, and reports how many ([`ReadError`]).
+//!
+//! Numbers of bits are `u32`, as in the C interface; numbers of bytes and elements are `usize`.
 //!
 //! With the feature `ffi` the C interface is public as it is, for tests that lend it lists of other
 //! lengths than the functions here do.
 #![no_std]
 #![warn(missing_docs, clippy::undocumented_unsafe_blocks)]
+#![warn(clippy::missing_errors_doc, clippy::must_use_candidate)]
 #![deny(unsafe_code)]
 
 #[allow(unsafe_code)]
@@ -52,6 +65,7 @@ pub mod ffi;
 #[cfg(not(feature = "ffi"))]
 mod ffi;
 mod int32;
+mod limits;
 mod packing;
 mod page;
 mod passes;
@@ -62,16 +76,17 @@ mod values;
 mod wave;
 mod words;
 
-pub use int32::{Int32Info, LITERAL_BYTES_PER_SAMPLE, deconstruct_int32, reassemble_int32};
-pub use packing::{BYTES_PER_FRAME, Packed, pack};
-pub use page::{LINE_BYTES, LINE_FRAMES, morning_page, page_bytes};
-pub use passes::{Delta, MAX_ELEMENTS, MAX_PASSES, Pass, Weight, analyse, decorrelate};
-pub use reading::{MAX_FRAMES, MAX_PAYLOAD_BYTES, ReadError, Reading, read};
+pub use int32::{Int32Info, deconstruct_int32, reassemble_int32};
+pub use limits::*;
+pub use packing::{Packed, pack};
+pub use page::morning_page;
+pub use passes::{Delta, Pass, Weight, analyse, decorrelate};
+pub use reading::{ReadError, Reading, read};
 pub use refusal::Refusal;
 #[cfg(feature = "ffi")]
 pub use slots::Slots;
 pub use values::{TermByte, entropy, log_word, term_byte, weight_byte};
-pub use wave::{MAX_RATE, MAX_WAVE_BYTES, WAVE_HEADER_BYTES, Wave, wave_export, wave_import};
+pub use wave::{Wave, wave_export, wave_import};
 pub use words::{Word, WordState, Zone, word};
 
 /// Three numbers for the left channel, then three for the right one.

@@ -1,38 +1,27 @@
 //! The morning page: peaks and clicks of a recording, a line of text for each 1,024 frames.
 use crate::{Refusal, ffi};
 
-/// How many bytes a line has, its newline among them.
-pub const LINE_BYTES: usize = 45;
-/// Of how many frames a line tells; the last line tells of what is left.
-pub const LINE_FRAMES: usize = 1_024;
-
-/// How many bytes the page of so many frames has.
-///
-/// ```
-/// use wavpack_stereo::page_bytes;
-/// assert_eq!([0, 1, 1_024, 1_025].map(page_bytes), [0, 45, 45, 90]);
-/// ```
-pub const fn page_bytes(frames: usize) -> usize {
-    LINE_BYTES * frames.div_ceil(LINE_FRAMES)
-}
-
 /// Writes the morning page of samples, left then right, into `page`, which has at least
-/// [`page_bytes`] of their frames, and tells how many bytes were written. The bytes behind them keep
-/// their values.
+/// [`page_bytes`](crate::page_bytes) of their frames, and gives the number of bytes written. The bytes
+/// after them keep their values.
 ///
-/// There is a line for each block of [`LINE_FRAMES`] frames, the last for what is left, and none
-/// for no frames. A line has the number of its block from 0 (6 wide), left peak (11), right peak
-/// (11), left clicks (8) and right clicks (8), right-aligned with spaces, and a newline:
-/// [`LINE_BYTES`] of ASCII.
+/// There is a line for each block of [`LINE_FRAMES`](crate::LINE_FRAMES) frames, the last for the frames
+/// that are left, and none for no frames. A line has the number of its block from 0 (6 wide), left peak
+/// (11), right peak (11), left clicks (8) and right clicks (8), right-aligned with spaces, and a newline:
+/// [`LINE_BYTES`](crate::LINE_BYTES) of ASCII.
 ///
 /// A peak is the largest distance from 0 in the block, at most 2,147,483,648. A click is a sample
 /// whose distance from 0 exceeds the threshold while that of the sample before it in its channel,
 /// also across blocks, did not; before the first sample the distance is 0. So the click columns add
-/// up to the clicks of the whole recording. Any threshold is taken.
+/// up to the clicks of the whole recording. Any threshold is accepted.
+///
+/// # Errors
 ///
 /// Refuses [`Refusal::TooLarge`] for over [`MAX_ELEMENTS`](crate::MAX_ELEMENTS) samples,
-/// [`Refusal::ListLength`] for an odd number of them and [`Refusal::OutputTooShort`]; `page` is then
-/// as it was.
+/// [`Refusal::ListLength`] for an odd number of them and [`Refusal::OutputTooShort`], in this order;
+/// `page` is then as it was.
+///
+/// # Examples
 ///
 /// ```
 /// use wavpack_stereo::{Refusal, morning_page, page_bytes};

@@ -1,11 +1,6 @@
 //! Passes, decorrelation and analysis.
 use crate::{Refusal, ffi};
 
-/// The most elements of a buffer.
-pub const MAX_ELEMENTS: usize = 262_144;
-/// The most passes of a list.
-pub const MAX_PASSES: usize = 16;
-
 /// By how much a weight moves.
 #[derive(Clone, Copy, Debug, Default, PartialEq, Eq, PartialOrd, Ord, Hash)]
 pub struct Delta(pub i32);
@@ -25,19 +20,23 @@ impl Pass {
     /// history A, eight of history B.
     pub const SLOTS: usize = 20;
 
-    /// Makes a pass; weights and seeds are A's, then B's. Any delta and weights are taken; an empty
+    /// Makes a pass; weights and seeds are A's, then B's. Any delta and weights are accepted. An empty
     /// seed means zeros, except that a cross term with an A seed needs a B seed.
     /// [`term_byte`](crate::term_byte), [`weight_byte`](crate::weight_byte) and
-    /// [`log_word`](crate::log_word) give what it takes.
+    /// [`log_word`](crate::log_word) give its arguments.
+    ///
+    /// # Errors
     ///
     /// Refuses [`Refusal::InvalidTerm`], also for a term outside 8 bits, then
     /// [`Refusal::SeedTooShort`].
     ///
+    /// # Examples
+    ///
     /// ```
     /// use wavpack_stereo::{Delta, Pass, Refusal, Weight, term_byte, weight_byte};
-    /// let told = term_byte(0x57);
+    /// let stored = term_byte(0x57);
     /// let weights = [0x7f, 0x80].map(weight_byte);
-    /// let pass = Pass::new(told.term, told.delta, weights, [&[10, 4], &[1, -2]])?;
+    /// let pass = Pass::new(stored.term, stored.delta, weights, [&[10, 4], &[1, -2]])?;
     /// assert_eq!((pass.term(), pass.delta()), (18, Delta(2)));
     /// assert_eq!(pass.weights(), [Weight(1024), Weight(-1024)]);
     /// assert_eq!(pass.histories(), [[10, 4, 0, 0, 0, 0, 0, 0], [1, -2, 0, 0, 0, 0, 0, 0]]);
@@ -56,12 +55,14 @@ impl Pass {
 
     /// The pass that 20 slots hold, as a controller has stored it. Nothing is tested: an invalid
     /// term is refused when the pass is to run.
+    #[must_use]
     pub const fn from_slots(slots: [i32; Pass::SLOTS]) -> Pass {
         Pass(slots)
     }
 
-    /// The pass whose accessors tell these values. Nothing is tested.
+    /// The pass whose accessors give these values. Nothing is tested.
     #[cfg(feature = "ffi")]
+    #[must_use]
     pub fn from_parts(term: i32, delta: Delta, weights: [Weight; 2], histories: [[i32; 8]; 2]) -> Pass {
         let [weight_a, weight_b] = weights;
         let mut slots = [0; Pass::SLOTS];
@@ -71,26 +72,31 @@ impl Pass {
     }
 
     /// Its 20 slots, to be stored.
+    #[must_use]
     pub const fn slots(&self) -> &[i32; Pass::SLOTS] {
         &self.0
     }
 
     /// Its term; one that [`Pass::from_slots`] was given may be invalid.
+    #[must_use]
     pub const fn term(&self) -> i32 {
         self.0[0]
     }
 
     /// By how much its weights move.
+    #[must_use]
     pub const fn delta(&self) -> Delta {
         Delta(self.0[1])
     }
 
     /// The weights of A and B.
+    #[must_use]
     pub const fn weights(&self) -> [Weight; 2] {
         [Weight(self.0[2]), Weight(self.0[3])]
     }
 
     /// The histories of A and B.
+    #[must_use]
     pub fn histories(&self) -> [[i32; 8]; 2] {
         [4, 12].map(|from| core::array::from_fn(|i| self.0[from + i]))
     }
@@ -99,8 +105,12 @@ impl Pass {
 /// Decorrelation: turns the residuals of `buffer`, left then right, into samples, by each pass in
 /// turn, and moves the passes on. An odd last element keeps its value.
 ///
-/// Refuses [`Refusal::TooLarge`], [`Refusal::TooManyPasses`] and [`Refusal::InvalidTerm`]; passes
-/// and buffer are then as they were.
+/// # Errors
+///
+/// Refuses [`Refusal::TooLarge`], [`Refusal::TooManyPasses`] and [`Refusal::InvalidTerm`], in this order;
+/// passes and buffer are then as they were.
+///
+/// # Examples
 ///
 /// ```
 /// use wavpack_stereo::{Delta, Pass, Refusal, Weight, decorrelate};
@@ -113,7 +123,8 @@ impl Pass {
 ///
 /// Accepted calls by a list for the microphone and then by one for the stem leave what one call
 /// leaves with the second appended to the first, in samples and in all pass states, where both
-/// have at most [`MAX_PASSES`] together. That is proved (rows Q4.1 and Q4.2 of docs/PROVED.md).
+/// have at most [`MAX_PASSES`](crate::MAX_PASSES) together. That is proved (rows Q4.1 and Q4.2 of
+/// docs/PROVED.md).
 ///
 /// ```
 /// use wavpack_stereo::{Delta, Pass, Refusal, Weight, decorrelate};
@@ -133,11 +144,17 @@ pub fn decorrelate(passes: &mut [Pass], buffer: &mut [i32]) -> Result<(), Refusa
 }
 
 /// Analysis, the inverse: turns the samples of `buffer` into the residuals that decorrelate to
-/// them, and leaves the passes as decorrelation would. Refuses as [`decorrelate`] does.
+/// them, and leaves the passes as decorrelation would.
 ///
 /// Of two lists the second is undone before the first: accepted calls by it and then by the first
 /// leave what one call leaves with the second appended to the first, where both have at most
-/// [`MAX_PASSES`] together (row Q4.3).
+/// [`MAX_PASSES`](crate::MAX_PASSES) together (row Q4.3).
+///
+/// # Errors
+///
+/// Refuses as [`decorrelate`] does.
+///
+/// # Examples
 ///
 /// ```
 /// use wavpack_stereo::{Delta, Pass, Refusal, Weight, analyse, decorrelate};

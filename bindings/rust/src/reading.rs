@@ -4,12 +4,7 @@ use crate::{Medians, Refusal, ffi};
 use core::error::Error;
 use core::fmt;
 
-/// The most frames that a reading or a packing takes.
-pub const MAX_FRAMES: usize = 131_072;
-/// The most payload bytes that a reading or a word takes.
-pub const MAX_PAYLOAD_BYTES: usize = 4_194_304;
-
-/// What a reading tells, of its accepted words.
+/// What a reading reports of its accepted words.
 #[derive(Clone, Copy, Debug, Default, PartialEq, Eq, Hash)]
 pub struct Reading {
     /// How many bits were used.
@@ -20,7 +15,7 @@ pub struct Reading {
     pub written: usize,
 }
 
-/// A refused reading, with what it tells of the words before the one that ended it.
+/// A refused reading, with what it reports of the words before the one that ended it.
 #[derive(Clone, Copy, Debug, PartialEq, Eq, Hash)]
 pub struct ReadError {
     /// Why it was refused.
@@ -31,11 +26,16 @@ pub struct ReadError {
 
 impl fmt::Display for ReadError {
     fn fmt(&self, f: &mut fmt::Formatter<'_>) -> fmt::Result {
-        write!(f, "{}; {} samples were written", self.refusal, self.reading.written)
+        write!(f, "the reading ended after {} samples", self.reading.written)
     }
 }
 
-impl Error for ReadError {}
+impl Error for ReadError {
+    /// Why: the refusal.
+    fn source(&self) -> Option<&(dyn Error + 'static)> {
+        Some(&self.refusal)
+    }
+}
 
 impl From<ReadError> for Refusal {
     fn from(error: ReadError) -> Refusal {
@@ -49,10 +49,14 @@ impl From<ReadError> for Refusal {
 /// An entropy payload of 12 bytes is stereo whatever it holds: three right medians of 0 are a right
 /// channel that starts silent.
 ///
+/// # Errors
+///
 /// Refuses [`Refusal::TooLarge`], [`Refusal::ListLength`], [`Refusal::EntropyLength`],
-/// [`Refusal::LogWordOutOfReach`] and [`Refusal::NotStereo`], with `samples` as it was; then, in a word,
-/// [`Refusal::Truncated`] or [`Refusal::EndOfStream`], with the samples of the words before it in
-/// `samples` and, behind them, what it held.
+/// [`Refusal::LogWordOutOfReach`] and [`Refusal::NotStereo`], in this order, with `samples` as it was;
+/// then, in a word, [`Refusal::Truncated`] or [`Refusal::EndOfStream`], with the samples of the words before
+/// it in `samples` and, after them, what it held.
+///
+/// # Examples
 ///
 /// ```
 /// use wavpack_stereo::{Refusal, read};
@@ -71,7 +75,12 @@ impl From<ReadError> for Refusal {
 /// assert_eq!(samples, [3, -1, 0, 0, 0, 0, 77, 77]);
 /// # Ok::<(), wavpack_stereo::ReadError>(())
 /// ```
-pub fn read(entropy: &[u8], payload: &[u8], frames: usize, samples: &mut [i32]) -> Result<Reading, ReadError> {
+pub fn read(
+    entropy: &[u8],
+    payload: &[u8],
+    frames: usize,
+    samples: &mut [i32],
+) -> Result<Reading, ReadError> {
     let mut answer = [0; 8];
     let outcome = Refusal::outcome(ffi::read(entropy, payload, frames, samples, &mut answer));
     let reading = Reading::from_slots(answer);
@@ -86,7 +95,14 @@ mod tests {
     use super::*;
 
     #[test]
-    fn a_log_word_out_of_reach_tells_zeros() {
+    fn an_error_reports_its_refusal() {
+        let error = read(&[0, 1], &[], 1, &mut [0; 2]).unwrap_err();
+        let why = error.source().and_then(|source| source.downcast_ref::<Refusal>());
+        assert_eq!((why, error.reading), (Some(&Refusal::EntropyLength), Reading::default()));
+    }
+
+    #[test]
+    fn a_log_word_out_of_reach_leaves_zeros() {
         let (mut samples, mut answer) = ([77; 2], [77; 9]);
         let number = ffi::read(&[0, 32, 0, 0, 0, 0], &[0x7e, 0x02], 1, &mut samples, &mut answer);
         assert_eq!((number, samples, answer), (17, [77; 2], [0, 0, 0, 0, 0, 0, 0, 0, 77]));

@@ -2,7 +2,7 @@
 //! of a pass, which stands with `Pass`, and nowhere else in Rust.
 use crate::{Delta, Medians, Packed, Reading, TermByte, Wave, WordState, Zone};
 
-/// A value that the C interface takes or gives as a list of numbers, its slots, in the order of
+/// A value that the C interface reads or writes as a list of numbers, its slots, in the order of
 /// `include/wavpack_stereo.h`.
 pub trait Slots: Sized {
     /// The list: an array of as many numbers as there are slots.

@@ -13,7 +13,12 @@ pub struct TermByte {
 
 /// The signed value of a log word, -2,143,289,344 to 2,143,289,344.
 ///
-/// Refuses [`Refusal::LogWordOutOfReach`].
+/// # Errors
+///
+/// Refuses [`Refusal::LogWordOutOfReach`] for a word outside [`MIN_LOG_WORD`](crate::MIN_LOG_WORD) to
+/// [`MAX_LOG_WORD`](crate::MAX_LOG_WORD).
+///
+/// # Examples
 ///
 /// ```
 /// use wavpack_stereo::{Refusal, log_word};
@@ -35,6 +40,7 @@ pub fn log_word(word: i16) -> Result<i32, Refusal> {
 /// use wavpack_stereo::{Delta, TermByte, term_byte};
 /// assert_eq!(term_byte(0x57), TermByte { term: 18, delta: Delta(2) });
 /// ```
+#[must_use]
 pub fn term_byte(byte: u8) -> TermByte {
     let mut out = [0; 2];
     // Only a list with fewer than two slots is refused.
@@ -48,6 +54,7 @@ pub fn term_byte(byte: u8) -> TermByte {
 /// use wavpack_stereo::{Weight, weight_byte};
 /// assert_eq!(weight_byte(0x7f), Weight(1024));
 /// ```
+#[must_use]
 pub fn weight_byte(byte: u8) -> Weight {
     let mut out = [0];
     // Only a list without a slot is refused.
@@ -58,8 +65,12 @@ pub fn weight_byte(byte: u8) -> Weight {
 /// The signed medians of an entropy payload of 6 bytes (mono: the right ones are 0) or 12 bytes
 /// (stereo).
 ///
+/// # Errors
+///
 /// Refuses [`Refusal::EntropyLength`], then [`Refusal::LogWordOutOfReach`] for one of its three or six
 /// log words.
+///
+/// # Examples
 ///
 /// ```
 /// use wavpack_stereo::{Refusal, entropy};
@@ -71,9 +82,9 @@ pub fn weight_byte(byte: u8) -> Weight {
 /// assert_eq!(entropy(&worn), Err(Refusal::LogWordOutOfReach));
 /// assert_eq!(entropy(&worn[..5]), Err(Refusal::EntropyLength));
 /// ```
-pub fn entropy(payload: &[u8]) -> Result<Medians<i32>, Refusal> {
+pub fn entropy(entropy: &[u8]) -> Result<Medians<i32>, Refusal> {
     let mut medians = [0; 6];
-    Refusal::outcome(ffi::entropy(payload, &mut medians))?;
+    Refusal::outcome(ffi::entropy(entropy, &mut medians))?;
     Ok(Medians::from_slots(medians))
 }
 

@@ -2,14 +2,7 @@
 use crate::slots::Slots;
 use crate::{Refusal, ffi};
 
-/// How many bytes of a sound file stand before its samples, of which each has 2.
-pub const WAVE_HEADER_BYTES: usize = 44;
-/// The most bytes of a sound file: those of [`MAX_FRAMES`](crate::MAX_FRAMES) frames.
-pub const MAX_WAVE_BYTES: usize = 524_332;
-/// The highest rate of a sound file, in frames a second; the lowest is 1.
-pub const MAX_RATE: u32 = 192_000;
-
-/// What an import tells.
+/// What an import reports.
 #[derive(Clone, Copy, Debug, PartialEq, Eq, Hash)]
 pub struct Wave {
     /// Frames a second.
@@ -19,13 +12,18 @@ pub struct Wave {
 }
 
 /// Writes samples, left then right, as a sound file into `out`, which has at least
-/// [`WAVE_HEADER_BYTES`] and 2 bytes a sample, and tells how many bytes were written. The bytes
-/// behind them keep their values. [`wave_import`] gives rate and samples back.
+/// [`WAVE_HEADER_BYTES`](crate::WAVE_HEADER_BYTES) and
+/// [`WAVE_BYTES_PER_SAMPLE`](crate::WAVE_BYTES_PER_SAMPLE) for each, and gives the number of bytes written.
+/// The bytes after them keep their values. [`wave_import`] gives rate and samples back.
+///
+/// # Errors
 ///
 /// Refuses [`Refusal::TooLarge`] for over [`MAX_ELEMENTS`](crate::MAX_ELEMENTS) samples,
 /// [`Refusal::ListLength`] for an odd number of them, [`Refusal::OutputTooShort`],
-/// [`Refusal::NotWave`] for a rate outside 1 to [`MAX_RATE`] and [`Refusal::SampleOutOfSpan`];
-/// `out` is then as it was.
+/// [`Refusal::NotWave`] for a rate outside [`MIN_RATE`](crate::MIN_RATE) to
+/// [`MAX_RATE`](crate::MAX_RATE) and [`Refusal::SampleOutOfSpan`], in this order; `out` is then as it was.
+///
+/// # Examples
 ///
 /// ```
 /// use wavpack_stereo::{Refusal, WAVE_HEADER_BYTES, wave_export};
@@ -43,11 +41,15 @@ pub fn wave_export(rate: u32, samples: &[i32], out: &mut [u8]) -> Result<usize, 
 }
 
 /// Reads the samples of a sound file, left then right, into `samples`, which has at least an
-/// element for each; the elements behind keep their values. Taken is what [`wave_export`] writes,
-/// whoever wrote it, and nothing else: no other header, chunk, length or rate.
+/// element for each; the elements after them keep their values. A file is accepted if it is what
+/// [`wave_export`] writes, whoever wrote it: no other header, chunk, length or rate.
 ///
-/// Refuses [`Refusal::TooLarge`] for over [`MAX_WAVE_BYTES`], [`Refusal::NotWave`] and
-/// [`Refusal::OutputTooShort`]; `samples` is then as it was.
+/// # Errors
+///
+/// Refuses [`Refusal::TooLarge`] for over [`MAX_WAVE_BYTES`](crate::MAX_WAVE_BYTES), [`Refusal::NotWave`]
+/// and [`Refusal::OutputTooShort`], in this order; `samples` is then as it was.
+///
+/// # Examples
 ///
 /// ```
 /// use wavpack_stereo::{Refusal, WAVE_HEADER_BYTES, Wave, wave_export, wave_import};

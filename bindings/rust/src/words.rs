@@ -50,26 +50,33 @@ pub enum Zone {
 
 impl WordState {
     /// The state before the first word, with the seed medians of both channels.
+    #[must_use]
     pub fn new(medians: Medians) -> WordState {
         WordState { medians, ..WordState::default() }
     }
 
     /// The state before the first word of a block with this entropy payload.
     ///
-    /// Refuses as [`read`] refuses a payload: [`Refusal::EntropyLength`],
+    /// # Errors
+    ///
+    /// Refuses an entropy payload as [`read`] does: [`Refusal::EntropyLength`],
     /// [`Refusal::LogWordOutOfReach`], [`Refusal::NotStereo`].
     pub fn from_entropy(entropy: &[u8]) -> Result<WordState, Refusal> {
-        // A reading of no frames reads no bit and tells the medians that it starts from.
+        // A reading of no frames reads no bit and reports the medians that it starts from.
         let reading = read(entropy, &[], 0, &mut [])?;
         Ok(WordState::new(reading.medians))
     }
 }
 
-/// Reads the word at the state's place and moves the state behind it.
+/// Reads the word at the state's place and moves the state past it.
+///
+/// # Errors
 ///
 /// Refuses [`Refusal::TooLarge`] for the payload, [`Refusal::InvalidChannel`],
 /// [`Refusal::Truncated`] or [`Refusal::EndOfStream`], with the state as it was: a controller that
 /// follows a recording tries again when more bytes are there.
+///
+/// # Examples
 ///
 /// ```
 /// use wavpack_stereo::{Refusal, WordState, Zone, word};

@@ -27,9 +27,10 @@ fn take_words(file: &mut &[u8], count: usize) -> Vec<i16> {
 
 fn take_pass(file: &mut &[u8]) -> Result<Pass, Refusal> {
     let (head, words) = (take(file, 4), take_words(file, 16));
-    let (told, seeds) = (term_byte(head[0]), usize::from(head[3]));
-    let seed = |from: usize| words[from..from + seeds].iter().copied().map(log_word).collect::<Result<Vec<_>, _>>();
-    Pass::new(told.term, told.delta, [head[1], head[2]].map(weight_byte), [&seed(0)?, &seed(8)?])
+    let (stored, seeds) = (term_byte(head[0]), usize::from(head[3]));
+    let seed =
+        |from: usize| words[from..from + seeds].iter().copied().map(log_word).collect::<Result<Vec<_>, _>>();
+    Pass::new(stored.term, stored.delta, [head[1], head[2]].map(weight_byte), [&seed(0)?, &seed(8)?])
 }
 
 fn take_block(file: &mut &[u8]) -> Result<Block, Refusal> {
@@ -111,8 +112,8 @@ fn zones_hold_their_words() -> Result<(), Refusal> {
         let mut state = WordState::from_entropy(&block.entropy)?;
         for _ in 0..2 * block.frames {
             let medians = state.medians[state.next_channel as usize];
-            let told = word(&block.payload, &mut state)?;
-            assert!(told.zone.map_or(told.sample == 0, |zone| holds(zone, medians, told.sample)));
+            let read = word(&block.payload, &mut state)?;
+            assert!(read.zone.map_or(read.sample == 0, |zone| holds(zone, medians, read.sample)));
         }
     }
     Ok(())

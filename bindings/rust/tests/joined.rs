@@ -38,7 +38,8 @@ struct Way {
     last_first: bool,
 }
 
-const WAYS: [Way; 2] = [Way { call: decorrelate, last_first: false }, Way { call: analyse, last_first: true }];
+const WAYS: [Way; 2] =
+    [Way { call: decorrelate, last_first: false }, Way { call: analyse, last_first: true }];
 
 /// The passes and the buffer that accepted calls leave.
 type Left = Result<(Vec<Pass>, Vec<i32>), Refusal>;

@@ -46,15 +46,17 @@ fn stated(samples: &[i32], threshold: u32) -> String {
 /// be a click more.
 fn loud_edges(samples: &[i32], threshold: u32) -> usize {
     let edges = (2 * 1_024..samples.len()).step_by(2 * 1_024).flat_map(|first| [first, first + 1]);
-    edges.filter(|&place| is_loud(samples[place - 2], threshold) && is_loud(samples[place], threshold)).count()
+    edges
+        .filter(|&place| is_loud(samples[place - 2], threshold) && is_loud(samples[place], threshold))
+        .count()
 }
 
-/// What `morning_page` writes into storage with `room` bytes behind the page, which keep their values.
+/// What `morning_page` writes into storage with `room` bytes after the page, which keep their values.
 fn written(samples: &[i32], threshold: u32, room: usize) -> String {
     let mut storage = vec![77; page_bytes(samples.len() / 2) + room];
     let bytes = morning_page(samples, threshold, &mut storage).expect("a page");
-    let behind = storage.split_off(bytes);
-    assert_eq!(behind, vec![77; room], "{} samples over {threshold}", samples.len());
+    let after = storage.split_off(bytes);
+    assert_eq!(after, vec![77; room], "{} samples over {threshold}", samples.len());
     String::from_utf8(storage).expect("a page of text")
 }
 
@@ -81,7 +83,12 @@ impl Tally {
         let columns = columns(&page);
         for channel in [0, 1] {
             let summed: usize = columns.iter().map(|clicks| clicks[channel]).sum();
-            assert_eq!(summed, clicks(samples, channel, threshold), "{} samples over {threshold}", samples.len());
+            assert_eq!(
+                summed,
+                clicks(samples, channel, threshold),
+                "{} samples over {threshold}",
+                samples.len()
+            );
             self.clicks[channel] += summed;
         }
         self.pages += 1;
@@ -95,7 +102,8 @@ impl Tally {
 fn a_page_by_hand() {
     assert_eq!((LINE_BYTES, LINE_FRAMES), (45, 1_024));
     let mut samples = vec![0; 2 * 1_026];
-    let sounds = [(0, 5, -3), (1, -4, 0), (2, 3, 0), (3, i32::MIN, 0), (1_023, 9, 3), (1_024, -9, 4), (1_025, 4, -1)];
+    let sounds =
+        [(0, 5, -3), (1, -4, 0), (2, 3, 0), (3, i32::MIN, 0), (1_023, 9, 3), (1_024, -9, 4), (1_025, 4, -1)];
     for (frame, left, right) in sounds {
         samples[2 * frame..][..2].copy_from_slice(&[left, right]);
     }
@@ -139,7 +147,7 @@ fn loud_and_quiet_around_an_edge() {
             for (line, channel) in [(0, 0), (0, 1), (1, 0), (1, 1)] {
                 by_line[line][channel] += columns[line][channel];
             }
-            // Loud in the frames 1,023 and 1,024, quiet before and behind, on the left.
+            // Loud in the frames 1,023 and 1,024, quiet before and after, on the left.
             if pattern & 0b0101_0101 == 0b0001_0100 {
                 assert_eq!((columns[0][0], columns[1][0]), (1, 0));
                 one_click += 1;
@@ -202,7 +210,9 @@ fn refusals() {
             assert_eq!(refused(samples, room), Refusal::ListLength);
         }
     }
-    for (samples, bytes) in [(2, 45), (2_048, 45), (2_050, 90), (MAX_ELEMENTS - 2_048, 5_715), (MAX_ELEMENTS, whole)] {
+    for (samples, bytes) in
+        [(2, 45), (2_048, 45), (2_050, 90), (MAX_ELEMENTS - 2_048, 5_715), (MAX_ELEMENTS, whole)]
+    {
         for room in [0, 1, bytes / 2, bytes - 1] {
             assert_eq!(refused(samples, room), Refusal::OutputTooShort);
         }

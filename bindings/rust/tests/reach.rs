@@ -1,4 +1,4 @@
-//! Log words past the format's reach, of 8192 or more or of -8192 or less: refused exactly there, behind
+//! Log words past the format's reach, of 8192 or more or of -8192 or less: refused exactly there, after
 //! 1 and before 2, with the lent lists as they were.
 mod marks;
 
@@ -104,7 +104,10 @@ fn the_largest_medians_come_back() -> Result<(), Refusal> {
     let (mut out, mut samples) = ([77; 2 * BYTES_PER_FRAME], [77; 4]);
     let packed = pack(&residuals, &entropy, 2, &mut out)?;
     let reading = read(&entropy, &out[..packed.bytes()], 2, &mut samples)?;
-    assert_eq!((samples, reading.bits_used, reading.medians), (residuals, packed.bits_written, packed.medians));
+    assert_eq!(
+        (samples, reading.bits_used, reading.medians),
+        (residuals, packed.bits_written, packed.medians)
+    );
     Ok(())
 }
 
@@ -120,7 +123,7 @@ fn readings_in_order() {
     assert_eq!(unread(&worn[..6], &[], 1, 2), Refusal::LogWordOutOfReach);
     assert_eq!(unread(&negative, &[], 1, 2), Refusal::NotStereo);
     assert_eq!(unread(&negative[..6], &[], 1, 2), Refusal::NotStereo);
-    // Only behind these is a word read, and then the medians are told.
+    // Only after these is a word read, and then the medians are reported.
     let error = read(&payload(0, 8191, 8191), &[], 1, &mut [77; 2]).unwrap_err();
     assert_eq!((error.refusal, error.reading.medians), (Refusal::Truncated, [[LARGEST as u32; 3]; 2]));
 }

@@ -3,10 +3,11 @@
 mod marks;
 
 use marks::{unpacked, unread};
+use std::error::Error;
 use wavpack_stereo::{
-    Delta, Int32Info, MAX_ELEMENTS, MAX_FRAMES, MAX_PASSES, MAX_PAYLOAD_BYTES, MAX_RATE, MAX_WAVE_BYTES, Pass, Reading,
-    Refusal, WAVE_HEADER_BYTES, Weight, WordState, analyse, deconstruct_int32, decorrelate, entropy, pack, read,
-    reassemble_int32, wave_export, wave_import, word,
+    Delta, Int32Info, MAX_ELEMENTS, MAX_FRAMES, MAX_PASSES, MAX_PAYLOAD_BYTES, MAX_RATE, MAX_WAVE_BYTES,
+    Pass, Reading, Refusal, WAVE_HEADER_BYTES, Weight, WordState, analyse, deconstruct_int32, decorrelate,
+    entropy, pack, read, reassemble_int32, wave_export, wave_import, word,
 };
 
 const ONES: [u8; 12] = [0, 1, 0, 1, 0, 1, 0, 1, 0, 1, 0, 1];
@@ -54,8 +55,9 @@ fn a_word_ends_a_reading() {
     assert_eq!(error.reading, Reading { medians: [[1; 3]; 2], ..Reading::default() });
     assert_eq!(samples, [77; 2]);
     assert_eq!(Refusal::from(error), Refusal::Truncated);
-    let said = "a bit past the end is needed, or a count or a prefix value is over its cap; 0 samples were written";
-    assert_eq!(error.to_string(), said);
+    let why = error.source().expect("the refusal").to_string();
+    assert_eq!(error.to_string(), "the reading ended after 0 samples");
+    assert_eq!(why, "a bit past the end is needed, or a count or a prefix value is over its cap");
 }
 
 #[test]

@@ -29,7 +29,7 @@ fn run(program: &str, words: &[&str]) -> String {
 }
 
 /// The bytes of a file in the folder, which is then gone.
-fn taken(name: &str) -> Vec<u8> {
+fn written(name: &str) -> Vec<u8> {
     let name = format!("{FOLDER}/{name}");
     let bytes = fs::read(&name).unwrap();
     fs::remove_file(&name).unwrap();
@@ -44,22 +44,28 @@ fn sound(frames: usize) -> Vec<i32> {
 /// Both programs read our file: its form, rate and frames, and each sample.
 fn others_read(rate: u32, frames: usize, file: &[u8]) {
     fs::write(format!("{FOLDER}/ours.wav"), file).unwrap();
-    assert_eq!(run("python3", &["-c", PYTHON_READS, "ours.wav", "python.raw"]), format!("2 2 {rate} {frames}"));
-    assert_eq!(taken("python.raw"), file[WAVE_HEADER_BYTES..]);
-    let told = ["-t", "-c", "-b", "-r", "-s", "-e"].map(|field| run("soxi", &[field, "ours.wav"]));
-    assert_eq!(told.join(" "), format!("wav 2 16 {rate} {frames} Signed Integer PCM"));
+    assert_eq!(
+        run("python3", &["-c", PYTHON_READS, "ours.wav", "python.raw"]),
+        format!("2 2 {rate} {frames}")
+    );
+    assert_eq!(written("python.raw"), file[WAVE_HEADER_BYTES..]);
+    let shown = ["-t", "-c", "-b", "-r", "-s", "-e"].map(|field| run("soxi", &[field, "ours.wav"]));
+    assert_eq!(shown.join(" "), format!("wav 2 16 {rate} {frames} Signed Integer PCM"));
     run("sox", &["ours.wav", "-t", "raw", "sox.raw"]);
-    assert_eq!(taken("sox.raw"), file[WAVE_HEADER_BYTES..]);
+    assert_eq!(written("sox.raw"), file[WAVE_HEADER_BYTES..]);
 }
 
-/// Both programs write the same samples: to the bytes of our file, which import takes.
+/// Both programs write the same samples: to the bytes of our file, which import accepts.
 fn others_write(rate: u32, samples: &[i32], file: &[u8]) {
     fs::write(format!("{FOLDER}/ours.raw"), &file[WAVE_HEADER_BYTES..]).unwrap();
-    let told = rate.to_string();
-    run("python3", &["-c", PYTHON_WRITES, "ours.raw", "python.wav", &told]);
-    run("sox", &["-t", "raw", "-r", &told, "-e", "signed", "-b", "16", "-c", "2", "ours.raw", "sox.wav"]);
+    let rate_word = rate.to_string();
+    run("python3", &["-c", PYTHON_WRITES, "ours.raw", "python.wav", &rate_word]);
+    run(
+        "sox",
+        &["-t", "raw", "-r", &rate_word, "-e", "signed", "-b", "16", "-c", "2", "ours.raw", "sox.wav"],
+    );
     for name in ["python.wav", "sox.wav"] {
-        let theirs = taken(name);
+        let theirs = written(name);
         let mut back = vec![0; samples.len()];
         assert_eq!(wave_import(&theirs, &mut back), Ok(Wave { rate, written: samples.len() }), "{name}");
         assert!(back == samples && theirs == file, "{name}");

@@ -1,14 +1,14 @@
-//! Imports the sound files that other programs wrote (`data/wave`, whose README tells of each), and
+//! Imports the sound files that other programs wrote (`data/wave`, whose README describes each), and
 //! exports what they hold to the same bytes.
 use std::fs;
 use wavpack_stereo::{MAX_ELEMENTS, MAX_RATE, MAX_WAVE_BYTES, Refusal, Wave, wave_export, wave_import};
 
 const FOLDER: &str = concat!(env!("CARGO_MANIFEST_DIR"), "/tests/data/wave");
 
-/// What the files that are taken hold, from the first sample on.
+/// What the files that are accepted hold, from the first sample on.
 const SAMPLES: [i32; 8] = [3, -1, 256, -256, 32_767, -32_768, 0, 12_345];
 
-const fn taken(rate: u32, written: usize) -> Result<Wave, Refusal> {
+const fn accepted(rate: u32, written: usize) -> Result<Wave, Refusal> {
     Ok(Wave { rate, written })
 }
 
@@ -22,10 +22,10 @@ const FILES: [(&str, Result<Wave, Refusal>); 27] = [
     ("cut.wav", REFUSED),
     ("data_length.wav", REFUSED),
     ("eight_bits.wav", REFUSED),
-    ("empty.wav", taken(44_100, 0)),
+    ("empty.wav", accepted(44_100, 0)),
     ("extensible.wav", REFUSED),
     ("extensible_24_bits.wav", REFUSED),
-    ("fastest.wav", taken(192_000, 8)),
+    ("fastest.wav", accepted(192_000, 8)),
     ("floats.wav", REFUSED),
     ("frame_missing.wav", REFUSED),
     ("half_frame.wav", REFUSED),
@@ -33,13 +33,13 @@ const FILES: [(&str, Result<Wave, Refusal>); 27] = [
     ("list_behind.wav", REFUSED),
     ("mono.wav", REFUSED),
     ("piped.wav", REFUSED),
-    ("python.wav", taken(44_100, 8)),
+    ("python.wav", accepted(44_100, 8)),
     ("rate_0.wav", REFUSED),
     ("rate_192001.wav", REFUSED),
     ("riff_length.wav", REFUSED),
     ("rifx.wav", REFUSED),
-    ("slowest.wav", taken(1, 2)),
-    ("sox.wav", taken(48_000, 8)),
+    ("slowest.wav", accepted(1, 2)),
+    ("sox.wav", accepted(48_000, 8)),
     ("three_channels.wav", REFUSED),
     ("twenty_four_bits.wav", REFUSED),
     ("u_law.wav", REFUSED),
@@ -60,9 +60,9 @@ fn stored_files() {
         let file = fs::read(format!("{FOLDER}/{name}")).expect(name);
         let mut samples = [77; 9];
         assert_eq!(wave_import(&file, &mut samples), answer, "{name}");
-        let (imported, behind) = samples.split_at(answer.map_or(0, |wave| wave.written));
+        let (imported, after) = samples.split_at(answer.map_or(0, |wave| wave.written));
         assert_eq!(imported, &SAMPLES[..imported.len()], "{name}");
-        assert!(behind.iter().all(|&sample| sample == 77), "{name}");
+        assert!(after.iter().all(|&sample| sample == 77), "{name}");
         if let Ok(wave) = answer {
             let mut again = vec![77; file.len() + 1];
             assert_eq!(wave_export(wave.rate, imported, &mut again), Ok(file.len()), "{name}");

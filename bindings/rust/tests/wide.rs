@@ -10,7 +10,8 @@ use std::collections::HashSet;
 use wavpack_stereo::{Int32Info, MAX_ELEMENTS, Refusal, deconstruct_int32, reassemble_int32};
 use wide_rules::{MARK, Tally, bytes_of, completed, fields, image, kinds, narrowed};
 
-const ENDS: [i32; 11] = [0, 1, -1, 2, -2, 0x5555_5555, i32::MAX - 1, i32::MAX, -i32::MAX, i32::MIN, i32::MIN + 2];
+const ENDS: [i32; 11] =
+    [0, 1, -1, 2, -2, 0x5555_5555, i32::MAX - 1, i32::MAX, -i32::MAX, i32::MIN, i32::MIN + 2];
 
 impl Random {
     fn bytes(&mut self, length: usize) -> Vec<u8> {
@@ -155,7 +156,10 @@ fn one_bit_in_one_sample_is_refused() {
                 if bit < counting {
                     assert_eq!(not_narrowed(info, &wide, 4 * length), Refusal::NotReinsertable);
                 } else {
-                    assert!(deconstruct_int32(info, &mut wide, &mut vec![MARK; 4 * length]).is_ok(), "{info:?}");
+                    assert!(
+                        deconstruct_int32(info, &mut wide, &mut vec![MARK; 4 * length]).is_ok(),
+                        "{info:?}"
+                    );
                 }
             }
         }
@@ -186,7 +190,9 @@ fn literal_storage_around_its_limits() {
 fn every_set_of_faults_has_its_first_answered() {
     let first = |set: usize, refusals: &[Refusal]| refusals[set.trailing_zeros() as usize];
     let (long, most) = (vec![1; MAX_ELEMENTS + 1], 4 * MAX_ELEMENTS);
-    for (field, value) in (0..4).flat_map(|field| [32, 33, 255, 256, 1 << 31, u32::MAX].map(|value| (field, value))) {
+    for (field, value) in
+        (0..4).flat_map(|field| [32, 33, 255, 256, 1 << 31, u32::MAX].map(|value| (field, value)))
+    {
         for set in 1..16 {
             // The value 1 ends in no two 0s.
             let mut named = [7, if set & 8 == 0 { 0 } else { 2 }, 0, 0];
@@ -197,7 +203,8 @@ fn every_set_of_faults_has_its_first_answered() {
             let samples = &long[..if set & 2 == 0 { 3 } else { long.len() }];
             let (bytes, room) = if set & 4 == 0 { (most, most + 4) } else { (2, 4 * samples.len() - 1) };
             let info = fields(sent_bits, redundancy);
-            let order = [Refusal::FieldAbove31, Refusal::TooLarge, Refusal::OutputTooShort, Refusal::NotReinsertable];
+            let order =
+                [Refusal::FieldAbove31, Refusal::TooLarge, Refusal::OutputTooShort, Refusal::NotReinsertable];
             assert_eq!(not_narrowed(info, samples, room), first(set, &order));
             if set & 7 != 0 {
                 let order = [Refusal::FieldAbove31, Refusal::TooLarge, Refusal::Truncated];

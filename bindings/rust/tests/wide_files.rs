@@ -1,7 +1,9 @@
-//! Takes the large integers of real files (`data`, whose README tells of each) apart again, to the
+//! Takes the large integers of real files (`data`, whose README describes each) apart again, to the
 //! literal bits and the words that the files hold, and flips every bit that their low bits come from.
 use std::collections::BTreeMap;
-use wavpack_stereo::{BYTES_PER_FRAME, Int32Info, Refusal, analyse, deconstruct_int32, pack, reassemble_int32};
+use wavpack_stereo::{
+    BYTES_PER_FRAME, Int32Info, Refusal, analyse, bytes_for_bits, deconstruct_int32, pack, reassemble_int32,
+};
 
 #[path = "../examples/wv_block/mod.rs"]
 mod wv_block;
@@ -36,7 +38,7 @@ fn good<T>(result: Result<T, Why>) -> T {
 
 /// Calls for every block with large integers, with its bytes, and sees that no frame is missing.
 fn each_block(mut call: impl FnMut(&[u8], &Block<'_>, &Parts<'_>, Int32Info)) {
-    for (name, told) in FILES {
+    for (name, expected) in FILES {
         let file = std::fs::read(format!("{}/tests/data/{name}", env!("CARGO_MANIFEST_DIR"))).expect(name);
         let (mut rest, mut found, mut left) = (&file[..], Vec::new(), None);
         while !rest.is_empty() {
@@ -51,21 +53,21 @@ fn each_block(mut call: impl FnMut(&[u8], &Block<'_>, &Parts<'_>, Int32Info)) {
                 call(&from[..from.len() - rest.len()], &block, &parts, info);
             }
         }
-        assert_eq!((&found[..], left), (told, Some(0)), "{name}");
+        assert_eq!((&found[..], left), (expected, Some(0)), "{name}");
     }
 }
 
 /// Holds bits that were written to those of a file, which fills its last word with ones.
-fn assert_same_bits(written: &[u8], bits: usize, stored: &[u8]) {
-    let whole = bits / 8;
+fn assert_same_bits(written: &[u8], bits: u32, stored: &[u8]) {
+    let whole = (bits / 8) as usize;
     assert_eq!(written[..whole], stored[..whole]);
     if bits % 8 > 0 {
         assert_eq!(written[whole], stored[whole] & ((1 << (bits % 8)) - 1));
     }
-    assert_eq!(stored.len(), bits.div_ceil(16) * 2);
+    assert_eq!(stored.len(), bytes_for_bits(bits).next_multiple_of(2));
 }
 
-/// Whether a sample is a shorter one above any literal bits and the low bits that the fields tell.
+/// Whether a sample is a shorter one above any literal bits and the low bits that the fields give.
 fn made_of(sample: i32, short: i32, info: Int32Info) -> bool {
     let count = info.zeros + info.ones + info.dups;
     let (above, mask) = (sample >> count, ((1_i64 << count) - 1) as i32);
@@ -86,11 +88,11 @@ fn low_bits_come_out_as_they_are_stored() {
     each_block(|_, block, parts, info| {
         let (short, whole) = (good(decode_words(block, parts)), good(decode(block)));
         let (mut samples, mut literal) = (whole.clone(), vec![0xa5; 4 * whole.len()]);
-        let bits = whole.len() * info.sent_bits as usize;
+        let bits = whole.len() as u32 * info.sent_bits;
         assert_eq!(deconstruct_int32(info, &mut samples, &mut literal), Ok(bits));
         assert_eq!(samples, short);
         assert_same_bits(&literal, bits, parts.low_bits.get(4..).unwrap_or(&[]));
-        assert!(literal[bits.div_ceil(8)..].iter().all(|&byte| byte == 0xa5));
+        assert!(literal[bytes_for_bits(bits)..].iter().all(|&byte| byte == 0xa5));
         assert_eq!(reassemble_int32(info, &mut samples, &literal), Ok(bits));
         assert_eq!(samples, whole);
     });
@@ -100,7 +102,8 @@ fn low_bits_come_out_as_they_are_stored() {
 fn samples_pack_to_the_words_that_are_stored() {
     each_block(|_, block, parts, info| {
         let mut samples = good(decode(block));
-        let (mut literal, mut out) = (vec![0; 4 * samples.len()], vec![0; BYTES_PER_FRAME * samples.len() / 2]);
+        let (mut literal, mut out) =
+            (vec![0; 4 * samples.len()], vec![0; BYTES_PER_FRAME * samples.len() / 2]);
         deconstruct_int32(info, &mut samples, &mut literal).expect("samples with these low bits");
         if block.flags & JOINT != 0 {
             for frame in samples.chunks_exact_mut(2) {
@@ -109,8 +112,9 @@ fn samples_pack_to_the_words_that_are_stored() {
             }
         }
         analyse(&mut good(passes(parts)), &mut samples).expect("valid passes");
-        let packed = pack(&samples, parts.entropy, samples.len() / 2, &mut out).expect("residuals in their span");
-        assert_same_bits(&out, packed.bits_written as usize, parts.payload);
+        let packed =
+            pack(&samples, parts.entropy, samples.len() / 2, &mut out).expect("residuals in their span");
+        assert_same_bits(&out, packed.bits_written, parts.payload);
     });
 }
 
@@ -118,7 +122,7 @@ fn samples_pack_to_the_words_that_are_stored() {
 fn too_few_literal_bits_are_refused() {
     each_block(|_, block, parts, info| {
         let short = good(decode_words(block, parts));
-        let bytes = (short.len() * info.sent_bits as usize).div_ceil(8);
+        let bytes = bytes_for_bits(short.len() as u32 * info.sent_bits);
         for count in 0..bytes {
             let mut samples = short.clone();
             let literal = &parts.low_bits[4..4 + count];
@@ -151,7 +155,7 @@ fn found_by(why: Why) -> String {
     match why {
         Why::Holds(what) => what.to_string(),
         Why::Refused(refusal) => format!("refusal {}", refusal.number()),
-        Why::Checksum { of, .. } => of.to_string(),
+        Why::Damaged { what, .. } => what.to_string(),
     }
 }
 
@@ -170,16 +174,17 @@ fn every_flipped_bit_is_found() {
             }
         }
     });
-    let found: Vec<(&str, &str, usize)> = found.iter().map(|((name, by), count)| (*name, &by[..], *count)).collect();
-    let told = [
-        // Fields of blocks without literal bits, and fields behind the first redundancy that counts.
+    let found: Vec<(&str, &str, usize)> =
+        found.iter().map(|((name, by), count)| (*name, &by[..], *count)).collect();
+    let expected = [
+        // Fields of blocks without literal bits, and fields after the first redundancy that counts.
         ("fields", "checksum of the bytes", 115),
         ("fields", "extension checksum", 89),
         ("fields", "refusal 15", 156),
         ("fields", "refusal 3", 56),
-        // Bits behind the literal ones.
+        // Bits after the literal ones.
         ("low bits", "checksum of the bytes", 16),
         ("low bits", "extension checksum", 7_216),
     ];
-    assert_eq!(found, told);
+    assert_eq!(found, expected);
 }

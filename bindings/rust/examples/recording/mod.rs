@@ -1,4 +1,4 @@
-//! A recording as the program `wvpair` takes it, for the examples that decode one.
+//! A recording as the program `wvpair` reads it, for the examples that decode one.
 use std::error::Error;
 use wavpack_stereo::{Pass, Refusal, decorrelate, read};
 

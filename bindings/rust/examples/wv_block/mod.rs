@@ -1,12 +1,12 @@
-//! A block of a `.wv` file taken apart, into what the library takes: steps 1 to 4 of
-//! docs/WV_FILES.md. `samples` has the steps behind them.
+//! A block of a `.wv` file, by the steps of docs/WV_FILES.md: the steps 1 to 4 find its parts and make its
+//! passes. `samples` has the steps 5 to 8.
 use std::fmt;
 use wavpack_stereo::{MAX_FRAMES, MAX_PASSES, Pass, Refusal, log_word, term_byte, weight_byte};
 
 pub mod samples;
 
-/// The flags of blocks that are not taken, and what such a block holds.
-const NOT_TAKEN: [(u32, &str); 6] = [
+/// The flags of blocks that are not decoded, and what such a block holds.
+const NOT_DECODED: [(u32, &str); 6] = [
     (1 << 2, "mono"),
     (1 << 3, "hybrid"),
     (1 << 7, "floats"),
@@ -20,13 +20,13 @@ const HEADER: usize = 32;
 
 /// Why a block is not decoded.
 pub enum Why {
-    /// It holds something that is not taken, or it is damaged.
+    /// It holds something that is not decoded, or it is damaged.
     Holds(&'static str),
     Refused(Refusal),
-    Checksum {
-        of: &'static str,
+    Damaged {
+        what: &'static str,
         found: u32,
-        told: u32,
+        stored: u32,
     },
 }
 
@@ -34,8 +34,10 @@ impl fmt::Display for Why {
     fn fmt(&self, f: &mut fmt::Formatter<'_>) -> fmt::Result {
         match self {
             Why::Holds(what) => write!(f, "not decoded: {what}"),
-            Why::Refused(refusal) => write!(f, "not decoded: refusal {}", refusal.number()),
-            Why::Checksum { of, found, told } => write!(f, "damaged: the {of} is {found:08x}, not {told:08x}"),
+            Why::Refused(refusal) => write!(f, "not decoded: refusal {}, {refusal}", refusal.number()),
+            Why::Damaged { what, found, stored } => {
+                write!(f, "damaged: the {what} is {found:08x}, not {stored:08x}")
+            }
         }
     }
 }
@@ -53,7 +55,7 @@ fn take<'a>(bytes: &mut &'a [u8], count: usize) -> Option<&'a [u8]> {
     Some(taken)
 }
 
-/// What a header tells of its block, and all bytes of the block: none where the file ends within it.
+/// What a header says of its block, and all bytes of the block: none where it is cut short.
 pub struct Block<'a> {
     version: u32,
     pub total: u32,
@@ -85,7 +87,7 @@ pub fn take_block<'a>(file: &mut &'a [u8]) -> Option<Block<'a>> {
 
 /// Refuses what the library does not decode: it would read other samples from it.
 fn test(block: &Block<'_>) -> Result<(), Why> {
-    match NOT_TAKEN.into_iter().find(|(bits, _)| block.flags & bits != 0) {
+    match NOT_DECODED.into_iter().find(|(bits, _)| block.flags & bits != 0) {
         Some((_, what)) => Err(Why::Holds(what)),
         None if block.flags & ALONE != ALONE => Err(Why::Holds("several channels")),
         None if !(0x402..=0x410).contains(&block.version) => Err(Why::Holds("another version")),
@@ -94,7 +96,7 @@ fn test(block: &Block<'_>) -> Result<(), Why> {
     }
 }
 
-/// The sub-blocks that decoding takes; empty where the block has none.
+/// The sub-blocks that decoding needs; empty where the block has none.
 #[derive(Default)]
 pub struct Parts<'a> {
     terms: &'a [u8],
@@ -102,10 +104,10 @@ pub struct Parts<'a> {
     seeds: &'a [u8],
     pub entropy: &'a [u8],
     pub payload: &'a [u8],
-    /// What large integers are made of: four fields, and low bits behind a checksum.
+    /// What large integers are made of: four fields, and low bits after a checksum.
     pub fields: &'a [u8],
     pub low_bits: &'a [u8],
-    /// The checksum of the block's bytes, and those that it is of.
+    /// The checksum of the block's bytes, and the bytes that it covers.
     bytes_sum: Option<(&'a [u8], &'a [u8])>,
 }
 
@@ -119,9 +121,9 @@ fn take_part<'a>(body: &mut &'a [u8]) -> Option<(u8, &'a [u8])> {
     Some((id & 0x3f, &data[..data.len().checked_sub(padding)?]))
 }
 
-/// The sub-blocks of a block that is taken.
+/// The sub-blocks of a block that is decoded.
 pub fn parts<'a>(block: &Block<'a>) -> Result<Parts<'a>, Why> {
-    let bytes = block.bytes.ok_or(Why::Holds("the end of the file"))?;
+    let bytes = block.bytes.ok_or(Why::Holds("cut short"))?;
     test(block)?;
     let (mut body, mut parts) = (&bytes[HEADER..], Parts::default());
     while !body.is_empty() {
@@ -171,11 +173,16 @@ pub fn passes(parts: &Parts<'_>) -> Result<Vec<Pass>, Why> {
     }
     let (mut weights, mut seeds, mut passes) = (parts.weights, parts.seeds, Vec::new());
     for &byte in parts.terms {
-        let told = term_byte(byte);
+        let stored = term_byte(byte);
         let pair = if weights.is_empty() { Some(&[0, 0][..]) } else { take(&mut weights, 2) };
         let pair = pair.ok_or(Why::Holds("half a pair of weights"))?;
-        let [seed_a, seed_b] = take_seeds(told.term, &mut seeds)?;
-        passes.push(Pass::new(told.term, told.delta, [pair[0], pair[1]].map(weight_byte), [&seed_a, &seed_b])?);
+        let [seed_a, seed_b] = take_seeds(stored.term, &mut seeds)?;
+        passes.push(Pass::new(
+            stored.term,
+            stored.delta,
+            [pair[0], pair[1]].map(weight_byte),
+            [&seed_a, &seed_b],
+        )?);
     }
     passes.reverse();
     Ok(passes)

@@ -17,8 +17,8 @@ pub fn decode(block: &Block<'_>) -> Result<Vec<i32>, Why> {
     Ok(samples)
 }
 
-fn compare(of: &'static str, found: u32, told: u32) -> Result<(), Why> {
-    if found == told { Ok(()) } else { Err(Why::Checksum { of, found, told }) }
+fn compare(what: &'static str, found: u32, stored: u32) -> Result<(), Why> {
+    if found == stored { Ok(()) } else { Err(Why::Damaged { what, found, stored }) }
 }
 
 /// The samples as words and passes give them, held to the header's checksum: large integers are
@@ -56,26 +56,28 @@ pub fn fields(block: &Block<'_>, parts: &Parts<'_>) -> Result<Option<Int32Info>,
 /// Puts the low bits of large integers back, and holds the samples to the extension checksum, which
 /// stands before the literal bits.
 pub fn put_low_bits(info: Int32Info, low_bits: &[u8], samples: &mut [i32]) -> Result<(), Why> {
-    let (told, literal) = match low_bits.split_first_chunk() {
-        Some((told, literal)) => (Some(u32::from_le_bytes(*told)), literal),
+    let (stored, literal) = match low_bits.split_first_chunk() {
+        Some((stored, literal)) => (Some(u32::from_le_bytes(*stored)), literal),
         None if low_bits.is_empty() => (None, low_bits),
         None => return Err(Why::Holds("a part of a checksum")),
     };
     reassemble_int32(info, samples, literal)?;
     let halves = samples.iter().map(|&sample| [sample as u32 & 0xffff, sample as u32 >> 16]);
     let found = halves.fold(u32::MAX, |sum, [low, high]| sum.wrapping_mul(9).wrapping_add(3 * low + high));
-    told.map_or(Ok(()), |told| compare("extension checksum", found, told))
+    stored.map_or(Ok(()), |stored| compare("extension checksum", found, stored))
 }
 
 /// Holds the bytes of a block to their checksum, where they have one: the only one that finds
 /// another field of large integers without literal bits.
 fn test_bytes(parts: &Parts<'_>) -> Result<(), Why> {
-    let Some((told, bytes)) = parts.bytes_sum else { return Ok(()) };
+    let Some((stored, bytes)) = parts.bytes_sum else { return Ok(()) };
     let words = bytes.chunks_exact(2).map(|word| u32::from(u16::from_le_bytes([word[0], word[1]])));
     let found = words.fold(u32::MAX, |sum, word| sum.wrapping_mul(3).wrapping_add(word));
-    match *told {
+    match *stored {
         [a, b, c, d] => compare("checksum of the bytes", found, u32::from_le_bytes([a, b, c, d])),
-        [a, b] => compare("checksum of the bytes", (found ^ found >> 16) & 0xffff, u32::from_le_bytes([a, b, 0, 0])),
+        [a, b] => {
+            compare("checksum of the bytes", (found ^ found >> 16) & 0xffff, u32::from_le_bytes([a, b, 0, 0]))
+        }
         _ => Err(Why::Holds("a part of a checksum")),
     }
 }

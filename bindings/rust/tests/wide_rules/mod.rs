@@ -1,6 +1,8 @@
 //! The rules for recordings wider than the words, stated plainly (rows Q6.1 to Q6.5 of
 //! docs/PROVED.md), and both calls held to them.
-use wavpack_stereo::{Int32Info, LITERAL_BYTES_PER_SAMPLE, deconstruct_int32, reassemble_int32};
+use wavpack_stereo::{
+    Int32Info, LITERAL_BYTES_PER_SAMPLE, bytes_for_bits, deconstruct_int32, reassemble_int32,
+};
 
 /// What lent storage holds before a call.
 pub const MARK: u8 = 77;
@@ -16,7 +18,7 @@ pub fn kinds(count: u32) -> [[u32; 3]; 3] {
 
 /// How many bytes hold the literal bits.
 pub fn bytes_of(info: Int32Info, samples: usize) -> usize {
-    (samples * info.sent_bits as usize).div_ceil(8)
+    bytes_for_bits(samples as u32 * info.sent_bits)
 }
 
 /// A value with `count` equal bits below it, kept to 32 bits.
@@ -69,10 +71,10 @@ pub struct Tally {
 
 impl Tally {
     /// Holds both calls to the rules. What was completed is made narrow, into storage with `room` bytes
-    /// more, and completed again, whatever stands behind its bits (Q6.5).
+    /// more, and completed again, whatever stands after its bits (Q6.5).
     pub fn compare(&mut self, info: Int32Info, narrow: &[i32], literal: &[u8], room: usize) {
         let what = format!("{info:?}, {} samples from {:?}", narrow.len(), narrow.first());
-        let bits = narrow.len() * info.sent_bits as usize;
+        let bits = narrow.len() as u32 * info.sent_bits;
         let mut samples = narrow.to_vec();
         assert_eq!(reassemble_int32(info, &mut samples, literal), Ok(bits), "{what}");
         let wide = completed(info, narrow, literal);
@@ -81,19 +83,19 @@ impl Tally {
         let mut storage = vec![MARK; LITERAL_BYTES_PER_SAMPLE * wide.len() + room];
         assert_eq!(deconstruct_int32(info, &mut samples, &mut storage), Ok(bits), "{what}");
         let (stated, bytes) = narrowed(info, &wide);
-        let (written, behind) = storage.split_at_mut(bytes.len());
+        let (written, after) = storage.split_at_mut(bytes.len());
         assert!(samples == stated && written == bytes, "made narrow: {what}");
-        assert!(behind.iter().all(|&byte| byte == MARK), "behind the bits: {what}");
+        assert!(after.iter().all(|&byte| byte == MARK), "after the bits: {what}");
 
-        behind.iter_mut().for_each(|byte| *byte = !*byte);
+        after.iter_mut().for_each(|byte| *byte = !*byte);
         if bits % 8 != 0 {
-            written[bits / 8] |= 0xff << (bits % 8);
+            written[(bits / 8) as usize] |= 0xff << (bits % 8);
         }
         assert_eq!(reassemble_int32(info, &mut samples, &storage), Ok(bits), "{what}");
         assert!(samples == wide, "completed again: {what}");
         self.recordings += 1;
         self.samples += wide.len();
-        self.bits += bits;
+        self.bits += bits as usize;
         self.lost += usize::from(stated != narrow);
     }
 }
