@@ -1,7 +1,7 @@
 #!/bin/sh
 # Compiles the library with address checks of its own, into target/sanitized/libwavpack_stereo.a: every read
-# and write that it makes is then checked, in lent lists and on its stack. The archive that is linked otherwise
-# stays as it is.
+# and write that it makes is then checked, in lent lists and on its stack. The archive that is linked
+# otherwise stays as it is.
 #
 # The kit compiles a library from one LLVM module. A kit of links, in which only clang is another, marks the
 # functions of that module for checking before it compiles them.
@@ -32,7 +32,8 @@ for word; do
     *.bc)
         "$kit/on/$machine/toolchain/bin/clang" -x ir -S -emit-llvm -Xclang -disable-llvm-passes \
             "\$word" -o plain.ll
-        sed 's/^\\(attributes #[0-9]* = {\\)\\(.*"probe-stack"\\)/\\1 sanitize_address\\2/' plain.ll >checked.ll
+        sed 's/^\\(attributes #[0-9]* = {\\)\\(.*"probe-stack"\\)/\\1 sanitize_address\\2/' \
+            plain.ll >checked.ll
         word=checked.ll
         ;;
     esac

@@ -33,7 +33,7 @@ static void log_words(void)
         int32_t value[2] = {77, 77};
         expect("wv_log_word", wv_log_word(words[i], value, 1), 0);
         expect("the value of a log word", value[0], values[i]);
-        expect("the number behind it", value[1], 77);
+        expect("the number after it", value[1], 77);
     }
     int32_t none = 77;
     expect("wv_log_word into no slot", wv_log_word(256, &none, 0), 6);
@@ -101,7 +101,8 @@ static void reading(void)
     expect("the bits of a run", answer[0], 6);
     expect("wv_read past the end", wv_read(ones, 12, payload, 1, 1, samples, 2, answer, 8), 3);
     expect("the bits of a refused reading", answer[0], 0);
-    expect("wv_read into a list of another length", wv_read(ones, 12, payload, 2, 1, samples, 3, answer, 8), 6);
+    expect("wv_read into a list of another length", wv_read(ones, 12, payload, 2, 1, samples, 3, answer, 8),
+           6);
     expect("wv_read of a mono payload", wv_read(ones, 6, payload, 2, 1, samples, 2, answer, 8), 2);
 }
 
@@ -118,7 +119,7 @@ static void longest_count(void)
     expect_list("samples of ones", samples, (const int32_t[]){77, 77}, 2);
     longest[most - 1] = 0x1f;
     expect("wv_word of ones", wv_word(longest, most, state, 13, sample, 1, report, 2), 0);
-    expect("the place behind the last bit", state[0], 33554432);
+    expect("the place after the last bit", state[0], 33554432);
 }
 
 static void passes(void)
@@ -132,7 +133,8 @@ static void passes(void)
         again[i] = pass[i];
     expect("wv_decorrelate", wv_decorrelate(pass, 20, buffer, 2), 0);
     expect_list("samples of term 18", buffer, (const int32_t[]){14, 1}, 2);
-    expect_list("the pass after", pass, (const int32_t[]){18, 2, 1026, 1022, 14, 10, 0, 0, 0, 0, 0, 0, 1, 1}, 14);
+    expect_list("the pass after", pass,
+                (const int32_t[]){18, 2, 1026, 1022, 14, 10, 0, 0, 0, 0, 0, 0, 1, 1}, 14);
     expect("wv_analyse", wv_analyse(again, 20, buffer, 2), 0);
     expect_list("residuals of term 18", buffer, (const int32_t[]){1, -1}, 2);
     expect_list("the pass after analysis", again, pass, 20);
@@ -148,7 +150,7 @@ static void packing(void)
     expect("the bits of packing", answer[0], 10);
     expect("a packed byte", out[0], 0x7e);
     expect("a packed byte", out[1], 0x02);
-    expect("the byte behind", out[2], 77);
+    expect("the byte after", out[2], 77);
     expect("wv_pack into 27 bytes", wv_pack(residuals, 2, ones, 12, 1, out, 27, answer, 7), 11);
 }
 
@@ -161,7 +163,8 @@ static void silent_right(void)
     int32_t samples[4] = {77, 77, 77, 77};
     uint8_t out[28] = {0};
     uint32_t answer[8];
-    expect("wv_read of a negative right median", wv_read(negative, 12, payload, 2, 1, samples, 2, answer, 8), 2);
+    expect("wv_read of a negative right median",
+           wv_read(negative, 12, payload, 2, 1, samples, 2, answer, 8), 2);
     expect_list("samples after a refusal", samples, (const int32_t[]){77, 77}, 2);
     expect("wv_read of a silent right", wv_read(left_only, 12, payload, 2, 1, samples, 2, answer, 8), 0);
     expect_list("samples of a silent right", samples, (const int32_t[]){3, -1, 77}, 3);

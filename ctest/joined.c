@@ -1,4 +1,4 @@
-/* Pass lists joined, by the C interface: the slots of the second list behind those of the first, the
+/* Pass lists joined, by the C interface: the slots of the second list after those of the first, the
    numbers of crates/joined_lists/specs/Example.antt. */
 #include <string.h>
 #include "answers.h"
@@ -34,7 +34,8 @@ static void in_one_call(direction *call, const int32_t *from, const int32_t *to)
 }
 
 /* The list whose slots begin at `at`, in a call of its own. */
-static void in_its_own_call(direction *call, int32_t *passes, size_t at, size_t slots, int32_t *buffer, const int32_t *to)
+static void in_its_own_call(direction *call, int32_t *passes, size_t at, size_t slots, int32_t *buffer,
+                            const int32_t *to)
 {
     expect("the call of one list", call(passes + at, slots, buffer, ELEMENTS), 0);
     expect_list("the buffer of one list's call", buffer, to, ELEMENTS);

@@ -16,10 +16,10 @@ static void expect_page(const char *what, size_t samples, uint32_t threshold, co
     memset(page, 77, bytes + 1);
     expect(what, wv_morning_page(many, samples, threshold, page, bytes + 1, answer, 1), 0);
     expect("the bytes of a page", answer[0], (long long)bytes);
-    expect("the number behind them", answer[1], 77);
+    expect("the number after them", answer[1], 77);
     for (size_t i = 0; i < bytes; i++)
         expect(what, page[i], wanted[i]);
-    expect("the byte behind a page", page[bytes], 77);
+    expect("the byte after a page", page[bytes], 77);
 }
 
 static void put(size_t frame, int32_t left, int32_t right)
@@ -78,7 +78,7 @@ static void longest(void)
     page[MOST_BYTES] = 77;
     expect("the longest page", wv_morning_page(many, MOST_SAMPLES, 1, page, MOST_BYTES, answer, 1), 0);
     expect("its bytes", answer[0], MOST_BYTES);
-    expect("the byte behind it", page[MOST_BYTES], 77);
+    expect("the byte after it", page[MOST_BYTES], 77);
     for (size_t line = 0; line < 3; line++)
         for (size_t i = 0; i < WV_LINE_BYTES; i++)
             expect(lines[line], page[WV_LINE_BYTES * numbers[line] + i], lines[line][i]);
@@ -94,7 +94,8 @@ static void refused_pages(void)
     uint32_t answer[1] = {77};
     memset(page, 77, sizeof page);
     for (size_t i = 0; i < 9; i++) {
-        uint32_t refusal = wv_morning_page(many, rows[i].samples, 1, page, rows[i].bytes, answer, rows[i].slots);
+        uint32_t refusal =
+            wv_morning_page(many, rows[i].samples, 1, page, rows[i].bytes, answer, rows[i].slots);
         expect("wv_morning_page of a row", refusal, rows[i].refusal);
     }
     expect("a page without a slot", wv_morning_page(many, 2, 1, page, WV_LINE_BYTES, answer, 0), 6);

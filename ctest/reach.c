@@ -1,5 +1,5 @@
 /* Log words past the format's reach, of 8192 or more or of -8192 or less: each call that expands them
-   refuses them, behind 1 and before 2, with all lists as they were but for the slots of an answer,
+   refuses them, after 1 and before 2, with all lists as they were but for the slots of an answer,
    which are 0. */
 #include <string.h>
 #include "answers.h"
@@ -31,7 +31,7 @@ static void every_log_word(void)
             expect("the value of a refused log word", value[0], 77);
         else
             expect("that a value is in its span", value[0] >= -LARGEST && value[0] <= LARGEST, 1);
-        expect("the number behind it", value[1], 77);
+        expect("the number after it", value[1], 77);
     }
 }
 
@@ -60,7 +60,8 @@ static void refuse_reading(size_t bytes, size_t frames, size_t count, size_t slo
 }
 
 /* A packing, of which the second residual is outside the span, that is refused; 7 slots are enough. */
-static void refuse_packing(size_t bytes, size_t frames, size_t count, size_t room, size_t slots, uint32_t wanted)
+static void refuse_packing(size_t bytes, size_t frames, size_t count, size_t room, size_t slots,
+                           uint32_t wanted)
 {
     static const int32_t residuals[3] = {3, 1879048192, 3};
     uint8_t out[28];
@@ -93,7 +94,7 @@ static void in_each_place(void)
     }
 }
 
-/* The last words on both sides are taken; a negative median is no stereo. */
+/* The last words on both sides are accepted; a negative median is no stereo. */
 static void within_reach(void)
 {
     for (size_t place = 0; place < 6; place++) {

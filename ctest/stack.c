@@ -10,7 +10,8 @@
 #include <ucontext.h>
 #include "wavpack_stereo.h"
 
-enum { STACK = 1 << 16, PATTERN = 0xa5, ROUNDS = 2000, FRAMES = 64, MOST_PASSES = 17, TWO_LINES = 4 * WV_LINE_FRAMES };
+enum { STACK = 1 << 16, PATTERN = 0xa5, ROUNDS = 2000, FRAMES = 64, MOST_PASSES = 17 };
+enum { TWO_LINES = 4 * WV_LINE_FRAMES };
 
 static unsigned char stack[STACK];
 static unsigned char *above;
@@ -34,10 +35,11 @@ static uint64_t next(void)
 }
 
 static uint8_t entropy[12], payload[64 * FRAMES], out[28 * FRAMES], file[44 + 4 * FRAMES];
-static int32_t numbers[2 * FRAMES], sounds[2 * FRAMES], wide[2 * FRAMES], blocks[TWO_LINES], passes[20 * MOST_PASSES], seed[8];
+static int32_t numbers[2 * FRAMES], sounds[2 * FRAMES], wide[2 * FRAMES], blocks[TWO_LINES],
+    passes[20 * MOST_PASSES], seed[8];
 static uint32_t answer[13], report[2], field[4];
 
-/* Entropy payloads that reading takes, payloads with many ones, numbers of any size. */
+/* Entropy payloads that reading accepts, payloads with many ones, numbers of any size. */
 static void fill(void)
 {
     for (size_t i = 0; i < 12; i++)
@@ -89,7 +91,8 @@ static void fill_wide(void)
         field[i] = (uint32_t)(next() % 33 * (next() % 3 != 0));
     for (size_t i = 0; i < 2 * FRAMES; i++)
         wide[i] = (int32_t)next();
-    wv_reassemble_int32(field[0], field[1], field[2], field[3], wide, 2 * FRAMES, payload, sizeof payload, report, 1);
+    wv_reassemble_int32(field[0], field[1], field[2], field[3], wide, 2 * FRAMES, payload, sizeof payload,
+                        report, 1);
     wide[next() % (2 * FRAMES)] ^= next() % 8 == 0;
 }
 
@@ -98,23 +101,34 @@ static void term_byte(void) { CALL(wv_term_byte((uint8_t)next(), numbers, 2)); }
 static void weight_byte(void) { CALL(wv_weight_byte((uint8_t)next(), numbers, 1)); }
 static void medians(void) { CALL(wv_entropy(entropy, next() % 2 ? 12 : 6, numbers, 6)); }
 static void word(void) { CALL(wv_word(payload, sizeof payload, answer, 13, numbers, 1, report, 2)); }
-static void reading(void) { CALL(wv_read(entropy, 12, payload, sizeof payload, FRAMES, numbers, 2 * FRAMES, answer, 8)); }
+static void reading(void)
+{
+    CALL(wv_read(entropy, 12, payload, sizeof payload, FRAMES, numbers, 2 * FRAMES, answer, 8));
+}
 static void making(void) { CALL(wv_pass((int8_t)passes[0], 2, 3, 4, seed, 8, seed, 8, passes + 20, 20)); }
 static void decorrelation(void) { CALL(wv_decorrelate(passes, 20 * (next() % 18), numbers, 2 * FRAMES)); }
 static void analysis(void) { CALL(wv_analyse(passes, 20 * (next() % 18), numbers, 2 * FRAMES)); }
-static void packing(void) { CALL(wv_pack(numbers, 2 * FRAMES, entropy, 12, FRAMES, out, sizeof out, answer, 7)); }
+static void packing(void)
+{
+    CALL(wv_pack(numbers, 2 * FRAMES, entropy, 12, FRAMES, out, sizeof out, answer, 7));
+}
 static void exporting(void) { CALL(wv_wave_export(44100, sounds, 2 * FRAMES, out, sizeof out, answer, 1)); }
 static void importing(void) { CALL(wv_wave_import(file, sizeof file, numbers, 2 * FRAMES, answer, 2)); }
-static void paging(void) { CALL(wv_morning_page(blocks, next() % (TWO_LINES + 1), answer[2], out, sizeof out, answer, 1)); }
+static void paging(void)
+{
+    CALL(wv_morning_page(blocks, next() % (TWO_LINES + 1), answer[2], out, sizeof out, answer, 1));
+}
 static void completing(void)
 {
     const size_t bytes = next() % sizeof payload;
-    CALL(wv_reassemble_int32(field[0], field[1], field[2], field[3], numbers, 2 * FRAMES, payload, bytes, answer, 1));
+    CALL(wv_reassemble_int32(field[0], field[1], field[2], field[3], numbers, 2 * FRAMES, payload, bytes,
+                             answer, 1));
 }
 static void narrowing(void)
 {
     const size_t bytes = next() % sizeof out;
-    CALL(wv_deconstruct_int32(field[0], field[1], field[2], field[3], wide, 2 * FRAMES, out, bytes, answer, 1));
+    CALL(wv_deconstruct_int32(field[0], field[1], field[2], field[3], wide, 2 * FRAMES, out, bytes, answer,
+                              1));
 }
 
 /* How many bytes one call needs. */
@@ -138,10 +152,11 @@ static size_t needed(void (*call)(void))
 int main(void)
 {
     static const struct { const char *name; void (*call)(void); } entries[15] = {
-        {"wv_log_word", log_word}, {"wv_term_byte", term_byte}, {"wv_weight_byte", weight_byte}, {"wv_entropy", medians},
-        {"wv_word", word}, {"wv_read", reading}, {"wv_pass", making}, {"wv_decorrelate", decorrelation},
-        {"wv_analyse", analysis}, {"wv_pack", packing}, {"wv_wave_export", exporting}, {"wv_wave_import", importing},
-        {"wv_morning_page", paging}, {"wv_reassemble_int32", completing}, {"wv_deconstruct_int32", narrowing}};
+        {"wv_log_word", log_word}, {"wv_term_byte", term_byte}, {"wv_weight_byte", weight_byte},
+        {"wv_entropy", medians}, {"wv_read", reading}, {"wv_word", word}, {"wv_pass", making},
+        {"wv_decorrelate", decorrelation}, {"wv_analyse", analysis}, {"wv_pack", packing},
+        {"wv_wave_export", exporting}, {"wv_wave_import", importing}, {"wv_morning_page", paging},
+        {"wv_reassemble_int32", completing}, {"wv_deconstruct_int32", narrowing}};
     puts("| function | bytes of stack |\n|---|---:|");
     for (size_t i = 0; i < 15; i++) {
         size_t most = 0;

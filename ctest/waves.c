@@ -19,17 +19,19 @@ static void exporting(void)
     expect("wv_wave_export", wv_wave_export(44100, (const int32_t[]){3, -1}, 2, file, 49, answer, 1), 0);
     for (size_t i = 0; i < 48; i++)
         expect("a byte of a sound file", file[i], sound[i]);
-    expect("the byte behind a sound file", file[48], 77);
+    expect("the byte after a sound file", file[48], 77);
     expect("the bytes of a sound file", answer[0], 48);
-    expect("the number behind them", answer[1], 77);
+    expect("the number after them", answer[1], 77);
     expect("wv_wave_export of no frames", wv_wave_export(1, many, 0, file, 44, answer, 1), 0);
     expect("the bytes of no frames", answer[0], 44);
     many[0] = 32767;
     many[1] = -32768;
-    expect("wv_wave_export of all frames", wv_wave_export(192000, many, MOST_SAMPLES, file, MOST_BYTES, answer, 1), 0);
+    expect("wv_wave_export of all frames",
+           wv_wave_export(192000, many, MOST_SAMPLES, file, MOST_BYTES, answer, 1), 0);
     expect("the bytes of all frames", answer[0], MOST_BYTES);
     many[0] = many[1] = 0;
-    expect("wv_wave_import of all frames", wv_wave_import(file, MOST_BYTES, many, MOST_SAMPLES, answer, 2), 0);
+    expect("wv_wave_import of all frames", wv_wave_import(file, MOST_BYTES, many, MOST_SAMPLES, answer, 2),
+           0);
     expect("the rate of all frames", answer[0], 192000);
     expect("the samples of all frames", answer[1], MOST_SAMPLES);
     expect_list("the first frame", many, (const int32_t[]){32767, -32768}, 2);
@@ -39,15 +41,16 @@ static void exporting(void)
 static void refused_exports(void)
 {
     static const struct { size_t slots, samples, bytes; uint32_t rate, refusal; } rows[8] = {
-        {0, MOST_SAMPLES + 1, 47, 0, 6}, {1, MOST_SAMPLES + 1, 47, 0, 5}, {1, MOST_SAMPLES - 1, 47, 0, 6}, {1, 3, 47, 0, 6},
-        {1, 2, 47, 0, 11}, {1, 2, 48, 0, 14}, {1, 2, 48, 192001, 14}, {1, 2, 48, 192000, 13}};
+        {0, MOST_SAMPLES + 1, 47, 0, 6}, {1, MOST_SAMPLES + 1, 47, 0, 5}, {1, MOST_SAMPLES - 1, 47, 0, 6},
+        {1, 3, 47, 0, 6}, {1, 2, 47, 0, 11}, {1, 2, 48, 0, 14}, {1, 2, 48, 192001, 14},
+        {1, 2, 48, 192000, 13}};
     static const int32_t outside[2] = {32768, -32769};
     uint32_t answer[1] = {77};
     memset(file, 77, 48);
     for (size_t i = 0; i < 16; i++) {
         many[1] = outside[i % 2];
-        uint32_t refusal = wv_wave_export(rows[i / 2].rate, many, rows[i / 2].samples, file, rows[i / 2].bytes, answer,
-                                          rows[i / 2].slots);
+        uint32_t refusal = wv_wave_export(rows[i / 2].rate, many, rows[i / 2].samples, file,
+                                          rows[i / 2].bytes, answer, rows[i / 2].slots);
         expect("wv_wave_export of a row", refusal, rows[i / 2].refusal);
     }
     for (size_t i = 0; i < 48; i++)
@@ -63,7 +66,7 @@ static void importing(void)
     expect_list("samples of a sound file", samples, (const int32_t[]){3, -1, 77}, 3);
     expect("the rate of a sound file", answer[0], 44100);
     expect("the samples of a sound file", answer[1], 2);
-    expect("the number behind them", answer[2], 77);
+    expect("the number after them", answer[2], 77);
 }
 
 static void refused_imports(void)
@@ -75,7 +78,8 @@ static void refused_imports(void)
     expect("wv_wave_import of a long file", wv_wave_import(file, MOST_BYTES + 1, samples, 1, answer, 2), 5);
     expect("wv_wave_import of other lengths", wv_wave_import(file, MOST_BYTES, samples, 1, answer, 2), 14);
     for (size_t length = 0; length < 53; length++)
-        expect("wv_wave_import of another length", wv_wave_import(file, length, samples, 1, answer, 2), length == 48 ? 11 : 14);
+        expect("wv_wave_import of another length", wv_wave_import(file, length, samples, 1, answer, 2),
+               length == 48 ? 11 : 14);
     for (size_t i = 0; i < 44; i++) {
         file[i] ^= 1;
         expect("wv_wave_import of another header", wv_wave_import(file, 48, samples, 1, answer, 2), 14);

@@ -11,14 +11,18 @@ static uint8_t literal[MOST_BYTES + 1];
 /* sent_bits, zeros, ones and dups; two samples, their literal bits, and what these make of them. */
 struct row { uint32_t field[4]; int32_t narrow[2]; uint8_t bits[8]; int32_t wide[2]; };
 
-static uint32_t reassemble(const uint32_t *field, int32_t *samples, size_t count, size_t bytes, uint32_t *answer, size_t slots)
+static uint32_t reassemble(const uint32_t *field, int32_t *samples, size_t count, size_t bytes,
+                           uint32_t *answer, size_t slots)
 {
-    return wv_reassemble_int32(field[0], field[1], field[2], field[3], samples, count, literal, bytes, answer, slots);
+    return wv_reassemble_int32(field[0], field[1], field[2], field[3], samples, count, literal, bytes,
+                               answer, slots);
 }
 
-static uint32_t deconstruct(const uint32_t *field, int32_t *samples, size_t count, size_t bytes, uint32_t *answer, size_t slots)
+static uint32_t deconstruct(const uint32_t *field, int32_t *samples, size_t count, size_t bytes,
+                            uint32_t *answer, size_t slots)
 {
-    return wv_deconstruct_int32(field[0], field[1], field[2], field[3], samples, count, literal, bytes, answer, slots);
+    return wv_deconstruct_int32(field[0], field[1], field[2], field[3], samples, count, literal, bytes,
+                                answer, slots);
 }
 
 /* Forward, with no more bytes than the bits need. */
@@ -27,16 +31,17 @@ static void expect_wide(const struct row *row)
     int32_t samples[3] = {row->narrow[0], row->narrow[1], 77};
     uint32_t answer[2] = {77, 77};
     memcpy(literal, row->bits, 8);
-    expect("wv_reassemble_int32", reassemble(row->field, samples, 2, (2 * row->field[0] + 7) / 8, answer, 1), 0);
+    expect("wv_reassemble_int32",
+           reassemble(row->field, samples, 2, (2 * row->field[0] + 7) / 8, answer, 1), 0);
     expect_list("wide samples", samples, row->wide, 2);
-    expect("the sample behind them", samples[2], 77);
+    expect("the sample after them", samples[2], 77);
     expect("the bits read", answer[0], 2 * row->field[0]);
-    expect("the number behind them", answer[1], 77);
+    expect("the number after them", answer[1], 77);
     for (size_t i = 0; i < 8; i++)
         expect("a literal byte that was read", literal[i], row->bits[i]);
 }
 
-/* Back, into storage with a byte more; behind the bits it keeps its values. */
+/* Back, into storage with a byte more; after the bits it keeps its values. */
 static void expect_narrow(const struct row *row)
 {
     int32_t samples[3] = {row->wide[0], row->wide[1], 77};
@@ -44,9 +49,9 @@ static void expect_narrow(const struct row *row)
     memset(literal, 77, 9);
     expect("wv_deconstruct_int32", deconstruct(row->field, samples, 2, 9, answer, 1), 0);
     expect_list("narrow samples", samples, row->narrow, 2);
-    expect("the sample behind them", samples[2], 77);
+    expect("the sample after them", samples[2], 77);
     expect("the bits written", answer[0], 2 * row->field[0]);
-    expect("the number behind them", answer[1], 77);
+    expect("the number after them", answer[1], 77);
     for (size_t i = 0; i < 9; i++)
         expect("a literal byte", literal[i], i < (2 * row->field[0] + 7) / 8 ? row->bits[i] : 77);
 }
@@ -70,7 +75,7 @@ static void by_hand(void)
         {{0, 0, 0, 31}, {0, -1}, {0}, {0, -1}},
         {{31, 0, 0, 31}, {0, -1}, {0, 0, 0, 0x80, 0xff, 0xff, 0xff, 0x3f}, {0, -1}},
     };
-    /* Bits that leave the 32, and bits behind the literal ones, which do not count. */
+    /* Bits that leave the 32, and bits after the literal ones, which do not count. */
     static const struct row only_there[] = {
         {{8, 8, 0, 0}, {0x12345678, -1}, {0xab, 0xcd}, {0x5678ab00, -0x3300}},
         {{0, 0, 0, 31}, {-2, INT32_MAX}, {0}, {0, -1}},
@@ -106,14 +111,15 @@ static void longest(uint32_t sent_bits, uint32_t dups)
     for (uint32_t i = 0; i < MOST_SAMPLES; i++)
         expect("a sample made narrow", many[i], sample(i) >> dups >> sent_bits);
     for (size_t i = bytes; i < sizeof literal; i++)
-        expect("a byte behind its bits", literal[i], 77);
+        expect("a byte after its bits", literal[i], 77);
     expect("the longest completed", reassemble(field, many, MOST_SAMPLES, bytes, answer, 1), 0);
     expect("the bits of that", answer[0], (long long)bytes * 8);
     for (uint32_t i = 0; i < MOST_SAMPLES; i++)
         expect("a sample of the longest", many[i], sample(i));
 }
 
-typedef uint32_t direction(const uint32_t *field, int32_t *samples, size_t count, size_t bytes, uint32_t *answer, size_t slots);
+typedef uint32_t direction(const uint32_t *field, int32_t *samples, size_t count, size_t bytes,
+                           uint32_t *answer, size_t slots);
 
 /* A row has the faults of the rows below it too, so that the order of the tests shows. */
 struct refusal { size_t slots; uint32_t field[4]; size_t samples, bytes; uint32_t refusal; };
@@ -153,9 +159,10 @@ static void refused_ways(void)
         {1, {31, 2, 32, 0}, MOST_SAMPLES + 1, 0, 15}, {1, {31, 2, 31, 32}, MOST_SAMPLES + 1, 0, 15},
         {1, {256, 2, 0, 0}, 1, 0, 15}, {1, {0, UINT32_MAX, 0, 0}, 0, 0, 15},
         {1, {31, 2, 31, 31}, MOST_SAMPLES + 1, 0, 5}, {1, {0, 0, 0, 0}, MOST_SAMPLES + 1, MOST_BYTES, 5},
-        {1, {31, 2, 0, 0}, MOST_SAMPLES, MOST_BYTES - 1, 11}, {1, {0, 0, 0, 0}, 1, 3, 11}, {1, {1, 0, 2, 0}, 2, 7, 11},
-        {1, {31, 2, 0, 0}, MOST_SAMPLES, MOST_BYTES, 16}, {1, {0, 1, 0, 0}, 1, 4, 16},
-        {1, {0, 0, 2, 0}, 1, 4, 16}, {1, {0, 0, 0, 2}, 1, 4, 16}, {1, {5, 0, 0, 1}, 2, 8, 16}};
+        {1, {31, 2, 0, 0}, MOST_SAMPLES, MOST_BYTES - 1, 11}, {1, {0, 0, 0, 0}, 1, 3, 11},
+        {1, {1, 0, 2, 0}, 2, 7, 11}, {1, {31, 2, 0, 0}, MOST_SAMPLES, MOST_BYTES, 16},
+        {1, {0, 1, 0, 0}, 1, 4, 16}, {1, {0, 0, 2, 0}, 1, 4, 16}, {1, {0, 0, 0, 2}, 1, 4, 16},
+        {1, {5, 0, 0, 1}, 2, 8, 16}};
     refused(reassemble, there, sizeof there / sizeof *there);
     refused(deconstruct, back, sizeof back / sizeof *back);
 }

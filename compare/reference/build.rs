@@ -6,7 +6,8 @@ use std::path::PathBuf;
 use std::{env, fs};
 
 /// The published files that the comparison needs, in the order in which they use each other.
-const MODULES: [&str; 7] = ["logpack", "decorrelation", "entropy", "samples", "packed_samples", "crc", "int32"];
+const MODULES: [&str; 7] =
+    ["logpack", "decorrelation", "entropy", "samples", "packed_samples", "crc", "int32"];
 
 fn main() {
     println!("cargo::rerun-if-env-changed=WAVPACK_REFERENCE");

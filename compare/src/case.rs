@@ -82,7 +82,7 @@ impl Run {
         self.apart = true;
     }
 
-    /// How far it has come, in numbers that `go_on` takes: the state of its random numbers, and each
+    /// How far it has come, in numbers for `go_on`: the state of its random numbers, and each
     /// refusal number with what was counted.
     pub fn progress(&self) -> Vec<u64> {
         let agreed = self.agreed.iter().flat_map(|(&number, counts)| once(u64::from(number)).chain(*counts));
@@ -92,21 +92,27 @@ impl Run {
     /// Goes on from where another run of the kind has come to.
     pub fn go_on(&mut self, progress: &[u64]) {
         let [state, agreed @ ..] = progress else {
-            unreachable!("a run tells the state of its random numbers first");
+            unreachable!("the state of the random numbers comes first");
         };
         self.random = Random::new(*state);
-        let told = agreed.chunks_exact(1 + COUNTS);
-        self.agreed = told.map(|told| (told[0] as u32, std::array::from_fn(|count| told[1 + count]))).collect();
+        let kinds = agreed.chunks_exact(1 + COUNTS);
+        self.agreed =
+            kinds.map(|kind| (kind[0] as u32, std::array::from_fn(|count| kind[1 + count]))).collect();
     }
 
     /// One of the counts, in all and by refusal number.
     fn counted(&self, place: usize) -> (u64, String) {
-        let counts = self.agreed.iter().map(|(number, counts)| (number, counts[place])).filter(|(_, count)| *count > 0);
-        let numbers: Vec<String> = counts.clone().map(|(number, count)| format!("{number}: {count}")).collect();
+        let counts = self
+            .agreed
+            .iter()
+            .map(|(number, counts)| (number, counts[place]))
+            .filter(|(_, count)| *count > 0);
+        let numbers: Vec<String> =
+            counts.clone().map(|(number, count)| format!("{number}: {count}")).collect();
         (counts.map(|(_, count)| count).sum(), format!("by refusal number {}", numbers.join(", ")))
     }
 
-    /// Says on how many inputs of a kind both sides agreed, and tells how many.
+    /// Prints on how many inputs of a kind both sides agreed, and gives the number.
     pub fn report(&self, name: &str, began: Instant) -> u64 {
         let (agreed, numbers) = self.counted(0);
         println!("compare: {name}: {agreed} agree, {numbers} ({:.1} s)", began.elapsed().as_secs_f64());
@@ -136,7 +142,10 @@ impl Run {
                 let counted = [true, case.silent_right(), case.out_of_reach()];
                 assert!(refusal > 0 || !counted[2], "a log word out of reach is never accepted");
                 let counts = self.agreed.entry(refusal).or_default();
-                counts.iter_mut().zip(counted).for_each(|(count, is_counted)| *count += u64::from(is_counted));
+                counts
+                    .iter_mut()
+                    .zip(counted)
+                    .for_each(|(count, is_counted)| *count += u64::from(is_counted));
                 Ok(())
             }
             Err(said) => {

@@ -1,7 +1,7 @@
 //! Work that a child process does, so that an access outside a list ends the child and not the
 //! comparison.
 //!
-//! No signal handler is needed: the kernel tells the parent what ended the child, and the parent
+//! No signal handler is needed: the kernel reports to the parent what ended the child, and the parent
 //! goes on from there.
 #![allow(unsafe_code)]
 use std::ffi::c_int;
@@ -25,7 +25,7 @@ unsafe extern "C" {
     fn _exit(status: c_int) -> !;
 }
 
-/// Does `work` in a child, and tells how the child ended: with status 0 where `work` says true.
+/// Does `work` in a child, and reports how the child ended: with status 0 where `work` says true.
 fn in_child(work: impl FnOnce() -> bool) -> Result<ExitStatus> {
     // SAFETY: the program has one thread, so no lock is held that only another thread could give
     // back in the child.
@@ -38,8 +38,8 @@ fn in_child(work: impl FnOnce() -> bool) -> Result<ExitStatus> {
         // signal.
         unsafe { signal(STRAY_ACCESS, USUAL_HANDLER) };
         let done = catch_unwind(AssertUnwindSafe(work)).unwrap_or(false);
-        // SAFETY: takes any status. What the parent does at its own end is not done here, nor its
-        // work behind this call.
+        // SAFETY: any status is accepted. What the parent does at its own end is not done here, nor its
+        // work after this call.
         unsafe { _exit(if done { 0 } else { FAILED }) };
     }
     let mut status = 0;
@@ -69,7 +69,7 @@ pub fn strays<T>(work: impl FnOnce() -> T) -> bool {
 
 /// How work ended that a child did.
 pub enum Ended {
-    /// The numbers that it told.
+    /// The numbers that it reported.
     Told(Vec<u64>),
     /// By a stray access.
     Stray,
@@ -77,13 +77,13 @@ pub enum Ended {
     Otherwise(String),
 }
 
-/// Does `work` in a child; what it tells has to be few numbers, as many as the kernel holds for a
+/// Does `work` in a child; what it reports has to be few numbers, as many as the kernel holds for a
 /// reader that waits.
 pub fn ended(work: impl FnOnce() -> Option<Vec<u64>>) -> Ended {
-    tell(work).unwrap_or_else(|error| Ended::Otherwise(error.to_string()))
+    report(work).unwrap_or_else(|error| Ended::Otherwise(error.to_string()))
 }
 
-fn tell(work: impl FnOnce() -> Option<Vec<u64>>) -> Result<Ended> {
+fn report(work: impl FnOnce() -> Option<Vec<u64>>) -> Result<Ended> {
     let (mut here, mut there) = UnixStream::pair()?;
     let status = in_child(|| {
         let Some(numbers) = work() else {

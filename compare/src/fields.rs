@@ -48,7 +48,11 @@ impl Bits {
 pub fn payload(random: &mut Random, length: usize) -> Vec<u8> {
     match random.below(4) {
         0 => random.bytes(length),
-        1 => random.bytes(length).into_iter().map(|byte| byte | random.next() as u8 | random.next() as u8).collect(),
+        1 => random
+            .bytes(length)
+            .into_iter()
+            .map(|byte| byte | random.next() as u8 | random.next() as u8)
+            .collect(),
         _ => {
             let mut bits = Bits::default();
             while bits.0.len() < 8 * length {

@@ -17,11 +17,18 @@ const READ_AND_WRITE: c_int = 3;
 const PRIVATE_AND_EMPTY: c_int = 0x22;
 
 unsafe extern "C" {
-    fn mmap(wanted: *mut c_void, bytes: usize, may: c_int, flags: c_int, file: c_int, from: i64) -> *mut c_void;
+    fn mmap(
+        wanted: *mut c_void,
+        bytes: usize,
+        may: c_int,
+        flags: c_int,
+        file: c_int,
+        from: i64,
+    ) -> *mut c_void;
     fn mprotect(at: *mut c_void, bytes: usize, may: c_int) -> c_int;
 }
 
-/// Pages of memory with an untouchable one before and behind them.
+/// Pages of memory with an untouchable one before and after them.
 struct Pages {
     first: *mut u8,
     bytes: usize,
@@ -42,7 +49,10 @@ impl Pages {
         // SAFETY: the three parts lie within what was just mapped, and nothing uses it yet.
         unsafe {
             let first = all.byte_add(PAGE);
-            assert!(mprotect(all, PAGE, UNTOUCHABLE) == 0 && mprotect(first.byte_add(bytes), PAGE, UNTOUCHABLE) == 0);
+            assert!(
+                mprotect(all, PAGE, UNTOUCHABLE) == 0
+                    && mprotect(first.byte_add(bytes), PAGE, UNTOUCHABLE) == 0
+            );
             Pages { first: first.cast(), bytes }
         }
     }
@@ -56,7 +66,7 @@ impl Pages {
     }
 }
 
-/// A list of numbers that ends right before an untouchable page, or starts right behind one.
+/// A list of numbers that ends right before an untouchable page, or starts right after one.
 pub struct Guarded<T> {
     pages: Pages,
     start: *mut T,
@@ -64,7 +74,7 @@ pub struct Guarded<T> {
 }
 
 impl<T: Clone> Guarded<T> {
-    /// A list that holds `values`, before the page or else behind it.
+    /// A list that holds `values`, before the page or else after it.
     pub fn holding(values: &[T], before: bool) -> Guarded<T> {
         assert!(!needs_drop::<T>());
         let pages = Pages::take(size_of_val(values));
@@ -103,7 +113,7 @@ impl<T> DerefMut for Guarded<T> {
     }
 }
 
-/// Whether reading the byte just outside a list is stopped, before the page and behind it.
+/// Whether reading the byte just outside a list is stopped, before the page and after it.
 pub fn holds() -> bool {
     [true, false].into_iter().all(|before| {
         let list = Guarded::holding(&[0_u8; 5], before);

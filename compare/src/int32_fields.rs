@@ -4,7 +4,7 @@ use crate::random::Random;
 use std::iter::once;
 use wavpack_stereo::Int32Info;
 
-/// Fields that are not taken, some of them with one that is in their low bits.
+/// Fields that are refused, some of them with one that is in their low bits.
 pub const BEYOND: [u32; 8] = [32, 33, 63, 64, 255, 256, 1 << 31, u32::MAX];
 
 /// Sent bits, zeros, ones, dups.
@@ -27,7 +27,8 @@ pub fn with_field(info: Int32Info, place: usize, field: u32) -> Int32Info {
 /// Every way to put bits in, without sent bits: none, and zeros, ones or dups of every width.
 pub fn settings() -> impl Iterator<Item = Int32Info> {
     let none = Int32Info::default();
-    once(none).chain((1..4).flat_map(move |place| (1..=MAX_FIELD).map(move |field| with_field(none, place, field))))
+    once(none)
+        .chain((1..4).flat_map(move |place| (1..=MAX_FIELD).map(move |field| with_field(none, place, field))))
 }
 
 /// Every number of sent bits with every way to put bits in.
@@ -42,7 +43,8 @@ pub fn two_at_once(random: &mut Random) -> Vec<Int32Info> {
     for (first, second) in [(1, 2), (1, 3), (2, 3)] {
         for (a, b) in (1..=MAX_FIELD).flat_map(|a| (1..=MAX_FIELD).map(move |b| (a, b))) {
             let rest = info_of([field(random), 0, 0, 0]);
-            let rest = if random.once_in(8) { with_field(rest, 6 - first - second, field(random)) } else { rest };
+            let rest =
+                if random.once_in(8) { with_field(rest, 6 - first - second, field(random)) } else { rest };
             out.push(with_field(with_field(rest, first, a), second, b));
         }
     }
@@ -53,7 +55,7 @@ fn field(random: &mut Random) -> u32 {
     random.below(MAX_FIELD as usize + 1) as u32
 }
 
-/// Any fields that are taken; mostly few bits are put in, and mostly by one field.
+/// Any fields that are accepted; mostly few bits are put in, and mostly by one field.
 pub fn any(random: &mut Random) -> Int32Info {
     if random.once_in(8) {
         return info_of(std::array::from_fn(|_| field(random)));
@@ -78,7 +80,8 @@ pub fn around(limit: usize) -> impl Iterator<Item = (usize, Int32Info)> {
 pub fn smaller(info: Int32Info) -> impl Iterator<Item = Int32Info> {
     (0..4).flat_map(move |place| {
         let field = fields(info)[place];
-        let fields = [0, field / 2, field.saturating_sub(1)].into_iter().filter(move |&smaller| smaller < field);
+        let fields =
+            [0, field / 2, field.saturating_sub(1)].into_iter().filter(move |&smaller| smaller < field);
         fields.map(move |smaller| with_field(info, place, smaller))
     })
 }

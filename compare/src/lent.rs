@@ -7,7 +7,7 @@ use std::fmt::Debug;
 use std::ops::{Deref, DerefMut};
 use wavpack_stereo::Pass;
 
-/// How many marked cells stand before a list and behind it.
+/// How many marked cells stand before a list and after it.
 const MARGIN: usize = 8;
 
 /// Where lists stand.
@@ -17,8 +17,8 @@ pub enum Place {
     Margins,
     /// Right before a page that must not be touched, with a margin on the other side.
     BeforePage,
-    /// Right behind such a page, with a margin on the other side.
-    BehindPage,
+    /// Right after such a page, with a margin on the other side.
+    AfterPage,
     /// In a block of the heap of just the list's size, for tools that watch blocks.
     Block,
 }
@@ -113,19 +113,19 @@ impl<T: Cell> Lent<T> {
     /// A list of `length` marks that `fill` was given.
     fn made(length: usize, fill: impl FnOnce(&mut [T])) -> Lent<T> {
         let place = PLACE.get();
-        let (start, behind) = match place {
+        let (start, after) = match place {
             Place::Margins => (MARGIN, MARGIN),
             Place::BeforePage => (MARGIN, 0),
-            Place::BehindPage => (0, MARGIN),
+            Place::AfterPage => (0, MARGIN),
             Place::Block => (0, 0),
         };
         let end = start + length;
-        let mut made: Vec<T> = (0..end + behind).map(T::mark).collect();
+        let mut made: Vec<T> = (0..end + after).map(T::mark).collect();
         fill(&mut made[start..end]);
         let cells = match place {
             Place::Margins | Place::Block => Cells::Block(made.clone()),
             Place::BeforePage => Cells::Guarded(Guarded::holding(&made, true)),
-            Place::BehindPage => Cells::Guarded(Guarded::holding(&made, false)),
+            Place::AfterPage => Cells::Guarded(Guarded::holding(&made, false)),
         };
         Lent { cells, made, start, end }
     }

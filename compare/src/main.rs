@@ -9,7 +9,7 @@
 //!
 //! Sound files and morning pages are no part of the published Rust: there a plain statement of their
 //! rules stands for it, and in the table a plain loop. Wide samples are compared with both. A log word
-//! that the Rust takes and the rule refuses is left to the rule, and how many inputs hold one is told.
+//! that the Rust accepts and the rule refuses is left to the rule, and the inputs that hold one are counted.
 #![deny(unsafe_code)]
 #![warn(clippy::undocumented_unsafe_blocks)]
 
@@ -91,7 +91,11 @@ fn run(words: &[&str]) -> Option<Result<(), Failed>> {
         ["long", bounds @ ..] => {
             let (millions, minutes) = (number(bounds, 1, 10.0)?, number(bounds, 2, 60.0)?);
             let time = Duration::try_from_secs_f64(60.0 * minutes).ok()?;
-            Some(long::run(&Bounds { seed: number(bounds, 0, SEED)?, cases: (1e6 * millions) as usize, time }))
+            Some(long::run(&Bounds {
+                seed: number(bounds, 0, SEED)?,
+                cases: (1e6 * millions) as usize,
+                time,
+            }))
         }
         _ => Some(compare(number(words, 0, SEED)?, number(words, 1, 1)?)),
     }

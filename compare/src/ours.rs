@@ -1,4 +1,4 @@
-//! What the proved library answers, told in the slots of its C interface.
+//! What the proved library answers, in the slots of its C interface.
 //!
 //! A list with just the slots asked for is answered by the bindings, which are what controllers
 //! call. What only the C interface can be given goes to the bindings' `ffi`, its functions as they
@@ -21,46 +21,62 @@ pub fn number(answer: Result<(), Refusal>) -> u32 {
     answer.map_or_else(Refusal::number, |()| 0)
 }
 
-pub fn log_word(word: i16, value: &mut [i32]) -> u32 {
-    if watched() || value.len() != 1 {
-        return ffi::log_word(word, value);
+/// A call that gives `N` numbers into `slots` or refuses: by the bindings where they can be given it, and
+/// otherwise, and where they refuse, by `ffi`. `lists` are the lists that it writes besides.
+fn answered<L, T: Copy, const N: usize>(
+    slots: &mut [T],
+    mut lists: L,
+    bindings: impl Fn(&mut L) -> Result<[T; N], Refusal>,
+    ffi: impl Fn(&mut L, &mut [T]) -> u32,
+) -> u32 {
+    if watched() || slots.len() != N {
+        return ffi(&mut lists, slots);
     }
-    match wavpack_stereo::log_word(word) {
-        Ok(told) => {
-            value[0] = told;
+    match bindings(&mut lists) {
+        Ok(numbers) => {
+            slots.copy_from_slice(&numbers);
             0
         }
-        Err(refusal) => both(refusal, ffi::log_word(word, value)),
+        Err(refusal) => both(refusal, ffi(&mut lists, slots)),
     }
+}
+
+pub fn log_word(word: i16, value: &mut [i32]) -> u32 {
+    answered(
+        value,
+        (),
+        |()| wavpack_stereo::log_word(word).map(|value| [value]),
+        |(), value| ffi::log_word(word, value),
+    )
 }
 
 pub fn term_byte(byte: u8, out: &mut [i32]) -> u32 {
-    if watched() || out.len() != 2 {
-        return ffi::term_byte(byte, out);
-    }
-    out.copy_from_slice(&wavpack_stereo::term_byte(byte).slots());
-    0
+    answered(out, (), |()| Ok(wavpack_stereo::term_byte(byte).slots()), |(), out| ffi::term_byte(byte, out))
 }
 
 pub fn weight_byte(byte: u8, out: &mut [i32]) -> u32 {
-    if watched() || out.len() != 1 {
-        return ffi::weight_byte(byte, out);
-    }
-    out[0] = wavpack_stereo::weight_byte(byte).0;
-    0
+    answered(out, (), |()| Ok([wavpack_stereo::weight_byte(byte).0]), |(), out| ffi::weight_byte(byte, out))
 }
 
 pub fn entropy(entropy: &[u8], medians: &mut [i32]) -> u32 {
-    if watched() || medians.len() != 6 {
-        return ffi::entropy(entropy, medians);
+    answered(
+        medians,
+        (),
+        |()| wavpack_stereo::entropy(entropy).map(|medians| medians.slots()),
+        |(), medians| ffi::entropy(entropy, medians),
+    )
+}
+
+pub fn read(entropy: &[u8], payload: &[u8], frames: usize, samples: &mut [i32], answer: &mut [u32]) -> u32 {
+    if watched() || answer.len() != 8 {
+        return ffi::read(entropy, payload, frames, samples, answer);
     }
-    match wavpack_stereo::entropy(entropy) {
-        Ok(told) => {
-            medians.copy_from_slice(&told.slots());
-            0
-        }
-        Err(refusal) => both(refusal, ffi::entropy(entropy, medians)),
-    }
+    let (refusal, reading) = match wavpack_stereo::read(entropy, payload, frames, samples) {
+        Ok(reading) => (0, reading),
+        Err(error) => (error.refusal.number(), error.reading),
+    };
+    answer.copy_from_slice(&reading.slots());
+    refusal
 }
 
 /// The state that has these slots; none where there are not 13, or a flag is neither 0 nor 1.
@@ -86,32 +102,16 @@ pub fn word(payload: &[u8], state: &mut [u32], sample: &mut [i32], report: &mut 
     }
 }
 
-pub fn read(entropy: &[u8], payload: &[u8], frames: usize, samples: &mut [i32], answer: &mut [u32]) -> u32 {
-    if watched() || answer.len() != 8 {
-        return ffi::read(entropy, payload, frames, samples, answer);
-    }
-    let (refusal, reading) = match wavpack_stereo::read(entropy, payload, frames, samples) {
-        Ok(reading) => (0, reading),
-        Err(error) => (error.refusal.number(), error.reading),
-    };
-    answer.copy_from_slice(&reading.slots());
-    refusal
-}
-
 /// `numbers` are delta, weight A and weight B.
 pub fn pass(term: i8, numbers: [i32; 3], seeds: [&[i32]; 2], pass: &mut [i32]) -> u32 {
     let [delta, weight_a, weight_b] = numbers;
     let (delta, weights) = (Delta(delta), [Weight(weight_a), Weight(weight_b)]);
-    if watched() || pass.len() != Pass::SLOTS {
-        return ffi::pass(term, delta, weights, seeds, pass);
-    }
-    match Pass::new(term.into(), delta, weights, seeds) {
-        Ok(made) => {
-            pass.copy_from_slice(made.slots());
-            0
-        }
-        Err(refusal) => both(refusal, ffi::pass(term, delta, weights, seeds, pass)),
-    }
+    answered(
+        pass,
+        (),
+        |()| Pass::new(term.into(), delta, weights, seeds).map(|pass| *pass.slots()),
+        |(), pass| ffi::pass(term, delta, weights, seeds, pass),
+    )
 }
 
 /// The passes that hold these numbers.
@@ -120,79 +120,60 @@ pub fn passes(lists: &[[i32; Pass::SLOTS]]) -> Vec<Pass> {
 }
 
 pub fn pack(residuals: &[i32], entropy: &[u8], frames: usize, out: &mut [u8], answer: &mut [u32]) -> u32 {
-    if watched() || answer.len() != 7 {
-        return ffi::pack(residuals, entropy, frames, out, answer);
-    }
-    match wavpack_stereo::pack(residuals, entropy, frames, out) {
-        Ok(packed) => {
-            answer.copy_from_slice(&packed.slots());
-            0
-        }
-        Err(refusal) => both(refusal, ffi::pack(residuals, entropy, frames, out, answer)),
-    }
+    answered(
+        answer,
+        out,
+        |out| wavpack_stereo::pack(residuals, entropy, frames, out).map(|packed| packed.slots()),
+        |out, answer| ffi::pack(residuals, entropy, frames, out, answer),
+    )
 }
 
 pub fn wave_export(rate: u32, samples: &[i32], out: &mut [u8], answer: &mut [u32]) -> u32 {
-    if watched() || answer.len() != 1 {
-        return ffi::wave_export(rate, samples, out, answer);
-    }
-    match wavpack_stereo::wave_export(rate, samples, out) {
-        Ok(written) => {
-            answer[0] = written as u32;
-            0
-        }
-        Err(refusal) => both(refusal, ffi::wave_export(rate, samples, out, answer)),
-    }
+    answered(
+        answer,
+        out,
+        |out| wavpack_stereo::wave_export(rate, samples, out).map(|bytes| [bytes as u32]),
+        |out, answer| ffi::wave_export(rate, samples, out, answer),
+    )
 }
 
 pub fn wave_import(file: &[u8], samples: &mut [i32], answer: &mut [u32]) -> u32 {
-    if watched() || answer.len() != 2 {
-        return ffi::wave_import(file, samples, answer);
-    }
-    match wavpack_stereo::wave_import(file, samples) {
-        Ok(wave) => {
-            answer.copy_from_slice(&wave.slots());
-            0
-        }
-        Err(refusal) => both(refusal, ffi::wave_import(file, samples, answer)),
-    }
+    answered(
+        answer,
+        samples,
+        |samples| wavpack_stereo::wave_import(file, samples).map(|wave| wave.slots()),
+        |samples, answer| ffi::wave_import(file, samples, answer),
+    )
 }
 
 pub fn morning_page(samples: &[i32], threshold: u32, page: &mut [u8], answer: &mut [u32]) -> u32 {
-    if watched() || answer.len() != 1 {
-        return ffi::morning_page(samples, threshold, page, answer);
-    }
-    match wavpack_stereo::morning_page(samples, threshold, page) {
-        Ok(written) => {
-            answer[0] = written as u32;
-            0
-        }
-        Err(refusal) => both(refusal, ffi::morning_page(samples, threshold, page, answer)),
-    }
+    answered(
+        answer,
+        page,
+        |page| wavpack_stereo::morning_page(samples, threshold, page).map(|bytes| [bytes as u32]),
+        |page, answer| ffi::morning_page(samples, threshold, page, answer),
+    )
 }
 
 pub fn reassemble_int32(info: Int32Info, samples: &mut [i32], literal: &[u8], answer: &mut [u32]) -> u32 {
-    if watched() || answer.len() != 1 {
-        return ffi::reassemble_int32(info, samples, literal, answer);
-    }
-    match wavpack_stereo::reassemble_int32(info, samples, literal) {
-        Ok(bits) => {
-            answer[0] = bits as u32;
-            0
-        }
-        Err(refusal) => both(refusal, ffi::reassemble_int32(info, samples, literal, answer)),
-    }
+    answered(
+        answer,
+        samples,
+        |samples| wavpack_stereo::reassemble_int32(info, samples, literal).map(|bits| [bits]),
+        |samples, answer| ffi::reassemble_int32(info, samples, literal, answer),
+    )
 }
 
-pub fn deconstruct_int32(info: Int32Info, samples: &mut [i32], literal: &mut [u8], answer: &mut [u32]) -> u32 {
-    if watched() || answer.len() != 1 {
-        return ffi::deconstruct_int32(info, samples, literal, answer);
-    }
-    match wavpack_stereo::deconstruct_int32(info, samples, literal) {
-        Ok(bits) => {
-            answer[0] = bits as u32;
-            0
-        }
-        Err(refusal) => both(refusal, ffi::deconstruct_int32(info, samples, literal, answer)),
-    }
+pub fn deconstruct_int32(
+    info: Int32Info,
+    samples: &mut [i32],
+    literal: &mut [u8],
+    answer: &mut [u32],
+) -> u32 {
+    answered(
+        answer,
+        (samples, literal),
+        |(samples, literal)| wavpack_stereo::deconstruct_int32(info, samples, literal).map(|bits| [bits]),
+        |(samples, literal), answer| ffi::deconstruct_int32(info, samples, literal, answer),
+    )
 }

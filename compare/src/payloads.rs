@@ -45,7 +45,7 @@ pub fn plant_limit(random: &mut Random, entropy: &mut [u8]) {
     }
 }
 
-/// Payloads with each limit of the reach at each place, alone and with a negative median behind it or
+/// Payloads with each limit of the reach at each place, alone and with a negative median after it or
 /// before it, each 5 to 7 and 11 to 13 bytes long.
 pub fn around_reach() -> Vec<Vec<u8>> {
     let mut out = Vec::new();
@@ -84,7 +84,11 @@ pub fn silent_right(random: &mut Random) -> Vec<u8> {
 pub fn residuals(random: &mut Random, count: usize, bits: u32, silence: usize) -> Vec<i32> {
     let mut quiet = 0;
     let mut next = || {
-        quiet = if quiet == 0 && silence > 0 && random.once_in(silence) { random.below(200) } else { quiet.max(1) - 1 };
+        quiet = if quiet == 0 && silence > 0 && random.once_in(silence) {
+            random.below(200)
+        } else {
+            quiet.max(1) - 1
+        };
         if quiet > 0 || bits == 0 { 0 } else { (random.next() as i32) >> (32 - bits) }
     };
     (0..count).map(|_| next()).collect()

@@ -1,4 +1,4 @@
-//! Samples wider than the words, told from their rules alone (Q6.1 to Q6.6 of docs/PROVED.md): in
+//! Samples wider than the words, stated from their rules alone (Q6.1 to Q6.6 of docs/PROVED.md): in
 //! sums, products and quotients of whole numbers, and in lists of bits.
 use crate::fields::Bits;
 use wavpack_stereo::Int32Info;
@@ -45,11 +45,11 @@ pub fn image(info: Int32Info, sample: i32) -> i32 {
 /// With one bit known or more, these and no others of the sample give as many bits of its image and
 /// `width` more. Where these are the number's, both values of the sample's next bit are tried.
 fn is_image_of(info: Int32Info, number: i32, low: u32, known: u32) -> bool {
-    let told = known + width(info);
-    if known > 0 && (image(info, low as i32) ^ number).trailing_zeros() < told {
+    let fixed = known + width(info);
+    if known > 0 && (image(info, low as i32) ^ number).trailing_zeros() < fixed {
         return false;
     }
-    told == 32 || [low, low + (1 << known)].into_iter().any(|low| is_image_of(info, number, low, known + 1))
+    fixed == 32 || [low, low + (1 << known)].into_iter().any(|low| is_image_of(info, number, low, known + 1))
 }
 
 /// How many bytes hold the literal bits of so many samples; a field that is refused counts as the
@@ -75,7 +75,8 @@ pub fn reassemble(info: Int32Info, samples: &[i32], literal: &[u8]) -> Result<(u
         return Err(3);
     }
     let mut stream = literal.iter().flat_map(|&byte| (0..8).map(move |place| i64::from(byte >> place) % 2));
-    let mut below = || (0..info.sent_bits).zip(&mut stream).map(|(place, bit)| bit * power(place)).sum::<i64>();
+    let mut below =
+        || (0..info.sent_bits).zip(&mut stream).map(|(place, bit)| bit * power(place)).sum::<i64>();
     let wide = |&sample: &i32| image(info, kept(i64::from(sample) * power(info.sent_bits) + below()));
     Ok((bits as u32, samples.iter().map(wide).collect()))
 }

@@ -9,7 +9,7 @@ impl Random {
         Random { state: seed }
     }
 
-    /// What `new` takes to go on from here.
+    /// What `new` needs to go on from here.
     pub fn state(&self) -> u64 {
         self.state
     }

@@ -1,12 +1,12 @@
-//! What the published Rust makes of samples wider than the words, told as the rules (docs/PROVED.md)
-//! tell it. Its checksum is not looked at.
+//! What the published Rust makes of samples wider than the words, in the terms of the rules
+//! (docs/PROVED.md). Its checksum is not used.
 use crate::plain_int32::{MAX_FIELD, MAX_SAMPLES, literal_bytes};
 use crate::theirs::number;
 use reference::int32::{self, deconstruct_int32, reassemble_int32};
 use reference::samples::BitReader;
 use wavpack_stereo::Int32Info;
 
-/// How many bytes of a payload the checksum takes, before the literal bits.
+/// How many bytes of a payload the checksum has, before the literal bits.
 const CHECKSUM: usize = 4;
 
 /// The fields as the Rust holds them; none where one is larger than the rules take.
@@ -36,12 +36,13 @@ pub struct Apart {
     pub literal: Vec<u8>,
 }
 
-/// Deconstruction. The Rust puts a checksum before the literal bits, and behind them a zero byte
+/// Deconstruction. The Rust puts a checksum before the literal bits, and after them a zero byte
 /// where the number of bytes would else be odd; the rules have neither.
 pub fn deconstruct(samples: &[i32]) -> Apart {
     let apart = deconstruct_int32(samples);
     let int32::Int32Info { sent_bits, zeros, ones, dups } = apart.info;
-    let info = Int32Info { sent_bits: sent_bits.into(), zeros: zeros.into(), ones: ones.into(), dups: dups.into() };
+    let info =
+        Int32Info { sent_bits: sent_bits.into(), zeros: zeros.into(), ones: ones.into(), dups: dups.into() };
     let mut literal = apart.extension.map_or_else(Vec::new, |payload| payload[CHECKSUM..].to_vec());
     let length = literal_bytes(info, samples.len());
     assert!(literal.len() <= length + 1 && literal[length..].iter().all(|&byte| byte == 0));

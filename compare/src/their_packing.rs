@@ -1,17 +1,22 @@
-//! What the published Rust packs, told as the rules (docs/PROVED.md) tell it.
+//! What the published Rust packs, in the terms of the rules (docs/PROVED.md).
 use crate::theirs::{MAX_FRAMES, expanded, read};
 use reference::error::Error;
 use reference::samples::{encode_packed_samples_stereo, encode_packed_samples_stereo_from_entropy};
 use wavpack_stereo::{Packed, Reading, Slots};
 
-/// Packing takes residuals from -SPAN up to but without SPAN.
+/// Packing accepts residuals from -SPAN up to but without SPAN.
 pub const SPAN: i32 = 1_879_048_192;
 
 /// Packing: the seven numbers of its answer and the packed bytes, or the refusal number.
 ///
 /// The Rust pads to an even number of bytes with a zero byte, the rules do not (K8); the bits that
 /// were written are those that the Rust reads back.
-pub fn pack(residuals: &[i32], entropy: &[u8], frames: usize, room: usize) -> Result<([u32; 7], Vec<u8>), u32> {
+pub fn pack(
+    residuals: &[i32],
+    entropy: &[u8],
+    frames: usize,
+    room: usize,
+) -> Result<([u32; 7], Vec<u8>), u32> {
     if frames > MAX_FRAMES {
         return Err(5);
     }
@@ -28,7 +33,10 @@ pub fn pack(residuals: &[i32], entropy: &[u8], frames: usize, room: usize) -> Re
     let mut bytes = encode_packed_samples_stereo(residuals, &mut medians).expect("the span is encodable");
     // Its entry for an entropy payload packs the same bytes, and refuses a zero right set as mono.
     let whole = encode_packed_samples_stereo_from_entropy(residuals, &info);
-    assert_eq!(whole, if info.is_mono() { Err(Error::InvalidEntropyInfoForStereo) } else { Ok(bytes.clone()) });
+    assert_eq!(
+        whole,
+        if info.is_mono() { Err(Error::InvalidEntropyInfoForStereo) } else { Ok(bytes.clone()) }
+    );
     let (refusal, read, samples) = read(entropy, &bytes, frames, 2 * frames);
     assert!(refusal == 0 && samples == residuals, "the Rust reads back what it wrote");
     let bits_written = Reading::from_slots(read).bits_used;

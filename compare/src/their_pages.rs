@@ -1,11 +1,11 @@
-//! The morning page, told from its rules alone (Q5.1 to Q5.6 of docs/PROVED.md): the published Rust
+//! The morning page, stated from its rules alone (Q5.1 to Q5.6 of docs/PROVED.md): the published Rust
 //! has none.
 use std::iter::once;
 
 /// The most samples of the rules.
 pub const MAX_SAMPLES: usize = 262_144;
 
-/// How many frames a line tells of, and how many bytes it has.
+/// How many frames a line covers, and how many bytes it has.
 pub const BLOCK: usize = 1024;
 pub const LINE: usize = 45;
 
@@ -34,7 +34,8 @@ fn blocks(samples: &[i32], channel: usize, threshold: u32) -> Vec<(u32, usize)> 
 /// How many clicks a channel has in the whole recording: as many as it has stretches beyond the
 /// threshold, each of which begins with one.
 pub fn clicks(samples: &[i32], channel: usize, threshold: u32) -> usize {
-    let beyond: Vec<bool> = distances(samples, channel).into_iter().map(|distance| distance > threshold).collect();
+    let beyond: Vec<bool> =
+        distances(samples, channel).into_iter().map(|distance| distance > threshold).collect();
     beyond.chunk_by(bool::eq).filter(|stretch| stretch[0]).count()
 }
 

@@ -1,4 +1,4 @@
-//! What the published Rust answers about passes, told as the rules (docs/PROVED.md) tell it.
+//! What the published Rust answers about passes, in the terms of the rules (docs/PROVED.md).
 //!
 //! A pass is its slots. The Rust keeps the histories to itself: they are read from its Debug
 //! output, and set by way of term 8, whose seeds fill all eight places.
@@ -22,7 +22,7 @@ fn history(shown: &str, name: &str) -> [i32; 8] {
     numbers.collect::<Vec<i32>>().try_into().expect("a history holds eight")
 }
 
-fn told(pass: &DecorrPass) -> Pass {
+fn slots_of(pass: &DecorrPass) -> Pass {
     let shown = format!("{pass:?}");
     let weights = [Weight(pass.weight_a), Weight(pass.weight_b)];
     let histories = ["history_a", "history_b"].map(|name| history(&shown, name));
@@ -37,16 +37,16 @@ pub fn made(slots: &Pass) -> DecorrPass {
     seed_a.reverse();
     seed_b.reverse();
     let made = DecorrPass::new(8, pass.delta().0, weight_a.0, weight_b.0, &seed_a, &seed_b);
-    let mut out = made.expect("term 8 takes eight seeds");
+    let mut out = made.expect("term 8 has eight seeds");
     out.term = pass.term() as i8;
-    debug_assert_eq!(told(&out)[1..], slots[1..]);
+    debug_assert_eq!(slots_of(&out)[1..], slots[1..]);
     out
 }
 
 /// Pass making: the pass, or its refusal number.
 pub fn pass(term: i8, numbers: [i32; 3], seed_a: &[i32], seed_b: &[i32]) -> Result<Pass, u32> {
     match DecorrPass::new(term, numbers[0], numbers[1], numbers[2], seed_a, seed_b) {
-        Ok(pass) => Ok(told(&pass)),
+        Ok(pass) => Ok(slots_of(&pass)),
         Err(Error::InvalidDecorrelationTerm(_)) => Err(7),
         Err(Error::DecorrelationSeedUnderflow { .. }) => Err(8),
         Err(other) => unreachable!("{other:?} is no refusal of pass making"),
@@ -66,7 +66,7 @@ pub fn run(analyse: bool, passes: &[Pass], buffer: &[i32]) -> Result<(Vec<Pass>,
     let mut buffer = buffer.to_vec();
     let way = if analyse { recorrelate_stereo } else { decorrelate_stereo };
     match way(&mut theirs, &mut buffer) {
-        Ok(()) => Ok((theirs.iter().map(told).collect(), buffer)),
+        Ok(()) => Ok((theirs.iter().map(slots_of).collect(), buffer)),
         Err(Error::TooManyDecorrelationPasses(_)) => Err(9),
         Err(other) => unreachable!("{other:?} is no refusal of a list of passes"),
     }

@@ -1,4 +1,4 @@
-//! Sound files, told from their rules alone (Q1.1 to Q1.4 of docs/PROVED.md): the published Rust
+//! Sound files, stated from their rules alone (Q1.1 to Q1.4 of docs/PROVED.md): the published Rust
 //! has none.
 use std::ops::RangeInclusive;
 use wavpack_stereo::Wave;
@@ -16,7 +16,7 @@ pub const HEADER: usize = 44;
 /// are such a number too.
 pub type Field = (usize, u32);
 
-/// The header's fields for a rate and a number of bytes behind it; what the rules refuse is kept to
+/// The header's fields for a rate and a number of bytes after it; what the rules refuse is kept to
 /// 32 bits.
 #[rustfmt::skip]
 pub fn fields(rate: u32, data: u32) -> [Field; 13] {
@@ -29,12 +29,12 @@ pub fn fields(rate: u32, data: u32) -> [Field; 13] {
     ]
 }
 
-/// The bytes of fields, one behind the other.
+/// The bytes of fields, one after the other.
 pub fn laid(fields: &[Field]) -> Vec<u8> {
     fields.iter().flat_map(|&(bytes, value)| value.to_le_bytes().into_iter().take(bytes)).collect()
 }
 
-/// A file: the header for a rate, and these bytes behind it.
+/// A file: the header for a rate, and these bytes after it.
 pub fn file(rate: u32, data: &[u8]) -> Vec<u8> {
     [&laid(&fields(rate, data.len() as u32)), data].concat()
 }
@@ -71,12 +71,13 @@ pub fn import(bytes: &[u8], room: usize) -> Result<(Wave, Vec<i32>), u32> {
         return Err(5);
     }
     let (header, data) = bytes.split_at_checked(HEADER).ok_or(14_u32)?;
-    // The rate stands behind seven fields of 24 bytes.
+    // The rate stands after seven fields of 24 bytes.
     let rate = u32::from_le_bytes([header[24], header[25], header[26], header[27]]);
     if !RATES.contains(&rate) || data.len() % 4 != 0 || bytes != file(rate, data) {
         return Err(14);
     }
-    let samples: Vec<i32> = data.chunks_exact(2).map(|pair| i16::from_le_bytes([pair[0], pair[1]]).into()).collect();
+    let samples: Vec<i32> =
+        data.chunks_exact(2).map(|pair| i16::from_le_bytes([pair[0], pair[1]]).into()).collect();
     if room < samples.len() {
         return Err(11);
     }

@@ -1,4 +1,4 @@
-//! What the published Rust answers, told as the rules (docs/PROVED.md) tell it.
+//! What the published Rust answers, in the terms of the rules (docs/PROVED.md).
 //!
 //! A refusal is a number. Of a refused word only the number counts: the Rust has then already
 //! changed medians and flags, the rules hand back the old ones (D1.4). A reading's bits and medians
@@ -108,7 +108,7 @@ pub fn log_word(word: i16) -> Result<i32, u32> {
     Ok(value)
 }
 
-/// What an entropy payload expands to, or why it is refused: the Rust tells a wrong length, then the
+/// What an entropy payload expands to, or why it is refused: the Rust reports a wrong length, then the
 /// rule a log word out of reach (Q7.2).
 pub fn info(entropy: &[u8]) -> Result<EntropyInfo, u32> {
     let info = expand_entropy(entropy).map_err(|_| 1u32)?;
@@ -117,7 +117,7 @@ pub fn info(entropy: &[u8]) -> Result<EntropyInfo, u32> {
 
 /// What an entropy payload expands to and the medians that it seeds, or why it is refused.
 ///
-/// Its length alone tells mono from stereo (Q2.1). The Rust takes a zero right set for mono: its
+/// Its length alone separates mono from stereo (Q2.1). The Rust treats a zero right set as mono: its
 /// own seeds are none there, and must be these everywhere else.
 pub fn expanded(entropy: &[u8]) -> Result<(EntropyInfo, [AdaptiveMedians; 2]), u32> {
     let info = info(entropy)?;
@@ -164,11 +164,12 @@ pub fn read(entropy: &[u8], payload: &[u8], frames: usize, length: usize) -> (u3
         return before(6);
     }
     let (info, seeds) = match expanded(entropy) {
-        Ok(told) => told,
+        Ok(answered) => answered,
         Err(refusal) => return before(refusal),
     };
     let (mut reader, mut flags, mut medians) = (BitReader::new(payload), StereoDecodeState::new(), seeds);
-    let (mut refusal, mut state, mut samples) = (Ok(()), packed(0, &flags, &medians), Vec::with_capacity(length));
+    let (mut refusal, mut state, mut samples) =
+        (Ok(()), packed(0, &flags, &medians), Vec::with_capacity(length));
     while samples.len() < length && refusal.is_ok() {
         match decode_sample_stateful_stereo(&mut reader, &mut medians, &mut flags) {
             Ok(sample) => {
@@ -180,6 +181,6 @@ pub fn read(entropy: &[u8], payload: &[u8], frames: usize, length: usize) -> (u3
     }
     // The Rust's own reading answers the same samples, or refuses for the same reason.
     assert_eq!(whole(payload, &info, seeds, frames), refusal.clone().map(|()| samples.clone()));
-    let told = Reading { bits_used: state.place, medians: state.medians, written: samples.len() };
-    (refusal.map_or_else(number, |()| 0), told.slots(), samples)
+    let reading = Reading { bits_used: state.place, medians: state.medians, written: samples.len() };
+    (refusal.map_or_else(number, |()| 0), reading.slots(), samples)
 }

@@ -1,12 +1,14 @@
-//! Files with headers that are not, or not quite, those of a sound file that is taken.
+//! Files with headers that are not, or not quite, those of a sound file that is accepted.
 use crate::random::Random;
 use crate::their_waves::{Field, fields, file, laid};
 
 const RATE: u32 = 44_100;
 
 /// Numbers and letters that stand in headers of other files.
-const NUMBERS: [u32; 19] = [0, 1, 2, 3, 4, 6, 8, 12, 16, 18, 20, 24, 32, 36, 40, 44, 0xfffe, 0xffff, u32::MAX];
-const LETTERS: [[u8; 4]; 8] = [*b"RIFX", *b"RF64", *b"riff", *b"AIFF", *b"fmt\0", *b"fact", *b"LIST", *b"DATA"];
+const NUMBERS: [u32; 19] =
+    [0, 1, 2, 3, 4, 6, 8, 12, 16, 18, 20, 24, 32, 36, 40, 44, 0xfffe, 0xffff, u32::MAX];
+const LETTERS: [[u8; 4]; 8] =
+    [*b"RIFX", *b"RF64", *b"riff", *b"AIFF", *b"fmt\0", *b"fact", *b"LIST", *b"DATA"];
 
 /// What may stand in a field instead of a number: others, and those near it, wrapped ones too.
 fn instead(value: u32) -> Vec<u32> {
@@ -66,7 +68,7 @@ fn formats(data: &[u8]) -> Vec<Vec<u8>> {
     out
 }
 
-/// Format chunks of 18 and 40 bytes, and one more chunk behind the data.
+/// Format chunks of 18 and 40 bytes, and one more chunk after the data.
 fn chunks(data: &[u8]) -> Vec<Vec<u8>> {
     let with = |format: u32, last: &[u8]| {
         let mut other = fields(RATE, data.len() as u32);

@@ -19,6 +19,7 @@ static int decode(const uint8_t *file, size_t count, int32_t *samples)
     uint32_t written = answer[WV_READ_SLOTS - 1];
     for (uint32_t i = 0; i + 1 < written; i += 2)
         printf("%" PRId32 " %" PRId32 "\n", samples[i], samples[i + 1]);
+    fflush(stdout);
     if (refusal != WV_ACCEPTED)
         fprintf(stderr, "refused, %" PRIu32 ": %s\n", refusal, wv_refusal_text(refusal));
     return refusal == WV_ACCEPTED;

@@ -1,7 +1,7 @@
 //! The published Rust as a library: its files unchanged, and stand-ins for what they name and what
 //! was not published.
 //!
-//! No stand-in takes part in what is compared. `error` only tells the kinds of refusal apart; the
+//! No stand-in takes part in what is compared. `error` only separates the kinds of refusal; the
 //! hybrid and correction types are named by functions that nothing here calls.
 #![allow(clippy::all)]
 

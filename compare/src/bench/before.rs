@@ -19,7 +19,7 @@ unsafe extern "C" {
 pub fn read(entropy: &[u8], payload: &[u8], frames: usize, samples: &mut [i32]) -> u32 {
     let mut answer = [0; 8];
     // SAFETY: as `wv_read`, whose other name it is, it reads and writes nothing beyond the elements
-    // that it is given and keeps no pointer. All four are slices, whose lengths are told; only
+    // that it is given and keeps no pointer. All four are slices, whose lengths are given; only
     // `samples`, lent to this call alone, and `answer` are written.
     unsafe {
         before_wv_read(
@@ -32,7 +32,7 @@ pub fn read(entropy: &[u8], payload: &[u8], frames: usize, samples: &mut [i32]) 
 #[rustfmt::skip]
 pub fn word(payload: &[u8], state: &mut [u32], sample: &mut [i32], report: &mut [u32]) -> u32 {
     // SAFETY: as `wv_word`, whose other name it is, it reads and writes nothing beyond the elements
-    // that it is given and keeps no pointer. All four are slices, whose lengths are told; the three
+    // that it is given and keeps no pointer. All four are slices, whose lengths are given; the three
     // that are written are lent to this call alone.
     unsafe {
         before_wv_word(

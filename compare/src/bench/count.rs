@@ -1,5 +1,5 @@
 //! One call of one side, for a tool that counts the instructions of `counted`: the inputs are made
-//! before it, and the output is checked behind it.
+//! before it, and the output is checked after it.
 use super::passes::{self, sixteen};
 use super::reading::sounds;
 use super::{int32, int32_loops, pages, waves};
@@ -12,7 +12,9 @@ use crate::theirs::MAX_FRAMES;
 use reference::PackedSamples;
 use reference::decorrelation::{DecorrPass, decorrelate_stereo, recorrelate_stereo};
 use reference::entropy::expand_entropy;
-use reference::samples::{decode_packed_samples_stereo_from_entropy, encode_packed_samples_stereo_from_entropy};
+use reference::samples::{
+    decode_packed_samples_stereo_from_entropy, encode_packed_samples_stereo_from_entropy,
+};
 use wavpack_stereo::{BYTES_PER_FRAME, analyse, decorrelate, pack, read};
 
 /// The call, and nothing else.
@@ -82,7 +84,8 @@ fn sound_file(random: &mut Random, import: bool, ours: bool) {
 fn page(random: &mut Random, name: &str, ours: bool) -> Option<()> {
     let sound = pages::sounds(random).into_iter().find(|sound| sound.name.split(' ').next() == Some(name))?;
     let expected = their_pages::page(&sound.samples, sound.threshold, usize::MAX).unwrap();
-    let (mut out, write) = (vec![0x5a; expected.len()], if ours { pages::our_page } else { pages::loop_page });
+    let (mut out, write) =
+        (vec![0x5a; expected.len()], if ours { pages::our_page } else { pages::loop_page });
     counted(|| write(&sound.samples, sound.threshold, &mut out)).unwrap();
     assert!(out == expected);
     Some(())

@@ -34,52 +34,60 @@ pub fn input(random: &mut Random, sent_bits: u32, way: &str) -> Option<Input> {
         0 => (none, format!("{sent_bits} sent bits")),
         _ => (with_field(none, place, WIDTH), format!("{sent_bits} sent bits, {WIDTH} {way}")),
     };
-    let samples: Vec<i32> = (0..MAX_SAMPLES).map(|_| random.next() as i32 >> 8_u32.saturating_sub(sent_bits)).collect();
+    let samples: Vec<i32> =
+        (0..MAX_SAMPLES).map(|_| random.next() as i32 >> 8_u32.saturating_sub(sent_bits)).collect();
     let wide = images(info, &samples);
     let apart = plain_int32::deconstruct(info, &wide, usize::MAX).ok()?;
     Some(Input { name, info, wide, apart })
 }
 
 /// Reassembly by one side, and deconstruction: how many bits were read or written.
-pub type Reassemble = fn(Int32Info, &mut [i32], &[u8]) -> Option<usize>;
-pub type Deconstruct = fn(Int32Info, &mut [i32], &mut [u8]) -> Option<usize>;
+pub type Reassemble = fn(Int32Info, &mut [i32], &[u8]) -> Option<u32>;
+pub type Deconstruct = fn(Int32Info, &mut [i32], &mut [u8]) -> Option<u32>;
 
-pub fn our_reassemble(info: Int32Info, samples: &mut [i32], literal: &[u8]) -> Option<usize> {
+pub fn our_reassemble(info: Int32Info, samples: &mut [i32], literal: &[u8]) -> Option<u32> {
     wavpack_stereo::reassemble_int32(info, samples, literal).ok()
 }
 
-pub fn our_deconstruct(info: Int32Info, samples: &mut [i32], literal: &mut [u8]) -> Option<usize> {
+pub fn our_deconstruct(info: Int32Info, samples: &mut [i32], literal: &mut [u8]) -> Option<u32> {
     wavpack_stereo::deconstruct_int32(info, samples, literal).ok()
 }
 
-fn their_reassemble(info: Int32Info, samples: &mut [i32], literal: &[u8]) -> Option<usize> {
+fn their_reassemble(info: Int32Info, samples: &mut [i32], literal: &[u8]) -> Option<u32> {
     let mut reader = BitReader::new(literal);
     reassemble_int32(samples, &published(info)?, Some(&mut reader)).ok()?;
-    Some(reader.bits_consumed())
+    u32::try_from(reader.bits_consumed()).ok()
 }
 
 fn reassemble_turn(input: &Input, reassemble: Reassemble, samples: &mut [i32]) -> Duration {
     let Apart { samples: narrow, bits, literal } = &input.apart;
     samples.copy_from_slice(narrow);
     let (time, read) = timed(|| reassemble(input.info, samples, literal));
-    assert!(read == Some(*bits as usize) && samples == input.wide, "{}: other samples", input.name);
+    assert!(read == Some(*bits) && samples == input.wide, "{}: other samples", input.name);
     time
 }
 
-fn deconstruct_turn(input: &Input, deconstruct: Deconstruct, samples: &mut [i32], storage: &mut [u8]) -> Duration {
+fn deconstruct_turn(
+    input: &Input,
+    deconstruct: Deconstruct,
+    samples: &mut [i32],
+    storage: &mut [u8],
+) -> Duration {
     let Apart { samples: narrow, bits, literal } = &input.apart;
     samples.copy_from_slice(&input.wide);
     storage.fill(0x5a);
     let (time, written) = timed(|| deconstruct(input.info, samples, storage));
-    assert!(written == Some(*bits as usize) && samples == narrow, "{}: other samples are left", input.name);
+    assert!(written == Some(*bits) && samples == narrow, "{}: other samples are left", input.name);
     assert!(storage[..literal.len()] == *literal, "{}: other literal bits", input.name);
     time
 }
 
 fn reassemble_rows(input: &Input) {
     let [mut ours, mut theirs] = [vec![0; MAX_SAMPLES], vec![0; MAX_SAMPLES]];
-    let sides =
-        [("a plain loop", int32_loops::reassemble as Reassemble), ("published, with checksum", their_reassemble)];
+    let sides = [
+        ("a plain loop", int32_loops::reassemble as Reassemble),
+        ("published, with checksum", their_reassemble),
+    ];
     for (what, reassemble) in sides {
         row(
             &format!("reassembly, {} (the Rust: {what})", input.name),
@@ -90,15 +98,21 @@ fn reassemble_rows(input: &Input) {
 }
 
 fn deconstruct_rows(input: &Input) {
-    let [mut ours, mut theirs] = [(); 2].map(|()| (vec![0; MAX_SAMPLES], vec![0; BYTES_PER_SAMPLE * MAX_SAMPLES]));
+    let [mut ours, mut theirs] =
+        [(); 2].map(|()| (vec![0; MAX_SAMPLES], vec![0; BYTES_PER_SAMPLE * MAX_SAMPLES]));
     let mut our_turn = || deconstruct_turn(input, our_deconstruct, &mut ours.0, &mut ours.1);
     row(&format!("deconstruction, {} (the Rust: a plain loop)", input.name), &mut our_turn, || {
         deconstruct_turn(input, int32_loops::deconstruct, &mut theirs.0, &mut theirs.1)
     });
     let chosen = their_int32::deconstruct(&input.wide);
     if chosen.info == input.info {
-        assert!(chosen.samples == input.apart.samples && chosen.literal == input.apart.literal, "{}", input.name);
-        let name = format!("deconstruction, {} (the Rust: published, finds the fields, with checksum)", input.name);
+        assert!(
+            chosen.samples == input.apart.samples && chosen.literal == input.apart.literal,
+            "{}",
+            input.name
+        );
+        let name =
+            format!("deconstruction, {} (the Rust: published, finds the fields, with checksum)", input.name);
         row(&name, our_turn, || timed(|| deconstruct_int32(&input.wide)).0);
     }
 }

@@ -9,7 +9,7 @@ fn mask(bits: u32) -> u32 {
     (1 << bits) - 1
 }
 
-/// Whether fields and samples are taken.
+/// Whether fields and samples are accepted.
 fn in_order(info: Int32Info, samples: &[i32]) -> bool {
     let Int32Info { sent_bits, zeros, ones, dups } = info;
     sent_bits.max(zeros).max(ones).max(dups) <= MAX_FIELD && samples.len() <= MAX_SAMPLES
@@ -42,14 +42,16 @@ fn put_together(samples: &mut [i32], literal: &[u8], sent_bits: u32, put_in: imp
 }
 
 /// Reassembly: how many bits were read; none where the rules refuse.
-pub fn reassemble(info: Int32Info, samples: &mut [i32], literal: &[u8]) -> Option<usize> {
+pub fn reassemble(info: Int32Info, samples: &mut [i32], literal: &[u8]) -> Option<u32> {
     if !in_order(info, samples) {
         return None;
     }
     let (literal, width) = (literal.get(..literal_bytes(info, samples.len()))?, width(info));
     let below = mask(width) as i32;
     match info {
-        Int32Info { sent_bits, zeros: 1.., .. } => put_together(samples, literal, sent_bits, |sample| sample << width),
+        Int32Info { sent_bits, zeros: 1.., .. } => {
+            put_together(samples, literal, sent_bits, |sample| sample << width)
+        }
         Int32Info { sent_bits, ones: 1.., .. } => {
             put_together(samples, literal, sent_bits, |sample| sample << width | below)
         }
@@ -58,7 +60,7 @@ pub fn reassemble(info: Int32Info, samples: &mut [i32], literal: &[u8]) -> Optio
         }
         Int32Info { sent_bits, .. } => put_together(samples, literal, sent_bits, |sample| sample),
     }
-    Some(samples.len() * info.sent_bits as usize)
+    Some(samples.len() as u32 * info.sent_bits)
 }
 
 /// Whether every sample ends in the bits that are taken out: what differs is gathered, so that no
@@ -99,10 +101,13 @@ fn take_apart(samples: &mut [i32], literal: &mut [u8], sent_bits: u32, width: u3
 }
 
 /// Deconstruction: how many bits were written; none where the rules refuse.
-pub fn deconstruct(info: Int32Info, samples: &mut [i32], literal: &mut [u8]) -> Option<usize> {
-    if !in_order(info, samples) || literal.len() < BYTES_PER_SAMPLE * samples.len() || !reinsertable(info, samples) {
+pub fn deconstruct(info: Int32Info, samples: &mut [i32], literal: &mut [u8]) -> Option<u32> {
+    if !in_order(info, samples)
+        || literal.len() < BYTES_PER_SAMPLE * samples.len()
+        || !reinsertable(info, samples)
+    {
         return None;
     }
     take_apart(samples, &mut literal[..literal_bytes(info, samples.len())], info.sent_bits, width(info));
-    Some(samples.len() * info.sent_bits as usize)
+    Some(samples.len() as u32 * info.sent_bits)
 }

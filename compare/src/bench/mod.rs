@@ -57,7 +57,9 @@ fn row_of(name: &str, turns: usize, mut before: Option<Turn<'_>>, ours: Turn<'_>
     match (BEFORE, before) {
         (None, _) => println!("| {name} | {times} | {factor} |"),
         (Some(_), None) => println!("| {name} | | {times} | | {factor} |"),
-        (Some(_), Some(_)) => println!("| {name} | {earlier:.3} | {times} | {:.2} | {factor} |", earlier / ours),
+        (Some(_), Some(_)) => {
+            println!("| {name} | {earlier:.3} | {times} | {:.2} | {factor} |", earlier / ours)
+        }
     }
 }
 
@@ -71,9 +73,10 @@ pub fn run(seed: u64) {
     println!("{MAX_FRAMES} frames, best of {TURNS} turns each, milliseconds\n");
     match BEFORE {
         None => println!("| input | ours | the Rust | times as fast |\n|---|---:|---:|---:|"),
-        Some(_) => println!(
-            "| input | before | now | the Rust | times as fast as before | as the Rust |\n|---|---:|---:|---:|---:|---:|"
-        ),
+        Some(_) => {
+            println!("| input | before | now | the Rust | times as fast as before | as the Rust |");
+            println!("|---|---:|---:|---:|---:|---:|");
+        }
     }
     let random = &mut Random::new(seed);
     let sounds = reading::sounds(random);

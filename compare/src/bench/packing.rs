@@ -14,7 +14,8 @@ fn pack(name: &str, sound: &Sound) {
     let mut out = vec![0; BYTES_PER_FRAME * MAX_FRAMES];
     let ours = || {
         out.fill(0x5a);
-        let (time, packed) = timed(|| wavpack_stereo::pack(residuals, entropy, MAX_FRAMES, &mut out).unwrap());
+        let (time, packed) =
+            timed(|| wavpack_stereo::pack(residuals, entropy, MAX_FRAMES, &mut out).unwrap());
         let length = packed.bytes();
         assert!(out[..length] == expected[..length], "{name}: ours packs something else");
         time

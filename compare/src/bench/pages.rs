@@ -29,7 +29,7 @@ pub fn sounds(random: &mut Random) -> [Sound; 3] {
     ]
 }
 
-/// Writes a number at the end of a column, behind spaces.
+/// Writes a number at the end of a column, after spaces.
 fn write_column(column: &mut [u8], mut number: u32) {
     column.fill(b' ');
     for byte in column.iter_mut().rev() {
@@ -82,7 +82,7 @@ pub fn loop_page(samples: &[i32], threshold: u32, page: &mut [u8]) -> Option<usi
     Some(page_bytes(samples.len()))
 }
 
-/// How many samples are taken at once.
+/// How many samples are read at once.
 const LANES: usize = 16;
 
 /// The page without a branch for any sample: each beside the one before it in its channel. Distances
@@ -109,7 +109,12 @@ fn lanes_page(samples: &[i32], threshold: u32, page: &mut [u8]) -> Option<usize>
         let channels = |lanes: [u32; LANES], join: fn(u32, u32) -> u32| {
             [0, 1].map(|channel| lanes.into_iter().skip(channel).step_by(2).fold(0, join))
         };
-        write_line(line, number, channels(lowest.map(i32::unsigned_abs), u32::max), channels(clicks, |a, b| a + b));
+        write_line(
+            line,
+            number,
+            channels(lowest.map(i32::unsigned_abs), u32::max),
+            channels(clicks, |a, b| a + b),
+        );
     }
     Some(page_bytes(samples.len()))
 }
@@ -132,7 +137,9 @@ pub fn run(random: &mut Random) {
     for sound in &sounds(random) {
         let page = their_pages::page(&sound.samples, sound.threshold, usize::MAX).unwrap();
         let [mut ours, mut theirs] = [vec![0; page.len()], vec![0; page.len()]];
-        for (what, write) in [("a loop over the frames", loop_page as Write), ("16 samples at once", lanes_page)] {
+        for (what, write) in
+            [("a loop over the frames", loop_page as Write), ("16 samples at once", lanes_page)]
+        {
             row(
                 &format!("morning page, {} (the Rust: {what})", sound.name),
                 || turn(our_page, sound, &page, &mut ours),

@@ -16,9 +16,20 @@ pub fn pass(random: &mut Random, term: i8) -> Pass {
     pass
 }
 
-/// Both sides by a list of passes, of which each call takes a part. What they leave is compared with
+/// The calls by a list of passes that is cut there: in analysis the last part is undone first.
+fn calls(back: bool, ends: &[usize]) -> Vec<Range<usize>> {
+    let mut start = 0;
+    let mut calls: Vec<_> = ends.iter().map(|&end| std::mem::replace(&mut start, end)..end).collect();
+    if back {
+        calls.reverse();
+    }
+    calls
+}
+
+/// Both sides by a list of passes, in calls by the parts that end there. What they leave is compared with
 /// what the Rust leaves in one call.
-fn turn(name: &str, back: bool, passes: &[Pass], calls: &[Range<usize>], buffer: &[i32]) {
+fn turn(name: &str, back: bool, passes: &[Pass], ends: &[usize], buffer: &[i32]) {
+    let calls = calls(back, ends);
     let theirs_made: Vec<DecorrPass> = passes.iter().map(made).collect();
     let ours_way = if back { analyse } else { decorrelate };
     let their_way = if back { recorrelate_stereo } else { decorrelate_stereo };
@@ -56,14 +67,12 @@ pub fn run(random: &mut Random) {
     let buffer = buffer(random);
     for (what, back) in [("decorrelation", false), ("analysis", true)] {
         for term in TERMS {
-            turn(&format!("{what}, term {term}"), back, &[pass(random, term)], &[0..1], &buffer);
+            turn(&format!("{what}, term {term}"), back, &[pass(random, term)], &[1], &buffer);
         }
         let mut list = |terms: &[i8]| -> Vec<Pass> { terms.iter().map(|&term| pass(random, term)).collect() };
         let (five, sixteen) = (list(&[18, 18, 2, 17, 3]), list(&sixteen()));
-        turn(&format!("{what}, 5 passes"), back, &five, &[0..5], &buffer);
-        turn(&format!("{what}, 16 passes"), back, &sixteen, &[0..16], &buffer);
-        // In analysis the second list is undone before the first.
-        let calls = if back { [5..16, 0..5] } else { [0..5, 5..16] };
-        turn(&format!("{what}, 16 passes in two calls"), back, &sixteen, &calls, &buffer);
+        turn(&format!("{what}, 5 passes"), back, &five, &[5], &buffer);
+        turn(&format!("{what}, 16 passes"), back, &sixteen, &[16], &buffer);
+        turn(&format!("{what}, 16 passes in two calls"), back, &sixteen, &[5, 16], &buffer);
     }
 }

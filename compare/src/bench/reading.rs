@@ -6,7 +6,9 @@ use crate::random::Random;
 use crate::theirs::{MAX_BYTES, MAX_FRAMES, number};
 use reference::PackedSamples;
 use reference::entropy::expand_entropy;
-use reference::samples::{decode_packed_samples_stereo_from_entropy, encode_packed_samples_stereo_from_entropy};
+use reference::samples::{
+    decode_packed_samples_stereo_from_entropy, encode_packed_samples_stereo_from_entropy,
+};
 use std::time::Duration;
 use wavpack_stereo::Refusal;
 
@@ -22,7 +24,8 @@ pub struct Sound {
 
 /// Silence with a residual of `bits` bits once in `often`.
 fn seldom(random: &mut Random, often: usize, bits: u32) -> Vec<i32> {
-    let value = |random: &mut Random| if random.once_in(often) { (random.next() as i32) >> (32 - bits) } else { 0 };
+    let value =
+        |random: &mut Random| if random.once_in(often) { (random.next() as i32) >> (32 - bits) } else { 0 };
     (0..2 * MAX_FRAMES).map(|_| value(random)).collect()
 }
 
@@ -35,8 +38,11 @@ pub fn sounds(random: &mut Random) -> Vec<Sound> {
         ("many ones (8 bits, one in 4)", 1, seldom(random, 4, 8)),
         ("silence", 1, vec![0; 2 * MAX_FRAMES]),
     ];
-    let sound =
-        |(name, bits, residuals): (_, i16, _)| Sound { name, entropy: entropy_of([256 * bits + 1; 6]), residuals };
+    let sound = |(name, bits, residuals): (_, i16, _)| Sound {
+        name,
+        entropy: entropy_of([256 * bits + 1; 6]),
+        residuals,
+    };
     inputs.into_iter().map(sound).collect()
 }
 
@@ -71,7 +77,8 @@ impl Input<'_> {
         let [mut samples_before, mut samples_now] = [vec![0; 2 * frames], vec![0; 2 * frames]];
         let mut before = BEFORE.map(|read| move || self.lent_turn(read, &mut samples_before));
         let mut theirs = || {
-            let (time, samples) = timed(|| decode_packed_samples_stereo_from_entropy(&packed, &info, *frames));
+            let (time, samples) =
+                timed(|| decode_packed_samples_stereo_from_entropy(&packed, &info, *frames));
             let answer = samples.map_err(number);
             assert!(answer.as_deref() == expected.as_ref().copied(), "{name}: the Rust reads something else");
             time
@@ -83,7 +90,8 @@ impl Input<'_> {
 
 pub fn run(sounds: &[Sound]) {
     for Sound { name, entropy, residuals } in sounds {
-        let payload = encode_packed_samples_stereo_from_entropy(residuals, &expand_entropy(entropy).unwrap()).unwrap();
+        let payload =
+            encode_packed_samples_stereo_from_entropy(residuals, &expand_entropy(entropy).unwrap()).unwrap();
         let (name, expected) = (&format!("reading, {name}"), Ok(&residuals[..]));
         Input { name, entropy, payload: &payload, frames: MAX_FRAMES, expected }.row(TURNS);
     }

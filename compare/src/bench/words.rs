@@ -39,6 +39,8 @@ pub fn run(sounds: &[Sound]) {
         let mut before = BEFORE_WORD.map(|word| move || lent_turn(word, sound, payload));
         let before = before.as_mut().map(|turn| turn as Turn<'_>);
         let name = &format!("one word a call, {}", sound.name);
-        row_of(name, TURNS, before, &mut || lent_turn(ffi::word, sound, payload), &mut || their_turn(sound, payload));
+        row_of(name, TURNS, before, &mut || lent_turn(ffi::word, sound, payload), &mut || {
+            their_turn(sound, payload)
+        });
     }
 }

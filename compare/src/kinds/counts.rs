@@ -19,16 +19,16 @@ fn word(payload: Vec<u8>, start: usize, mut state: State) -> Word {
     Word { payload, state, slots: SLOTS }
 }
 
-/// Ones from `start` up to `zero`, in a payload of `end` bits, with any bits before and behind.
+/// Ones from `start` up to `zero`, in a payload of `end` bits, with any bits before and after.
 fn count(run: &mut Run, start: usize, zero: usize, end: usize) -> Result<(), Failed> {
-    let (before, behind) = (start.min(end), end.saturating_sub(zero + 1));
+    let (before, after) = (start.min(end), end.saturating_sub(zero + 1));
     for fill_before in 0..=before.min(1) {
-        for fill_behind in 0..=behind.min(2) {
+        for fill_after in 0..=after.min(2) {
             let mut bits = Bits::default();
             bits.filled(before, fill_before, &mut run.random);
             bits.ones(zero - before);
-            bits.filled(behind, fill_behind, &mut run.random);
-            // A zero at the end is none: it lies behind the payload.
+            bits.filled(after, fill_after, &mut run.random);
+            // A zero at the end is none: it lies after the payload.
             bits.0.truncate(end);
             for state in [RUN, PREFIX, PREFIX_AND_SIGN] {
                 run.agree(word(bits.bytes(), start, state))?;

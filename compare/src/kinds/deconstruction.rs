@@ -38,14 +38,14 @@ impl Deconstruction {
     }
 
     /// Whether our reassembly gives the samples back, from just the literal bits and with whatever
-    /// stands behind them, and the published Rust does.
+    /// stands after them, and the published Rust does.
     fn comes_back(&self, left: &[i32], literal: &[u8], bits: u32) -> Result<(), String> {
         let bytes = (bits as usize).div_ceil(8);
-        let mut behind = literal.to_vec();
-        if let (Some(last), used @ 1..) = (behind[..bytes].last_mut(), bits % 8) {
+        let mut after = literal.to_vec();
+        if let (Some(last), used @ 1..) = (after[..bytes].last_mut(), bits % 8) {
             *last |= 0xff << used;
         }
-        for literal in [&literal[..bytes], &behind] {
+        for literal in [&literal[..bytes], &after] {
             let (mut samples, mut literal) = (Lent::holding(left), Lent::holding(literal));
             let mut answer = Lent::marked(1);
             let refusal = ours::reassemble_int32(self.info, samples.list(), literal.list(), answer.list());
@@ -68,8 +68,8 @@ impl Case for Deconstruction {
         let (mut samples, mut literal) = (Lent::holding(&self.samples), Lent::marked(self.room));
         let mut answer = Lent::marked(self.slots);
         let refusal = ours::deconstruct_int32(self.info, samples.list(), literal.list(), answer.list());
-        let told = plain_int32::deconstruct(self.info, &self.samples, self.room);
-        match if self.slots < 1 { Err(6) } else { told } {
+        let stated = plain_int32::deconstruct(self.info, &self.samples, self.room);
+        match if self.slots < 1 { Err(6) } else { stated } {
             Ok(apart) => {
                 same("refusal", &refusal, &0)?;
                 samples.written("samples", &apart.samples)?;
@@ -200,7 +200,12 @@ fn largest(run: &mut Run) -> Result<(), Failed> {
         case.samples[place] ^= 1;
         run.agree(case)?;
     }
-    run.agree(Deconstruction { info: info_of([31, 0, 0, 1]), samples: vec![3, -1, 0], room: 4 << 20, slots: 1 })
+    run.agree(Deconstruction {
+        info: info_of([31, 0, 0, 1]),
+        samples: vec![3, -1, 0],
+        room: 4 << 20,
+        slots: 1,
+    })
 }
 
 /// Mostly a short list of images, at times with one thing that is refused.

@@ -12,8 +12,8 @@ use wavpack_stereo::Slots;
 /// Log words at the ends of a rule: the canonical zero, the shift's pivot, the reach and the words
 /// whose bits are shifted out, the ends of 16 bits.
 const ENDS: [i16; 22] = [
-    0, 1, 255, 256, 257, 2303, 2304, 2559, 2560, 8191, 8192, 8447, 8448, 32767, -1, -255, -256, -257, -8191, -8192,
-    -32767, -32768,
+    0, 1, 255, 256, 257, 2303, 2304, 2559, 2560, 8191, 8192, 8447, 8448, 32767, -1, -255, -256, -257, -8191,
+    -8192, -32767, -32768,
 ];
 
 #[derive(Clone, Debug)]
@@ -66,7 +66,9 @@ pub fn payload(random: &mut Random, length: usize) -> Vec<u8> {
 
 /// Every log word at each place of 6 and of 12 bytes, and limits of the reach with other faults.
 fn words(run: &mut Run) -> Result<(), Failed> {
-    for (length, place) in [6, 12].into_iter().flat_map(|length| (0..length).step_by(2).map(move |at| (length, at))) {
+    for (length, place) in
+        [6, 12].into_iter().flat_map(|length| (0..length).step_by(2).map(move |at| (length, at)))
+    {
         for word in i16::MIN..=i16::MAX {
             let mut payload = [0, 4].repeat(length / 2);
             payload[place..place + 2].copy_from_slice(&word.to_le_bytes());

@@ -51,7 +51,9 @@ impl Joined {
                 Ok(left) => left,
                 refused => return Ok(refused),
             };
-            return Ok(call(self, &self.first, &between)?.map(|(first, buffer)| ([first, second].concat(), buffer)));
+            return Ok(
+                call(self, &self.first, &between)?.map(|(first, buffer)| ([first, second].concat(), buffer))
+            );
         }
         let (first, between) = match call(self, &self.first, &self.buffer)? {
             Ok(left) => left,
@@ -101,7 +103,9 @@ impl Case for Joined {
 pub fn run(run: &mut Run) -> Result<(), Failed> {
     // Every pair of lengths up to 16, of which nearly half are over 16 together.
     for round in 0..40 * run.scale {
-        for (first, second) in (0..=MAX_PASSES).flat_map(|first| (0..=MAX_PASSES).map(move |second| (first, second))) {
+        for (first, second) in
+            (0..=MAX_PASSES).flat_map(|first| (0..=MAX_PASSES).map(move |second| (first, second)))
+        {
             let random = &mut run.random;
             let length = random.below(36);
             let (first, second) = (list(random, first), list(random, second));
@@ -120,7 +124,12 @@ fn largest(run: &mut Run) -> Result<(), Failed> {
             let (first, second) = (list(random, first), list(random, second));
             let buffer = buffer(random, length);
             for analyse in [false, true] {
-                run.agree(Joined { analyse, first: first.clone(), second: second.clone(), buffer: buffer.clone() })?;
+                run.agree(Joined {
+                    analyse,
+                    first: first.clone(),
+                    second: second.clone(),
+                    buffer: buffer.clone(),
+                })?;
             }
         }
     }

@@ -16,9 +16,9 @@ impl Case for LogWord {
         let mut value = Lent::marked(self.slots);
         let refusal = ours::log_word(self.word, value.list());
         match if self.slots < 1 { Err(6) } else { theirs::log_word(self.word) } {
-            Ok(told) => {
+            Ok(expanded) => {
                 same("refusal", &refusal, &0)?;
-                value.written("value", &[told])?;
+                value.written("value", &[expanded])?;
             }
             Err(number) => {
                 same("refusal", &refusal, &number)?;

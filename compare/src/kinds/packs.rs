@@ -43,9 +43,9 @@ impl Case for Pack {
             return Ok(refusal);
         }
         match their_packing::pack(&self.residuals, &self.entropy, self.frames, self.room) {
-            Ok((told, bytes)) => {
+            Ok((answered, bytes)) => {
                 same("refusal", &refusal, &0)?;
-                answer.written("answer", &told)?;
+                answer.written("answer", &answered)?;
                 out.written("out", &bytes)?;
             }
             Err(number) => {

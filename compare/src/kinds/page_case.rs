@@ -1,5 +1,5 @@
 //! A morning page: what it is made of, its comparison, and how it is made smaller. The clicks that
-//! the lines tell are summed and compared with those of the whole recording.
+//! the lines have are summed and compared with those of the whole recording.
 use crate::case::{Case, Smaller, plainer, same, same_list, shorter};
 use crate::lent::Lent;
 use crate::ours;
@@ -20,7 +20,8 @@ impl fmt::Debug for Page {
     /// A block is long, and most of it is 0 where it was made smaller: only the others are shown.
     fn fmt(&self, f: &mut fmt::Formatter<'_>) -> fmt::Result {
         let others = self.samples.iter().enumerate().filter(|&(_, &sample)| sample != 0);
-        let shown: Vec<String> = others.take(64).map(|(place, sample)| format!("{place}: {sample}")).collect();
+        let shown: Vec<String> =
+            others.take(64).map(|(place, sample)| format!("{place}: {sample}")).collect();
         write!(f, "Page {{ {} samples, of these not 0: [{}], ", self.samples.len(), shown.join(", "))?;
         write!(f, "threshold: {}, room: {}, slots: {} }}", self.threshold, self.room, self.slots)
     }
@@ -34,7 +35,8 @@ fn lines(page: &[u8]) -> Vec<String> {
 /// Each channel's clicks, which stand in a line's last two columns, summed over the lines; none where
 /// a column holds no number.
 fn summed_clicks(page: &[u8]) -> [Option<usize>; 2] {
-    let clicks = |line: &String, column: &Range<usize>| line.get(column.clone())?.trim_start().parse::<usize>().ok();
+    let clicks =
+        |line: &String, column: &Range<usize>| line.get(column.clone())?.trim_start().parse::<usize>().ok();
     [28..36, 36..44].map(|column| lines(page).iter().map(|line| clicks(line, &column)).sum())
 }
 
@@ -71,9 +73,11 @@ impl Page {
         let samples = || self.samples.iter().copied();
         let loud = samples().map(|sample| (sample.unsigned_abs() > self.threshold).into()).collect();
         let half = samples().map(|sample| sample / 2).collect();
-        let silent =
-            |silent| samples().enumerate().map(|(i, sample)| if i % 2 == silent { 0 } else { sample }).collect();
-        let numbers = [(loud, 0), (half, self.threshold / 2), (silent(0), self.threshold), (silent(1), self.threshold)];
+        let silent = |silent| {
+            samples().enumerate().map(|(i, sample)| if i % 2 == silent { 0 } else { sample }).collect()
+        };
+        let numbers =
+            [(loud, 0), (half, self.threshold / 2), (silent(0), self.threshold), (silent(1), self.threshold)];
         let others = numbers.into_iter().map(|(samples, threshold)| Page { samples, threshold, ..*self });
         others.filter(|other| other.samples != self.samples)
     }
@@ -86,7 +90,8 @@ impl Page {
         let without_blocks = without_blocks.into_iter().map(|blocks| blocks.concat());
         let (frames, rest) = self.samples.as_chunks::<2>();
         let first = below(frames.len() as u32).map(|count| frames[..count as usize].to_vec());
-        let without_frames = first.chain(shorter(frames)).map(move |frames| [frames.as_flattened(), rest].concat());
+        let without_frames =
+            first.chain(shorter(frames)).map(move |frames| [frames.as_flattened(), rest].concat());
         without_blocks.chain(without_frames).map(|samples| self.with_samples(samples))
     }
 }
@@ -101,12 +106,12 @@ impl Case for Page {
         match if self.slots < 1 { Err(6) } else { theirs } {
             Ok(text) => {
                 same("refusal", &refusal, &0)?;
-                let told = page.list()[..text.len()].to_vec();
-                same_list("line", &lines(&told), &lines(&text))?;
+                let shown = page.list()[..text.len()].to_vec();
+                same_list("line", &lines(&shown), &lines(&text))?;
                 page.written("page", &text)?;
                 answer.written("answer", &[text.len() as u32])?;
                 let clicks = |channel| Some(their_pages::clicks(&self.samples, channel, self.threshold));
-                same("summed clicks", &summed_clicks(&told), &[0, 1].map(clicks))?;
+                same("summed clicks", &summed_clicks(&shown), &[0, 1].map(clicks))?;
             }
             Err(number) => {
                 same("refusal", &refusal, &number)?;

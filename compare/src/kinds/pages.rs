@@ -69,7 +69,8 @@ fn edges(run: &mut Run) -> Result<(), Failed> {
     for threshold in [0, 1000, FARTHEST - 1] {
         for edge in [BLOCK, 2 * BLOCK] {
             for set in 0..256 {
-                let loud = |frame, channel| frame + 2 >= edge && set >> (2 * (frame + 2 - edge) + channel) & 1 == 1;
+                let loud =
+                    |frame, channel| frame + 2 >= edge && set >> (2 * (frame + 2 - edge) + channel) & 1 == 1;
                 let case = pattern(&mut run.random, threshold, edge + 2, loud);
                 run.agree(case)?;
             }
@@ -137,7 +138,8 @@ fn largest(run: &mut Run) -> Result<(), Failed> {
 fn random_page(random: &mut Random) -> Page {
     let most = if random.once_in(32) { 3000 } else { 30 };
     let (frames, sound) = (random.below(most), random.pick(&SOUNDS));
-    let threshold = if random.once_in(4) { random.pick(&THRESHOLDS) } else { random.next() as u32 >> random.below(32) };
+    let threshold =
+        if random.once_in(4) { random.pick(&THRESHOLDS) } else { random.next() as u32 >> random.below(32) };
     let list = samples(random, sound, threshold, frames);
     let threshold = if random.once_in(2) { near(random, &list) } else { threshold };
     let mut case = whole_page(list, threshold);

@@ -12,7 +12,7 @@ use wavpack_stereo::{analyse, decorrelate, ffi};
 pub struct Passes {
     pub analyse: bool,
     pub passes: Vec<Pass>,
-    /// How many numbers of one more pass stand behind the list.
+    /// How many numbers of one more pass stand after the list.
     pub rest: usize,
     pub buffer: Vec<i32>,
 }
@@ -114,7 +114,8 @@ pub fn list(random: &mut Random, count: usize) -> Vec<Pass> {
         out.push(pass(random, term));
     }
     if count > 0 && random.once_in(12) {
-        let bad = random.pick(&[0, 9, 16, 19, -4, -128, 127, 128, 255, 257, 273, -255, -259, i32::MAX, i32::MIN]);
+        let bad =
+            random.pick(&[0, 9, 16, 19, -4, -128, 127, 128, 255, 257, 273, -255, -259, i32::MAX, i32::MIN]);
         out[random.below(count)][0] = bad;
     }
     out
@@ -147,8 +148,11 @@ pub fn run(run: &mut Run) -> Result<(), Failed> {
 /// Buffers of the largest size, one below and one above, through each term and through 16 and 17
 /// passes.
 fn largest(run: &mut Run) -> Result<(), Failed> {
-    let lists: Vec<Vec<i8>> =
-        TERMS.iter().map(|&term| vec![term]).chain([vec![], TERMS.to_vec(), vec![18; 16], vec![1; 17]]).collect();
+    let lists: Vec<Vec<i8>> = TERMS
+        .iter()
+        .map(|&term| vec![term])
+        .chain([vec![], TERMS.to_vec(), vec![18; 16], vec![1; 17]])
+        .collect();
     for (i, terms) in lists.iter().enumerate() {
         let random = &mut run.random;
         let passes: Vec<Pass> = terms.iter().map(|&term| pass(random, term)).collect();

@@ -26,7 +26,12 @@ pub struct Read {
 impl fmt::Debug for Read {
     fn fmt(&self, f: &mut fmt::Formatter<'_>) -> fmt::Result {
         let shown = &self.payload[..self.payload.len().min(4096)];
-        write!(f, "Read {{ entropy: {:02x?}, payload of {}: {shown:02x?}, ", self.entropy, self.payload.len())?;
+        write!(
+            f,
+            "Read {{ entropy: {:02x?}, payload of {}: {shown:02x?}, ",
+            self.entropy,
+            self.payload.len()
+        )?;
         write!(f, "frames: {}, length: {}, slots: {} }}", self.frames, self.length, self.slots)
     }
 }
@@ -44,16 +49,17 @@ impl Case for Read {
             answer.kept("answer")?;
             return Ok(refusal);
         }
-        let (number, told, read) = theirs::read(&self.entropy, &self.payload, self.frames, self.length);
+        let (number, answered, read) = theirs::read(&self.entropy, &self.payload, self.frames, self.length);
         same("refusal", &refusal, &number)?;
-        answer.written("answer", &told)?;
+        answer.written("answer", &answered)?;
         samples.written("samples", &read)?;
         Ok(refusal)
     }
 
     fn smaller(&self) -> Smaller<'_, Read> {
-        let frames =
-            [self.frames / 2, self.frames.saturating_sub(1)].into_iter().filter(|&frames| frames < self.frames);
+        let frames = [self.frames / 2, self.frames.saturating_sub(1)]
+            .into_iter()
+            .filter(|&frames| frames < self.frames);
         let frames = frames.filter(|_| self.frames.checked_mul(2) == Some(self.length));
         let frames = frames.map(|frames| Read { frames, length: 2 * frames, ..self.clone() });
         let payloads = shorter(&self.payload).chain(plainer(&self.payload));
@@ -161,7 +167,9 @@ fn at_limits(run: &mut Run) -> Result<(), Failed> {
         }
     }
     for words in [[8192, 0, 0, 0, 0, 0], [0, 0, 0, 0, 0, -8192]] {
-        for (frames, bytes) in [(MAX_FRAMES, MAX_BYTES), (MAX_FRAMES + 1, MAX_BYTES), (MAX_FRAMES, MAX_BYTES + 1)] {
+        for (frames, bytes) in
+            [(MAX_FRAMES, MAX_BYTES), (MAX_FRAMES + 1, MAX_BYTES), (MAX_FRAMES, MAX_BYTES + 1)]
+        {
             let payload = run.random.bytes(bytes);
             agree_on(run, &entropy_of(words), payload, frames)?;
         }

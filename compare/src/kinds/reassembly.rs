@@ -23,8 +23,18 @@ pub struct Reassembly {
 impl fmt::Debug for Reassembly {
     fn fmt(&self, f: &mut fmt::Formatter<'_>) -> fmt::Result {
         let (samples, literal) = (self.samples.len(), self.literal.len());
-        write!(f, "Reassembly {{ {:?}, {samples} samples: {:?}, ", self.info, &self.samples[..samples.min(1024)])?;
-        write!(f, "literal of {literal}: {:02x?}, slots: {} }}", &self.literal[..literal.min(4096)], self.slots)
+        write!(
+            f,
+            "Reassembly {{ {:?}, {samples} samples: {:?}, ",
+            self.info,
+            &self.samples[..samples.min(1024)]
+        )?;
+        write!(
+            f,
+            "literal of {literal}: {:02x?}, slots: {} }}",
+            &self.literal[..literal.min(4096)],
+            self.slots
+        )
     }
 }
 
@@ -45,7 +55,8 @@ impl Reassembly {
     /// Whether no sample loses a bit.
     fn without_loss(&self) -> bool {
         let shift = shift(self.info);
-        shift <= MAX_FIELD && self.samples.iter().all(|&sample| i32::try_from(i64::from(sample) << shift).is_ok())
+        shift <= MAX_FIELD
+            && self.samples.iter().all(|&sample| i32::try_from(i64::from(sample) << shift).is_ok())
     }
 
     /// Whether taking the wide samples apart is accepted and, where none lost a bit, gives back the
@@ -74,7 +85,7 @@ impl Case for Reassembly {
         let mut answer = Lent::marked(self.slots);
         let refusal = ours::reassemble_int32(self.info, samples.list(), literal.list(), answer.list());
         literal.kept("literal bits")?;
-        let beside = |told: &Result<(u32, Vec<i32>), u32>| match told {
+        let beside = |stated: &Result<(u32, Vec<i32>), u32>| match stated {
             Ok((bits, wide)) => {
                 same("refusal", &refusal, &0)?;
                 samples.written("samples", wide)?;
@@ -90,12 +101,12 @@ impl Case for Reassembly {
             beside(&Err(6))?;
             return Ok(refusal);
         }
-        let told = plain_int32::reassemble(self.info, &self.samples, &self.literal);
-        beside(&told)?;
+        let stated = plain_int32::reassemble(self.info, &self.samples, &self.literal);
+        beside(&stated)?;
         if let Some(theirs) = their_int32::reassemble(self.info, &self.samples, &self.literal) {
             beside(&theirs).map_err(|said| format!("beside the published Rust, {said}"))?;
         }
-        if let Ok((bits, wide)) = told {
+        if let Ok((bits, wide)) = stated {
             self.comes_apart(&wide, bits)?;
         }
         Ok(refusal)

@@ -30,7 +30,7 @@ impl fmt::Debug for Export {
 }
 
 impl Export {
-    /// Whether our import of the file tells the rate and the samples.
+    /// Whether our import of the file gives the rate and the samples.
     fn comes_back(&self, file: &[u8]) -> Result<(), String> {
         let (mut samples, mut answer) = (vec![0; self.samples.len()], [0; 2]);
         same("refusal of import", &ours::wave_import(file, &mut samples, &mut answer), &0)?;
@@ -70,7 +70,8 @@ impl Case for Export {
         let lists = lists.map(move |samples| Export { room: room(samples.len()), samples, ..*self });
         let plain = plainer(&self.samples).map(|samples| Export { samples, ..*self });
         let rates = [1, self.rate / 2, self.rate.saturating_sub(1)].into_iter();
-        let rates = rates.filter(|rate| (1..self.rate).contains(rate)).map(|rate| Export { rate, ..self.clone() });
+        let rates =
+            rates.filter(|rate| (1..self.rate).contains(rate)).map(|rate| Export { rate, ..self.clone() });
         Box::new(plain.chain(rates).chain(lists))
     }
 }

@@ -10,7 +10,7 @@ use crate::wave_headers;
 use std::fmt;
 use wavpack_stereo::Slots;
 
-/// Where the header tells how many bytes follow it, and how many its data has.
+/// Where the header says how many bytes follow it, and how many its data has.
 const LENGTHS: [usize; 2] = [4, 40];
 
 #[derive(Clone)]
@@ -24,16 +24,22 @@ pub struct Import {
 impl fmt::Debug for Import {
     fn fmt(&self, f: &mut fmt::Formatter<'_>) -> fmt::Result {
         let shown = &self.file[..self.file.len().min(4096)];
-        write!(f, "Import {{ file of {}: {shown:02x?}, room: {}, slots: {} }}", self.file.len(), self.room, self.slots)
+        write!(
+            f,
+            "Import {{ file of {}: {shown:02x?}, room: {}, slots: {} }}",
+            self.file.len(),
+            self.room,
+            self.slots
+        )
     }
 }
 
 impl Import {
-    /// Whether our export of what was told is the file.
+    /// Whether our export of what was imported is the file.
     fn is_export(&self, rate: u32, samples: &[i32]) -> Result<(), String> {
         let mut out = vec![0; self.file.len()];
         same("refusal of export", &ours::wave_export(rate, samples, &mut out, &mut [0]), &0)?;
-        same_list("file of the told samples", &out, &self.file)
+        same_list("file of the imported samples", &out, &self.file)
     }
 
     /// With other data; the lengths in the header and the room stay as right or wrong as they are.
@@ -105,7 +111,7 @@ fn every_byte(run: &mut Run) -> Result<(), Failed> {
     Ok(())
 }
 
-/// Short files cut and made longer, with the header as it was and with one that tells the length;
+/// Short files cut and made longer, with the header as it was and with one that has the length;
 /// then every room and every number of slots up to 3.
 fn every_length(run: &mut Run) -> Result<(), Failed> {
     for frames in 0..4 {

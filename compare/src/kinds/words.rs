@@ -66,9 +66,14 @@ fn agree_on(run: &mut Run, payload: Vec<u8>, state: State) -> Result<(), Failed>
 /// last_one, debt.
 fn states(medians: [u32; 6]) -> Vec<State> {
     let mut out = Vec::new();
-    for flags in
-        [[0; 6], [0, 1, 0, 0, 0, 0], [1, 0, 1, 0, 0, 1], [1, 0, 0, 0, 1, 1], [0, 1, 1, 0, 0, 0], [1, 0, 0, 3, 1, 1]]
-    {
+    for flags in [
+        [0; 6],
+        [0, 1, 0, 0, 0, 0],
+        [1, 0, 1, 0, 0, 1],
+        [1, 0, 0, 0, 1, 1],
+        [0, 1, 1, 0, 0, 0],
+        [1, 0, 0, 3, 1, 1],
+    ] {
         out.push([&[0], &flags[..], &medians[..]].concat().try_into().unwrap());
     }
     out

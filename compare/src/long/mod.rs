@@ -3,7 +3,7 @@
 //! Rust, or the rule, answers.
 //!
 //! Every list that is lent stands in turn right before a page that must not be touched, right
-//! behind such a page, and in a block of the heap of its own. A child compares, so that a stray
+//! after such a page, and in a block of the heap of its own. A child compares, so that a stray
 //! access ends the child; then the parent makes the same inputs again, finds the one that makes the
 //! access, and shows the smallest one like it.
 use crate::case::{Case, Failed, Run};
@@ -37,7 +37,9 @@ type Kind = (&'static str, usize, fn(&mut Run, &Recordings) -> Result<(), Failed
 
 const KINDS: [Kind; 11] = [
     ("damaged payloads, read whole", 33, |run, from| one(run, |random| reads::read(random, from))),
-    ("damaged payloads and states, read by words", 21, |run, from| one(run, |random| words::word(random, from))),
+    ("damaged payloads and states, read by words", 21, |run, from| {
+        one(run, |random| words::word(random, from))
+    }),
     ("damaged entropy payloads", 4, |run, from| one(run, |random| reads::entropy(random, from))),
     ("damaged seeds", 3, |run, _| one(run, passes::making)),
     ("damaged pass lists", 8, |run, from| one(run, |random| passes::passes(random, from))),
@@ -46,10 +48,12 @@ const KINDS: [Kind; 11] = [
     ("damaged sound files", 5, |run, from| one(run, |random| waves::import(random, from))),
     ("morning pages of damaged recordings", 4, |run, from| one(run, |random| pages::page(random, from))),
     ("damaged reassembly of wide samples", 3, |run, from| one(run, |random| int32::reassembly(random, from))),
-    ("damaged deconstruction of wide samples", 3, |run, from| one(run, |random| int32::deconstruction(random, from))),
+    ("damaged deconstruction of wide samples", 3, |run, from| {
+        one(run, |random| int32::deconstruction(random, from))
+    }),
 ];
 
-const PLACES: [Place; 3] = [Place::BeforePage, Place::BehindPage, Place::Block];
+const PLACES: [Place; 3] = [Place::BeforePage, Place::AfterPage, Place::Block];
 
 /// How many inputs are made from the same recordings, by one child.
 const REUSED: usize = 10_000;
@@ -73,7 +77,12 @@ fn compare(kind: &Kind, run: &mut Run, recordings: &Recordings, numbers: Range<u
 
 /// Does so in a child. Where a stray access ends it, each of the inputs is tried once more, by
 /// itself.
-fn compare_in_child(kind: &Kind, run: &mut Run, recordings: &Recordings, numbers: Range<usize>) -> Result<(), Failed> {
+fn compare_in_child(
+    kind: &Kind,
+    run: &mut Run,
+    recordings: &Recordings,
+    numbers: Range<usize>,
+) -> Result<(), Failed> {
     let ended = child::ended(|| {
         compare(kind, run, recordings, numbers.clone()).ok()?;
         Some(run.progress())

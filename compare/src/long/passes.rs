@@ -9,9 +9,11 @@ use crate::random::Random;
 use crate::their_passes::{MAX_ELEMENTS, Pass, TERMS};
 
 /// Terms that are not valid, some of them outside 8 bits with a valid term in the low 8.
-const BAD_TERMS: [i32; 16] = [0, 9, 16, 19, -4, -128, 127, 128, 255, 253, 257, 273, -255, -259, i32::MAX, i32::MIN];
+const BAD_TERMS: [i32; 16] =
+    [0, 9, 16, 19, -4, -128, 127, 128, 255, 253, 257, 273, -255, -259, i32::MAX, i32::MIN];
 const DELTAS: [i32; 12] = [0, 7, 8, 31, 32, 33, 255, -1, -7, -32, i32::MAX, i32::MIN];
-const WEIGHTS: [i32; 12] = [0, 1023, 1024, 1025, -1023, -1024, -1025, 32_767, -32_768, i32::MAX, i32::MIN, 1 << 30];
+const WEIGHTS: [i32; 12] =
+    [0, 1023, 1024, 1025, -1023, -1024, -1025, 32_767, -32_768, i32::MAX, i32::MIN, 1 << 30];
 
 /// Damages one slot of a pass.
 fn damage_pass(random: &mut Random, pass: &mut Pass) {

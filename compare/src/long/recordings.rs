@@ -53,7 +53,7 @@ fn recording(random: &mut Random, frames: usize) -> Recording {
         let residuals = sound(random, 2 * frames);
         debug_assert!(residuals.iter().all(|residual| (-SPAN..SPAN).contains(residual)));
         let mut payload = vec![0; BYTES_PER_FRAME * frames];
-        // An entropy payload that is not taken makes no recording; there is always another.
+        // An entropy payload that is refused makes no recording; there is always another.
         let Ok(packed) = pack(&residuals, &entropy, frames, &mut payload) else {
             continue;
         };

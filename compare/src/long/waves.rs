@@ -30,7 +30,7 @@ pub fn export(random: &mut Random, from: &Recordings) -> Export {
     Export { rate: rate(random), samples, room, slots: slots_near(random, 1) }
 }
 
-/// A file of a recording: whole, with damaged data behind a header that tells their length, with
+/// A file of a recording: whole, with damaged data after a header that has their length, with
 /// fields that hold something else, or damaged anywhere.
 fn damaged(random: &mut Random, from: &Recordings) -> Vec<u8> {
     let mut data: Vec<u8> = sound(random, from).into_iter().flat_map(i16::to_le_bytes).collect();

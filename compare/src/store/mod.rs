@@ -42,7 +42,7 @@ impl Records {
         self.0.extend(numbers.iter().flat_map(|number| number.to_le_bytes()));
     }
 
-    /// Bytes, with zeros behind them up to `room`.
+    /// Bytes, with zeros after them up to `room`.
     fn bytes(&mut self, bytes: &[u8], room: usize) {
         self.0.extend(bytes);
         self.0.extend(vec![0; room - bytes.len()]);

@@ -6,7 +6,7 @@ use crate::random::Random;
 use crate::their_packing;
 
 /// Packings: frames, 12 entropy bytes, 16 residuals, refusal, answer, the packed bytes in room for
-/// eight frames. The Rust takes the right set of the last 100 for zero.
+/// eight frames. The last 100 have a zero right set.
 pub fn packs() -> Records {
     let (random, mut out) = (&mut Random::new(SEED), Records::default());
     for round in 0..400 {

@@ -30,7 +30,7 @@ pub fn words() -> Records {
 }
 
 /// Readings: payload length, frames, 12 entropy bytes, 48 payload bytes, refusal, answer, 32
-/// samples. The Rust takes the right set of the last 100 for zero.
+/// samples. The last 100 have a zero right set.
 pub fn readings() -> Records {
     let (random, mut out) = (&mut Random::new(SEED), Records::default());
     for round in 0..500 {
