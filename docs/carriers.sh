@@ -1,12 +1,13 @@
 #!/bin/sh
 # Holds docs/PROVED.md to the repository, both ways. In every table a column with the head
-# definition, theorem, contract, type, edit or run has names of that kind, behind each group of
-# names its crate in brackets; names behind another of these words are of that kind up to the next
+# definition, theorem, contract, type, edit or run has names of that kind, after each group of
+# names its crate in brackets; names after another of these words are of that kind up to the next
 # semicolon; the first cell under the head entry, function or call has functions in the same way.
 # Each name must be declared, whole, where its kind stands. No entry has a `requires`,
 # each has two edits, every edit and every public function of a library is named, and every rule
 # that a comment cites has a row. Prints what does not hold: the row, the name, the crate, and where
-# else the name stands.
+# else the name stands; if all holds, how many carriers there are, and how many of the edits are wrong
+# programs and how many wrong definitions.
 set -u
 cd "$(dirname "$0")/.." || exit 2
 proved=docs/PROVED.md
@@ -51,10 +52,11 @@ coded() {
         /^ *requires/ { tell("requires", name) }'
 }
 
-# The edits, the programs with their output, the kinds of the comparison, the crates that are
-# libraries, and the rules that comments cite.
+# The edits, those of them that change a definition, the programs with their output, the kinds of the
+# comparison, the crates that are libraries, and the rules that comments cite.
 others() {
     ls crates/*/must-fail/*.edit | awk -F '[/.]' '{ print "edit\t" $2 "\t" $4 }'
+    grep -l '^file: specs/' crates/*/must-fail/*.edit | awk -F '[/.]' '{ print "defining\t" $2 "\t" $4 }'
     ls crates/*/stdout | awk -F / '{ print "run\tprogram\t" $2 }'
     ls compare/src/kinds/*.rs | awk -F '[/.]' '{ print "run\tcompare\t" $4 }'
     ls crates/*/src/lib.rt | awk -F / '{ print "library\t" $2 "\t" }'
@@ -156,6 +158,7 @@ awk -F '\t' -v page="$proved" '
             split(key, field, "\t")
             label = field[2]
             if (field[1] == "edit" && !(key in named)) wrong("no row for the edit `" field[3] "`")
+            edits[field[1]]++
             if (field[1] == "public" && ("library\t" label "\t") in there && !((label "\t" field[3]) in placed))
                 wrong("no row of functions for `" field[3] "`")
             if (field[1] == "cited" && !(field[3] in rows)) {
@@ -165,6 +168,8 @@ awk -F '\t' -v page="$proved" '
         }
         if (bad || !carriers) exit 1
         print "carriers: " carriers " named in " page ", all there"
+        programs = edits["edit"] - edits["defining"]
+        print "edits: " programs " wrong programs, " edits["defining"] " wrong definitions"
     }
 ' "$index" "$proved" >"$found"
 held=$?
