@@ -1,12 +1,12 @@
 // `BitReader` (document 01, "Rust forms that need another", F8): a payload that is lent, and a
 // place in it. Its functions are thin: each takes the reader apart and leaves the work to an entry
-// of `bits` on the slice and the place. A function over a struct that holds a reference is proved
+// of `checked_bits` on the slice and the place. A function over a struct that holds a reference is proved
 // by a walk by hand; `field_at`, whose parameters are plain, serves callers that are to need none.
 ghost use mathlib.Core.Path.{_≡_};
 ghost use Rattle.bits.specs.Checked.{told, bitsRead, unaryRead};
 use bits::BitAnswer;
-use bits::checked::checked_get_bits;
-use bits::checked::checked_get_unary;
+use checked_bits::checked_get_bits;
+use checked_bits::checked_get_unary;
 
 // The payload, and how many of its bits lie before the next one.
 pub struct BitReader<'a> {

@@ -1,11 +1,8 @@
-// Implements document 01, "Reading" (bits lowest first, numbers low bit first) and the laying of
-// bits in "Packing": the bits of a byte list, the lowest bit of each byte first. `read` and `write`
-// are the core, for payloads within document 01's limit; `checked` takes any slice and any place.
-pub mod checked;
-pub mod load;
-pub mod read;
-pub mod register;
-pub mod write;
+// The bits of a byte list, as document 01 has them ("Reading": the lowest bit of each byte first,
+// numbers low bit first; "Packing": bits laid into a buffer): the definitions in specs/, their laws
+// in proofs/, and what reading and laying answer. The code over them stands in the crates after it:
+// `bit_windows`, `bit_reading`, `unary_reading` and `bit_laying` are the core, for payloads within
+// document 01's limit; `checked_bits` takes any slice and any place.
 
 // What reading a field finds: its value and the place after it, or that a bit is missing.
 pub enum Field {
@@ -22,7 +19,7 @@ pub enum BitAnswer {
     TooLarge,
 }
 
-// What laying a field into a buffer tells: the place after it, or why nothing was laid.
+// What laying a field into a buffer answers: the place after it, or why nothing was laid.
 pub enum PutAnswer {
     Next(usize),
     // The buffer ends before the field does.

@@ -7,7 +7,7 @@ ghost use Prim.Native.Nat.{_≤_};
 mod payloads;
 mod plain;
 
-use bits::checked::checked_get_unary;
+use checked_bits::checked_get_unary;
 use libc::STDOUT_FILENO;
 use plain::count_bit_by_bit;
 use plain::same;

@@ -11,9 +11,9 @@ ghost use lib.ListN.{length};
 ghost use Rattle.answers.specs.Limits.{maxPayloadBytes};
 ghost use Rattle.bits.specs.Bits.{bitsOf};
 ghost use Rattle.fields.specs.Code.{bitLength, codeOf, truncatedBinary, CodeIn};
+use bit_reading::get_bit;
+use bit_reading::get_bits;
 use bits::Field;
-use bits::read::get_bit;
-use bits::read::get_bits;
 
 // A code out of a window, and how many bits it takes.
 pub struct WindowCode {

@@ -7,9 +7,9 @@ ghost use Rattle.answers.specs.Limits.{maxPayloadBytes};
 ghost use Rattle.bits.specs.Bits.{bitsOf};
 ghost use Rattle.fields.specs.Counts.{counted, runLength, prefix};
 use crate::Prefix;
+use bit_reading::get_bits;
 use bits::Field;
-use bits::read::get_bits;
-use bits::read::get_unary;
+use unary_reading::get_unary;
 
 // The number behind a count of ones.
 fn read_counted(payload: &[u8], place: usize, ones: u32) -> Field

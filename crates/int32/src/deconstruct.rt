@@ -5,7 +5,7 @@ use crate::Int32Info;
 use crate::info_refusal;
 use answers::Outcome;
 use answers::Refusal;
-use bits::write::put_bits;
+use bit_laying::put_bits;
 use int32_sample::bits_below;
 use int32_sample::low_bits;
 use int32_sample::redundancy_of;

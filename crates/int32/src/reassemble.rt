@@ -6,7 +6,7 @@ use crate::Int32Info;
 use crate::info_refusal;
 use answers::Outcome;
 use answers::Refusal;
-use bits::load::window;
+use bit_windows::load::window;
 use int32_sample::bits_below;
 use int32_sample::low_bits_mask;
 use int32_sample::put_below;

@@ -22,7 +22,7 @@ use crate::written::gather_ones;
 use crate::written::put_escaped;
 use crate::written::put_run;
 use crate::zeros::zeros_from;
-use bits::write::put_bits;
+use bit_laying::put_bits;
 use entropy::AdaptiveMedians;
 use spans::magnitude;
 

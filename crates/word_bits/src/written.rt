@@ -10,8 +10,8 @@ ghost use Rattle.bits.specs.Fields.{unaryField};
 ghost use Rattle.bits.specs.Laid.{put};
 ghost use Rattle.word_bits.specs.Written.{runField, prefixField, codeBits, codeField};
 ghost use Rattle.word_bits.specs.View.{Gathers};
-use bits::write::put_bits;
-use bits::write::put_unary;
+use bit_laying::put_bits;
+use bit_laying::put_unary;
 use fields::code::bit_length;
 use wrapping::casts::u32_to_u64;
 
