@@ -4,7 +4,7 @@
 use mathlib.Core.Path.{_≡_, refl, sym, ap, ap₂, _∙_}
 use mathlib.Core.Bool.{Bool, true, false, cond}
 use mathlib.Core.List.{List, [], _∷_, _++_}
-use Prim.Native.Nat.{ℕ, zero, suc, _+_, _-_, _/_, _%_, _^_, _≤_, _<_}
+use Prim.Native.Nat.{ℕ, zero, suc, _+_, _-_, _*_, _/_, _%_, _^_, _≤_, _<_}
 use native.Mathlib.Nat.{pow-suc, lt-of-lt-of-le}
 use native.Mathlib.Decide.{decLt}
 use native.Mathlib.Omega.{arith}
@@ -61,14 +61,25 @@ under-bit zero l h = refl
 under-bit (suc zero) l h = refl
 under-bit (suc (suc r)) l h = absurd (omega arith)
 
+-- y is x's complement below 2 p: its lowest bit is the other one, its half the complement of x's half
+-- below p
+complement-low : (p x y : ℕ) → y + 1 + x ≡ 2 * p → y % 2 ≡ 1 - x % 2
+complement-low p x y e = omega arith
+
+complement-half : (p x y : ℕ) → y + 1 + x ≡ 2 * p → y / 2 ≡ p - 1 - x / 2
+complement-half p x y e = omega arith
+
 -- the trailing zeros of x's complement in w bits are the ones at the low end of x
 pub trailing-ones : (w x : ℕ) → x < 2 ^ w → trailingZeros w (2 ^ w - 1 - x) ≡ ones (low w x)
 unfolding trailingZeros low ones
 trailing-ones zero x h = refl
 trailing-ones (suc w) x h =
-    let m : (2 ^ suc w - 1 - x) % 2 ≡ 1 - x % 2 = omega (arith, pow-suc 2 w) in
-    let d : (2 ^ suc w - 1 - x) / 2 ≡ 2 ^ w - 1 - x / 2 = omega (arith, pow-suc 2 w) in
-    rw (m, d, trailing-ones w (x / 2) (omega (arith, pow-suc 2 w))) (under-bit (x % 2) (low w (x / 2)) (omega arith))
+    let y = 2 ^ suc w - 1 - x in
+    let e : y + 1 + x ≡ 2 * 2 ^ w = omega (arith, pow-suc 2 w) in
+    let m = complement-low (2 ^ w) x y e in
+    let d = complement-half (2 ^ w) x y e in
+    rw (m, d, trailing-ones w (x / 2) (omega (arith, pow-suc 2 w)))
+    (under-bit (x % 2) (low w (x / 2)) (omega arith))
 
 -- ---- the ones of a window
 
