@@ -25,6 +25,11 @@ val-bit (suc (suc x)) h = absurd (omega arith)
 pub val-mod : (x : ℕ) → val (bitOf (x % 2)) ≡ x % 2
 val-mod x = val-bit (x % 2) (omega arith)
 
+-- a bit is at most 1
+pub val-le : (b : Bool) → val b ≤ 1
+val-le false = omega arith
+val-le true = omega arith
+
 -- ---- the low bits of a number
 
 -- there are as many as were asked for

@@ -4,6 +4,7 @@ pub mod ReadLaws
 pub mod RoundTrip
 pub mod LaidLaws
 pub mod WriteLaws
+pub mod GatheredLaws
 pub mod Window
 pub mod RegisterLaws
 pub mod OnesLaws

@@ -5,3 +5,5 @@ pub mod WindowLaws
 pub mod Local
 pub mod LocalLaws
 pub mod RefusalLaws
+pub mod WrittenLaws
+pub mod LongLaws

@@ -1,3 +1,5 @@
 pub mod Counts
 pub mod Code
 pub mod Refused
+pub mod Written
+pub mod Gathered

@@ -21,7 +21,7 @@ use Rattle.word_bits.specs.Counts.{count}
 use Rattle.word_bits.specs.Residuals.{zeros, ahead}
 use Rattle.packing.specs.Packing.{Out, behind, silent, valueOut, plainOut, freshOut, wordOut}
 use Rattle.word_bits.specs.Word.{prefixOf}
-use Rattle.word_bits.specs.Written.{runField, prefixField}
+use Rattle.fields.specs.Written.{runField, prefixField}
 
 -- how the state and the residuals that are left hang together
 pub record Inv (s : State) (vs : List ℤ) : Type 0 where

@@ -11,7 +11,7 @@ use lib.ListN.{length, length-append}
 use Rattle.answers.specs.Limits.{maxFrames, maxWordBits, bytesPerFrame, residualSpan}
 use Rattle.bits.specs.Bits.{val, low}
 use Rattle.bits.specs.Laid.{bytesHolding}
-use Rattle.bits.proofs.BitLaws.{length-low}
+use Rattle.bits.proofs.BitLaws.{val-le, length-low}
 use Rattle.bits.proofs.LaidLaws.{length-holding}
 use Rattle.entropy.specs.Medians.{Medians, Small}
 use Rattle.medians.specs.Interval.{lowOf, highOf}
@@ -19,9 +19,9 @@ use Rattle.word_state.specs.State.{State, start, due, other, paid, inRun, unbro
 use Rattle.word_bits.specs.Counts.{count}
 use Rattle.word_bits.specs.Residuals.{zeros, ahead, sign, spanned}
 use Rattle.word_bits.specs.Word.{valueField}
-use Rattle.word_bits.specs.Written.{runField, prefixField, codeField}
+use Rattle.fields.specs.Written.{runField, prefixField, codeField}
 use Rattle.word_bits.proofs.CountLaws.{smallest}
-use Rattle.word_bits.proofs.LongLaws.{val-le, run-long, run-zero-long, prefix-long, code-long}
+use Rattle.fields.proofs.LongLaws.{run-long, run-zero-long, prefix-long, code-long}
 use Rattle.spans.proofs.SpanLaws.{within-parts}
 use Rattle.word_bits.proofs.ZeroLaws.{zeros-le}
 use Rattle.packing.specs.Packing.{Out, behind, silent, valueOut, plainOut, freshOut, wordOut, packed}

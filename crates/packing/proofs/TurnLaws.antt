@@ -18,12 +18,12 @@ use Rattle.word_bits.specs.Counts.{count}
 use Rattle.word_bits.specs.Residuals.{zeros, ahead}
 use Rattle.packing.specs.Packing.{Out, behind, silent, valueOut, plainOut, freshOut, wordOut}
 use Rattle.word_bits.specs.Word.{prefixOf, wordField}
-use Rattle.word_bits.specs.Written.{runField, prefixField}
+use Rattle.fields.specs.Written.{runField, prefixField}
 use Rattle.word_bits.specs.View.{WordIs, BeforeIs}
 use Rattle.packing.specs.View.{Seen, Next, Turned}
-use Rattle.word_bits.specs.declared.word.Before.{Before}
+use Rattle.word_bits.specs.declared.Before.{Before}
 use Rattle.packing.specs.declared.turn.Turn.{Turn}
-use Rattle.word_bits.specs.declared.word.Word.{Word}
+use Rattle.word_bits.specs.declared.Word.{Word}
 use Rattle.packing.proofs.InStepLaws.{here-flags}
 use Rattle.word_bits.proofs.PutLaws.{put-both}
 

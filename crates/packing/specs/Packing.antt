@@ -10,7 +10,7 @@ use Rattle.word_bits.specs.Residuals.{zeros, ahead}
 use Rattle.word_bits.specs.Word.{valueField, prefixOf}
 use Rattle.word_state.specs.State.{State, due, other, paid, inRun, unbroken, cleared, flagged, after, runHere, onZeros}
 use Rattle.word_bits.specs.Counts.{count}
-use Rattle.word_bits.specs.Written.{runField, prefixField}
+use Rattle.fields.specs.Written.{runField, prefixField}
 
 -- bits, and the state after them
 pub record Out : Type 0 where

@@ -11,10 +11,10 @@ ghost use Rattle.answers.specs.Limits.{residualSpan, maxElements, maxWordBits};
 ghost use Rattle.entropy.specs.Medians.{mediansOf, Small};
 ghost use Rattle.packing.specs.View.{TurnIs};
 use entropy::AdaptiveMedians;
-use word_bits::word::Before;
-use word_bits::word::is_ahead;
-use word_bits::word::put_before;
-use word_bits::word::put_word;
+use locating::is_ahead;
+use word_bits::Before;
+use word_laying::put_before;
+use word_laying::put_word;
 use word_state::zero_run_eligible;
 
 // What one turn of the packing loop writes: where it ends, how many zeros it tells of, and, where

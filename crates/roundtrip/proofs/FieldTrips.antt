@@ -21,7 +21,7 @@ use Rattle.fields.specs.Counts.{counted, runLength, escaped, prefix}
 use Rattle.fields.specs.Code.{bitLength, codeOf, truncatedBinary}
 use Rattle.fields.specs.declared.Prefix.{Prefix}
 use Rattle.fields.proofs.LengthLaws.{long, long-le}
-use Rattle.word_bits.specs.Written.{runField, prefixField, codeBits, codeField}
+use Rattle.fields.specs.Written.{runField, prefixField, codeBits, codeField}
 
 -- the top bit and the bits under it
 top-bit : (P n : ℕ) → P ≤ n → n < 2 * P → P + n % P ≡ n

@@ -13,7 +13,7 @@ use lib.ListN.{length, length-append}
 use Rattle.answers.specs.Limits.{residualSpan}
 use Rattle.entropy.specs.Medians.{Small}
 use Rattle.bits.specs.Bits.{val, bitOf, low}
-use Rattle.bits.proofs.BitLaws.{length-low}
+use Rattle.bits.proofs.BitLaws.{val-le, length-low}
 use Rattle.bits.proofs.RoundTrip.{At, at-first, at-second, low-at}
 use Rattle.fields.specs.Counts.{prefix}
 use Rattle.medians.specs.Interval.{lowOf, highOf}
@@ -24,11 +24,10 @@ use Rattle.word_bits.specs.Counts.{count}
 use Rattle.word_bits.specs.Residuals.{zeros, ahead, sign}
 use Rattle.packing.specs.Packing.{Out, behind, silent, valueOut, plainOut, freshOut, wordOut}
 use Rattle.word_bits.specs.Word.{valueField}
-use Rattle.word_bits.specs.Written.{runField, prefixField, codeField}
+use Rattle.fields.specs.Written.{runField, prefixField, codeField}
 use Rattle.word_bits.proofs.CountLaws.{smallest}
 use Rattle.packing.proofs.InStepLaws.{Inv, due-small}
 use Rattle.word_bits.proofs.ZeroLaws.{zeros-head, zeros-le}
-use Rattle.word_bits.proofs.LongLaws.{val-le}
 use Rattle.roundtrip.proofs.FieldTrips.{run-at, prefix-at, code-at}
 
 -- ---- code and sign

@@ -1,8 +1,5 @@
 -- What the crates above cite.
 pub mod CountLaws
-pub mod LongLaws
-pub mod LayLaws
-pub mod WrittenLaws
 pub mod LocateLaws
 pub mod SignLaws
 pub mod ZeroLaws

@@ -12,7 +12,7 @@ use Rattle.medians.specs.Adaptation.{up, down, adapt}
 use Rattle.medians.proofs.AdaptationLaws.{adapt-many}
 use Rattle.word_bits.specs.Counts.{count}
 use Rattle.word_bits.specs.View.{LocatedIs, Above}
-use Rattle.word_bits.specs.declared.locating.Located.{Located}
+use Rattle.word_bits.specs.declared.Located.{Located}
 use Rattle.word_bits.proofs.CountLaws.{closed, closed-first, closed-second, closed-many, count-closed, smallest}
 
 -- a number whose count is k lies where k's interval was before the wrap

@@ -13,13 +13,14 @@ use Rattle.bits.specs.Laid.{put}
 use Rattle.bits.proofs.BitLaws.{length-low}
 use Rattle.bits.proofs.LaidLaws.{put-put}
 use Rattle.bits.proofs.RoundTrip.{length-unary}
-use Rattle.word_bits.specs.View.{Gathers, PutIs, BeforeIs}
-use Rattle.word_bits.specs.Written.{runField, prefixField}
+use Rattle.word_bits.specs.View.{PutIs, BeforeIs}
+use Rattle.fields.specs.Written.{runField, prefixField}
 use Rattle.word_bits.specs.Residuals.{zeros}
-use Rattle.word_bits.specs.declared.word.Before.{Before}
-use Rattle.word_bits.specs.declared.written.Gathered.{Gathered}
-use Rattle.word_bits.proofs.LongLaws.{run-zero-long}
-use Rattle.word_bits.proofs.WrittenLaws.{known, prefix-short}
+use Rattle.word_bits.specs.declared.Before.{Before}
+use Rattle.fields.specs.Gathered.{Gathers}
+use Rattle.fields.specs.declared.Gathered.{Gathered}
+use Rattle.fields.proofs.LongLaws.{run-zero-long}
+use Rattle.fields.proofs.WrittenLaws.{known, prefix-short}
 
 -- a field, and then another
 pub put-both : (before mid after : List ℕ) (at q p : ℕ) (f g : List Bool) → at ≤ 8 * length before → PutIs before mid at f q → PutIs mid after q g p

@@ -15,13 +15,14 @@ use Rattle.entropy.specs.Medians.{Medians, Small}
 use Rattle.word_bits.specs.Counts.{count}
 use Rattle.word_bits.specs.Residuals.{sign}
 use Rattle.word_bits.specs.Word.{prefixOf, valueField}
-use Rattle.word_bits.specs.Written.{prefixField, codeField}
-use Rattle.word_bits.specs.View.{Gathers, LocatedIs, PutIs, WordIs}
-use Rattle.word_bits.specs.declared.locating.Located.{Located}
-use Rattle.word_bits.specs.declared.written.Gathered.{Gathered}
+use Rattle.fields.specs.Written.{prefixField, codeField}
+use Rattle.word_bits.specs.View.{LocatedIs, PutIs, WordIs}
+use Rattle.word_bits.specs.declared.Located.{Located}
+use Rattle.fields.specs.Gathered.{Gathers}
+use Rattle.fields.specs.declared.Gathered.{Gathered}
 use Rattle.word_bits.proofs.CountLaws.{smallest}
-use Rattle.word_bits.proofs.LongLaws.{code-long}
-use Rattle.word_bits.proofs.WrittenLaws.{known}
+use Rattle.fields.proofs.LongLaws.{code-long}
+use Rattle.fields.proofs.WrittenLaws.{known}
 
 -- a located residual's code is within its interval, and 28 bits hold it
 pub record Fits (r : Located) : Type 0 where

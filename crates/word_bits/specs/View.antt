@@ -8,7 +8,6 @@ use lib.IntN.{ℤ, pos, negsuc}
 use lib.ListN.{length, drop}
 use lib.Signed.{mag}
 use Rattle.answers.specs.Limits.{residualSpan}
-use Rattle.bits.specs.Bits.{num}
 use Rattle.bits.specs.Laid.{put}
 use Rattle.entropy.specs.Medians.{Medians, Small}
 use Rattle.medians.specs.Interval.{g, lowOf, highOf}
@@ -16,16 +15,10 @@ use Rattle.medians.specs.Adaptation.{up, adapt}
 use Rattle.word_bits.specs.Counts.{count}
 use Rattle.word_bits.specs.Residuals.{zeros}
 use Rattle.word_bits.specs.Word.{wordField}
-use Rattle.word_bits.specs.Written.{runField}
-use Rattle.word_bits.specs.declared.locating.Located.{Located}
-use Rattle.word_bits.specs.declared.word.Before.{Before}
-use Rattle.word_bits.specs.declared.word.Word.{Word}
-use Rattle.word_bits.specs.declared.written.Gathered.{Gathered}
-
--- a number that holds the bits f, low bit first, and how many they are
-pub record Gathers (f : List Bool) (r : Gathered) : Type 0 where
-  pub value-is : r .value ≡ num f
-  pub count-is : r .count ≡ length f
+use Rattle.fields.specs.Written.{runField}
+use Rattle.word_bits.specs.declared.Located.{Located}
+use Rattle.word_bits.specs.declared.Before.{Before}
+use Rattle.word_bits.specs.declared.Word.{Word}
 
 -- where v lies among the intervals of the medians m: its count, its code, the last code of its
 -- interval, and the medians after it

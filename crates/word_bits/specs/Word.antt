@@ -11,7 +11,7 @@ use Rattle.entropy.specs.Medians.{Medians}
 use Rattle.medians.specs.Interval.{lowOf, highOf}
 use Rattle.word_bits.specs.Counts.{count}
 use Rattle.word_bits.specs.Residuals.{sign}
-use Rattle.word_bits.specs.Written.{prefixField, codeField}
+use Rattle.fields.specs.Written.{prefixField, codeField}
 
 -- code and sign of v, where its count is k: v, or -v - 1 for a negative v, lies in the interval of
 -- k

@@ -14,11 +14,11 @@ use bit_reading::get_bit;
 use bit_windows::load::eight;
 use bits::Field;
 use entropy::AdaptiveMedians;
+use field_reading::code::code_in_window;
+use field_reading::code::read_truncated_binary;
+use field_reading::counts::read_raw_prefix;
+use field_reading::counts::read_zero_run_length;
 use fields::Prefix;
-use fields::code::code_in_window;
-use fields::code::read_truncated_binary;
-use fields::counts::read_raw_prefix;
-use fields::counts::read_zero_run_length;
 use medians::interval::sample_interval;
 
 // A sample, and the bits that its code and its sign take.
