@@ -1,26 +1,30 @@
 -- A number that no length, no word and no residual is refused with is the entropy payload's own, in
--- reading and in packing.
+-- reading and in packing: told exactly where the lengths are in order and the payload is refused with it.
 -- Assumes nothing.
 use mathlib.Core.Path.{_≡_, refl, sym, ap, _∙_}
 use mathlib.Core.Bool.{Bool, true, false, cond, _||_}
 use mathlib.Core.List.{List}
-use Prim.Native.Nat.{ℕ, zero, suc, _*_}
+use Prim.Native.Nat.{ℕ, zero, suc, _*_, _<_}
 use native.Mathlib.Omega.{arith}
+use borrow.Author.Tests.{le-ltb, eq-eqb, ltb-false, eqb-true}
 use lib.Dec.{eqb, ltb}
 use lib.IntN.{ℤ}
 use lib.ListN.{length}
 use Rattle.answers.specs.Limits.{maxFrames, maxPayloadBytes, bytesPerFrame}
 use Rattle.answers.specs.Guard.{orElse, unlessRefused}
-use Rattle.answers.proofs.TestLaws.{clash}
+use Rattle.answers.proofs.GuardLaws.{refused-first, guard-refused}
+use Rattle.answers.proofs.TestLaws.{clash, neither}
 use Rattle.bits.specs.Bits.{bitsOf}
 use Rattle.entropy.specs.Seed.{seedRefusal, seedMedians}
 use Rattle.word_state.specs.State.{State, start}
 use Rattle.samples.specs.Reading.{reading}
 use Rattle.samples.specs.Refused.{Why}
-use Rattle.samples.specs.View.{tellReading, readRefusal, refuseReading, readEntry}
+use Rattle.samples.specs.View.{ReadTold, tellReading, readRefusal, refuseReading, readEntry}
 use Rattle.samples.proofs.RefusalLaws.{reading-why}
 use Rattle.word_bits.specs.Residuals.{spanned}
-use Rattle.packing.specs.Entry.{refusalBeforeSpan, spanRefusal, packRefusal, refusePacking, tellPacking, packedFrom, packEntry}
+use Rattle.packing.specs.Entry.{PackTold, refusePacking, tellPacking, packedFrom, packEntry}
+use Rattle.packing.specs.Entry.{refusalBeforeSpan, spanRefusal, packRefusal}
+use Rattle.roundtrip.specs.Lengths.{ReadLengths, PackLengths}
 
 -- such a number
 abbrev pub payloads : ℕ → Bool
@@ -31,11 +35,9 @@ module _ (n : ℕ) (own : payloads n ≡ true) where
   not-this : (k : ℕ) → payloads k ≡ false → k ≡ n → ⊥
   not-this k f e = clash own (sym (ap payloads e) ∙ f)
 
-  -- of the refusals about lengths and the entropy payload it is the payload's
-  behind-lengths : (large fits : Bool) (rest : ℕ) → cond large 5 (cond fits rest 6) ≡ n → rest ≡ n
-  behind-lengths true fits rest e = absurd (not-this 5 refl e)
-  behind-lengths false true rest e = e
-  behind-lengths false false rest e = absurd (not-this 6 refl e)
+  -- and it is a refusal
+  positive : 0 < n
+  positive = omega (arith, not-this 0 refl)
 
   -- no word is refused with it
   no-word : {bits : List Bool} {p : ℕ} {s : State} {c : ℕ} → Why bits p s c → c ≡ n → ⊥
@@ -45,19 +47,71 @@ module _ (n : ℕ) (own : payloads n ≡ true) where
   no-word (Why.no-sign q k x m h a l) e = not-this 3 refl e
   no-word (Why.end-of-stream q h z m) e = not-this 4 refl e
 
-  -- reading
-  pub reading-payload : (entropy payload : List ℕ) (frames : ℕ) (list : List ℤ) → readEntry entropy payload frames list .refusal ≡ n → seedRefusal entropy ≡ n
-  unfolding readEntry readRefusal
-  reading-payload entropy payload frames list e = go (readRefusal entropy payload frames list) refl e
-    where
-      first : State
-      first = start (seedMedians entropy .left) (seedMedians entropy .right)
+  -- of the refusals about lengths and the entropy payload it is the payload's
+  behind-lengths : (large fits : Bool) (rest : ℕ) → cond large 5 (cond fits rest 6) ≡ n
+      → (large ≡ false) × (fits ≡ true) × (rest ≡ n)
+  behind-lengths true fits rest e = absurd (not-this 5 refl e)
+  behind-lengths false true rest e = (refl, refl, e)
+  behind-lengths false false rest e = absurd (not-this 6 refl e)
 
-      go : (c : ℕ) → readRefusal entropy payload frames list ≡ c
-          → unlessRefused c (refuseReading list) (tellReading list (reading (bitsOf payload) (2 * frames) 0 first)) .refusal ≡ n → seedRefusal entropy ≡ n
-      go zero r e = absurd (no-word (reading-why (bitsOf payload) (2 * frames) 0 first (omega (arith, not-this 0 refl))) e)
-      go (suc c) r e =
-          behind-lengths (ltb maxFrames frames || ltb maxPayloadBytes (length payload)) (eqb (length list) (2 * frames)) (seedRefusal entropy) (r ∙ e)
+  -- ---- reading
+
+  module _ (entropy payload : List ℕ) (frames : ℕ) (list : List ℤ) where
+    words : ReadTold
+    words =
+        let m = seedMedians entropy in
+        tellReading list (reading (bitsOf payload) (2 * frames) 0 (start (m .left) (m .right)))
+
+    -- it comes of the payload, with lengths in order
+    reading-payload : readEntry entropy payload frames list .refusal ≡ n
+        → ReadLengths payload frames list × (seedRefusal entropy ≡ n)
+    unfolding readEntry readRefusal words
+    reading-payload e = go (readRefusal entropy payload frames list) refl e
+      where
+        large : Bool
+        large = ltb maxFrames frames || ltb maxPayloadBytes (length payload)
+
+        ends : (large ≡ false) × (eqb (length list) (2 * frames) ≡ true) × (seedRefusal entropy ≡ n)
+            → ReadLengths payload frames list × (seedRefusal entropy ≡ n)
+        ends t =
+            let few = neither (ltb maxFrames frames) (ltb maxPayloadBytes (length payload)) (t .0) in (
+              record {
+                frames-few = ltb-false maxFrames frames (few .0);
+                bytes-few = ltb-false maxPayloadBytes (length payload) (few .1);
+                two-per-frame = eqb-true (length list) (2 * frames) (t .1);
+              },
+              t .2,
+            )
+
+        go : (c : ℕ) → readRefusal entropy payload frames list ≡ c
+            → unlessRefused c (refuseReading list) words .refusal ≡ n
+            → ReadLengths payload frames list × (seedRefusal entropy ≡ n)
+        go zero r e =
+            absurd
+            (no-word (reading-why (bitsOf payload) (2 * frames) 0 _ (omega (arith, not-this 0 refl))) e)
+        go (suc c) r e =
+            ends (behind-lengths large (eqb (length list) (2 * frames)) (seedRefusal entropy) (r ∙ e))
+
+    -- and there it is told
+    payload-reading : ReadLengths payload frames list → seedRefusal entropy ≡ n
+        → readEntry entropy payload frames list .refusal ≡ n
+    unfolding readEntry readRefusal words
+    payload-reading l s =
+        let frames-fit = le-ltb maxFrames frames (l .frames-few) in
+        let bytes-fit = le-ltb maxPayloadBytes (length payload) (l .bytes-few) in
+        rw (frames-fit, bytes-fit, eq-eqb (length list) (2 * frames) (l .two-per-frame), s)
+        (ap (λ (t : ReadTold). t .refusal) (guard-refused n (refuseReading list) words positive))
+
+    -- so for any reason that is exactly the payload's
+    pub reading-exactly : {Reason : Type 0}
+        → (Reason → seedRefusal entropy ≡ n) → (seedRefusal entropy ≡ n → Reason)
+        → let refusal = readEntry entropy payload frames list .refusal in
+        (ReadLengths payload frames list → Reason → refusal ≡ n)
+        × (refusal ≡ n → ReadLengths payload frames list × Reason)
+    reading-exactly told why =
+        (λ l r. payload-reading l (told r), λ e. let p = reading-payload e in (p .0, why (p .1)))
+
+  -- ---- packing
 
   -- neither the room nor the span is told with it
   no-room : (t : Bool) → cond t 11 0 ≡ n → ⊥
@@ -68,24 +122,62 @@ module _ (n : ℕ) (own : payloads n ≡ true) where
   no-span true e = not-this 0 refl e
   no-span false e = not-this 10 refl e
 
-  -- packing
-  pub packing-payload : (residuals : List ℤ) (entropy : List ℕ) (frames : ℕ) (buffer : List ℕ) → packEntry residuals entropy frames buffer .refusal ≡ n → seedRefusal entropy ≡ n
-  unfolding packEntry packRefusal refusalBeforeSpan
-  packing-payload residuals entropy frames buffer e = go (packRefusal residuals entropy frames buffer) refl e
-    where
-      room : ℕ
-      room = cond (ltb (length buffer) (bytesPerFrame * frames)) 11 0
+  module _ (residuals : List ℤ) (entropy : List ℕ) (frames : ℕ) (buffer : List ℕ) where
+    room : ℕ
+    room = cond (ltb (length buffer) (bytesPerFrame * frames)) 11 0
 
-      seeds : (c : ℕ) → seedRefusal entropy ≡ c → orElse c room ≡ n → seedRefusal entropy ≡ n
-      seeds zero s e = absurd (no-room (ltb (length buffer) (bytesPerFrame * frames)) e)
-      seeds (suc c) s e = s ∙ e
+    words-packed : PackTold
+    words-packed = tellPacking buffer (packedFrom entropy residuals)
 
-      before : (c : ℕ) → refusalBeforeSpan (length residuals) entropy frames (length buffer) ≡ c → orElse c (spanRefusal residuals) ≡ n → seedRefusal entropy ≡ n
-      before zero b e = absurd (no-span (spanned residuals) e)
-      before (suc c) b e =
-          seeds (seedRefusal entropy) refl (behind-lengths (ltb maxFrames frames) (eqb (length residuals) (2 * frames)) (orElse (seedRefusal entropy) room) (b ∙ e))
+    -- it comes of the payload, with lengths in order
+    packing-payload : packEntry residuals entropy frames buffer .refusal ≡ n
+        → PackLengths residuals frames × (seedRefusal entropy ≡ n)
+    unfolding packEntry packRefusal refusalBeforeSpan room words-packed
+    packing-payload e = go (packRefusal residuals entropy frames buffer) refl e
+      where
+        seeds : (c : ℕ) → seedRefusal entropy ≡ c → orElse c room ≡ n → seedRefusal entropy ≡ n
+        seeds zero s e = absurd (no-room (ltb (length buffer) (bytesPerFrame * frames)) e)
+        seeds (suc c) s e = s ∙ e
 
-      go : (c : ℕ) → packRefusal residuals entropy frames buffer ≡ c
-          → unlessRefused c (refusePacking buffer) (tellPacking buffer (packedFrom entropy residuals)) .refusal ≡ n → seedRefusal entropy ≡ n
-      go zero r e = absurd (not-this 0 refl e)
-      go (suc c) r e = before (refusalBeforeSpan (length residuals) entropy frames (length buffer)) refl (r ∙ e)
+        before : (c : ℕ) → refusalBeforeSpan (length residuals) entropy frames (length buffer) ≡ c
+            → orElse c (spanRefusal residuals) ≡ n
+            → PackLengths residuals frames × (seedRefusal entropy ≡ n)
+        before zero b e = absurd (no-span (spanned residuals) e)
+        before (suc c) b e =
+            let fits = eqb (length residuals) (2 * frames) in
+            let t = behind-lengths (ltb maxFrames frames) fits (orElse (seedRefusal entropy) room) (b ∙ e)
+            in (
+              record {
+                frames-few = ltb-false maxFrames frames (t .0);
+                two-per-frame = eqb-true (length residuals) (2 * frames) (t .1);
+              },
+              seeds (seedRefusal entropy) refl (t .2),
+            )
+
+        go : (c : ℕ) → packRefusal residuals entropy frames buffer ≡ c
+            → unlessRefused c (refusePacking buffer) words-packed .refusal ≡ n
+            → PackLengths residuals frames × (seedRefusal entropy ≡ n)
+        go zero r e = absurd (not-this 0 refl e)
+        go (suc c) r e =
+            before (refusalBeforeSpan (length residuals) entropy frames (length buffer)) refl (r ∙ e)
+
+    -- and there it is told
+    payload-packing : PackLengths residuals frames → seedRefusal entropy ≡ n
+        → packEntry residuals entropy frames buffer .refusal ≡ n
+    unfolding packEntry packRefusal refusalBeforeSpan room words-packed
+    payload-packing l s =
+        let before-room = refused-first n room positive in
+        let before-span = refused-first n (spanRefusal residuals) positive in
+        let frames-fit = le-ltb maxFrames frames (l .frames-few) in
+        rw (frames-fit, eq-eqb (length residuals) (2 * frames) (l .two-per-frame), s)
+        (rw (before-room, before-span)
+        (ap (λ (t : PackTold). t .refusal) (guard-refused n (refusePacking buffer) words-packed positive)))
+
+    -- so for any reason that is exactly the payload's
+    pub packing-exactly : {Reason : Type 0}
+        → (Reason → seedRefusal entropy ≡ n) → (seedRefusal entropy ≡ n → Reason)
+        → let refusal = packEntry residuals entropy frames buffer .refusal in
+        (PackLengths residuals frames → Reason → refusal ≡ n)
+        × (refusal ≡ n → PackLengths residuals frames × Reason)
+    packing-exactly told why =
+        (λ l r. payload-packing l (told r), λ e. let p = packing-payload e in (p .0, why (p .1)))
