@@ -13,6 +13,7 @@ use bit_reader::field_at;
 use bits::BitAnswer;
 use decorrelation::DecorrPass;
 use decorrelation::decorrelate_array;
+use entropy_info::expand_entropy;
 use libc::STDOUT_FILENO;
 use packing::writing::encode_packed_samples_stereo_from_entropy;
 use roundtrip::round_trip;
@@ -67,7 +68,7 @@ pub(crate) fn print_values(values: &[i32]) {
 
 // An entropy payload, and its six medians.
 pub(crate) fn run_entropy(name: &[u8], payload: &[u8]) {
-    let answer = entropy::expand_entropy(payload);
+    let answer = expand_entropy(payload);
     let outcome = answer.outcome;
     let info = answer.info;
     let left = info.medians_left;

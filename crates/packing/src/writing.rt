@@ -19,8 +19,8 @@ use answers::limits::BYTES_PER_FRAME;
 use answers::limits::MAX_FRAMES;
 use answers::limits::RESIDUAL_SPAN;
 use entropy::AdaptiveMedians;
-use entropy::stereo_pair_from_entropy;
 use spans::is_within;
+use stereo_pair::stereo_pair_from_entropy;
 
 // The bits written, and the medians after them.
 pub struct Packed {

@@ -2,11 +2,10 @@
 -- slots. The definitions of the layers below say what the values are.
 -- Assumes nothing.
 use Prim.Native.Nat.{ℕ}
-use mathlib.Core.List.{List, [], _∷_, _++_}
+use mathlib.Core.List.{List, [], _∷_}
 use lib.IntN.{ℤ}
 use Rattle.logpack.specs.LogWord.{logWord}
 use Rattle.logpack.specs.Reach.{logWordRefusal}
-use Rattle.entropy.specs.Entropy.{entropyInfo, entropyRefusal}
 use Rattle.answers.specs.Guard.{orElse}
 use Rattle.pass_bytes.specs.PassBytes.{termOfByte, deltaOfByte, weightOfByte}
 use Rattle.slots.specs.Slots.{slotRefusal}
@@ -26,11 +25,3 @@ termByteValues byte = termOfByte byte ∷ deltaOfByte byte ∷ []
 -- `wv_weight_byte`: the weight
 abbrev pub weightByteValues : ℕ → List ℤ
 weightByteValues byte = weightOfByte byte ∷ []
-
--- `wv_entropy`: the three left medians, then the three right ones
-abbrev pub entropyValues : List ℕ → List ℤ
-entropyValues payload = entropyInfo payload .«medians_left» ++ entropyInfo payload .«medians_right»
-
--- 6 before 1, and 1 before 17 (Q7.2)
-abbrev pub entropyAnswer : List ℕ → List ℤ → ℕ
-entropyAnswer payload medians = orElse (slotRefusal 6 medians) (entropyRefusal payload)

@@ -1,5 +1,4 @@
-// Values of one word or byte, and of the entropy payload, in lists of slots. A refused call leaves
-// the lent list as it was.
+// Values of one word or byte in lists of slots. A refused call leaves the lent list as it was.
 use answers::Outcome;
 use answers::Refusal;
 use answers::number;
@@ -7,7 +6,8 @@ use answers::outcome_number;
 use slots::lay;
 ghost use mathlib.Core.Path.{_≡_};
 ghost use Rattle.slots.specs.Slots.{slotRefusal, leaveValues};
-ghost use Rattle.value_slots.specs.Values.{logWordValues, logWordAnswer, termByteValues, weightByteValues, entropyValues, entropyAnswer};
+ghost use Rattle.value_slots.specs.Values.{logWordValues, logWordAnswer};
+ghost use Rattle.value_slots.specs.Values.{termByteValues, weightByteValues};
 
 // `wv_log_word`: the value of a log word, into 1 slot. Refuses 6, then 17.
 pub fn log_word(word: i16, value: &mut [i32]) -> u32
@@ -59,30 +59,5 @@ pub fn weight_byte(byte: u8, out: &mut [i32]) -> u32
     }
     let values = [pass_bytes::expand_weight_byte(byte)];
     lay(&values, 0, out);
-    0
-}
-
-// `wv_entropy`: the signed medians of an entropy payload, left then right, into 6 slots. Refuses 6,
-// then 1, then 17.
-pub fn entropy_medians(entropy: &[u8], medians: &mut [i32]) -> u32
-    ensures answer { λ r. ⌜ r ≡ entropyAnswer (now (entropy .entry)) (now (medians .entry)) ⌝ }
-    ensures medians { λ r. ⌜
-        now (medians .exit)
-        ≡ leaveValues r (entropyValues (now (entropy .entry))) (now (medians .entry))
-        ⌝ }
-{
-    if medians.len() < 6 {
-        return number(Refusal::ListLength);
-    }
-    let answer = entropy::expand_entropy(entropy);
-    let outcome = answer.outcome;
-    let info = answer.info;
-    let Outcome::Accepted = outcome else {
-        return outcome_number(outcome);
-    };
-    let left = info.medians_left;
-    let right = info.medians_right;
-    lay(&left, 0, medians);
-    lay(&right, 3, medians);
     0
 }

@@ -2,7 +2,8 @@
 // was.
 ghost use mathlib.Core.Path.{_≡_};
 ghost use Rattle.slots.specs.Slots.{slotRefusal, leaveValues};
-ghost use Rattle.value_slots.specs.Values.{logWordValues, logWordAnswer, termByteValues, weightByteValues, entropyValues, entropyAnswer};
+ghost use Rattle.value_slots.specs.Values.{logWordValues, logWordAnswer, termByteValues, weightByteValues};
+ghost use Rattle.entropy_slots.specs.EntropySlots.{entropyValues, entropyAnswer};
 
 // The value of a log word, into 1 slot. Refuses 6, then 17.
 #[no_mangle]
@@ -47,5 +48,5 @@ pub extern "C" fn wv_entropy(entropy: &[u8], medians: &mut [i32]) -> u32
         ≡ leaveValues r (entropyValues (now (entropy .entry))) (now (medians .entry))
         ⌝ }
 {
-    value_slots::entropy_medians(entropy, medians)
+    entropy_slots::entropy_medians(entropy, medians)
 }

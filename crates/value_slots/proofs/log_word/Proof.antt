@@ -14,7 +14,7 @@ use Rattle.logpack.proofs.Negation.{again}
 use Rattle.logpack.proofs.ReachLaws.{in-reach, told-value}
 use Rattle.overlay.specs.Overlay.{overlay}
 use Rattle.value_slots.specs.Values.{logWordValues}
-use Rattle.value_slots.proofs.CallLaws.{call-short, call-refused, call-laid}
+use Rattle.slots.proofs.CallLaws.{call-short, call-refused, call-laid}
 use borrow.Author.Needs.{needs}
 use Rattle.value_slots.proofs.log_word.Statement.{statement}
 use Rattle.value_slots.proofs.log_word.Tie as tie

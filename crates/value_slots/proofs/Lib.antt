@@ -1,2 +1,0 @@
--- What other crates and the proofs of this one cite.
-pub mod CallLaws
