@@ -1,9 +1,2 @@
--- What the proofs of the functions cite.
-pub mod TurnLaws
-pub mod FrameLaws
-pub mod LagLaws
-pub mod LookLaws
-pub mod TwoLaws
-pub mod CrossLaws
-pub mod SwapLaws
+-- What the proof of the function cites.
 pub mod PassLaws

@@ -1,18 +1,14 @@
-// Implements document 01, "Passes": one pass over a whole buffer, decorrelation and analysis.
+// Implements document 01, "Passes": one pass over a whole buffer, decorrelation and analysis: the
+// match on the term stands outside the loops.
 ghost use mathlib.Core.Path.{_≡_};
 ghost use Rattle.passes.specs.Run.{passed};
-use crate::lookback::run_lag;
-use crate::loops::run_cross;
-use crate::loops::run_swap;
-use crate::loops::run_two;
+use cross_runs::run_cross;
+use cross_runs::run_swap;
+use lag_runs::run_lag;
 use passes::DecorrPass;
 use passes::Direction;
 use passes::Term;
-
-mod frames;
-mod lookback;
-mod loops;
-mod turns;
+use two_runs::run_two;
 
 // One pass over a buffer, by its term. A term that is not valid is run as a lag of 0; no entry runs
 // one.

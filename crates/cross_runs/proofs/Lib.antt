@@ -1,0 +1,4 @@
+-- What the proofs of the functions cite.
+pub mod HeadLaws
+pub mod CrossLaws
+pub mod SwapLaws

@@ -1,0 +1,3 @@
+-- What the proofs of the loops cite.
+pub mod TurnLaws
+pub mod FrameLaws
