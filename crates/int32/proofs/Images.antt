@@ -24,10 +24,10 @@ use Rattle.int32.specs.declared.Int32Info.{Int32Info}
 use Rattle.int32.specs.Info.{Samples32, Fields, fieldsTaken, infoRefusal, settingOf}
 use Rattle.int32.specs.Reassemble.{Readable, appended, reassembled, reassembleRefusal}
 use Rattle.int32.specs.Deconstruct.{allReinsertable, literalOf, deconstructRefusal, deconstructEntry}
-use Rattle.int32.specs.Wide.{InOrder, NoSource, RefusedExactly, AllKeep, PutInTakenOut}
-use Rattle.int32.proofs.InfoLaws.{fields-fit, info-none, info-width}
+use Rattle.int32.specs.Wide.{InOrder, NoSource, EachHasSource, RefusedExactly, AllKeep, PutInTakenOut}
+use Rattle.int32.proofs.InfoLaws.{fields-true, fields-fit, info-none, info-width}
 use Rattle.int32.proofs.ReassembleLaws.{readable, reassemble-accepted, reassemble-number}
-use Rattle.int32.proofs.DeconstructLaws.{deconstruct-tested, deconstruct-accepted, deconstruct-number}
+use Rattle.int32.proofs.DeconstructLaws.{divisible, deconstruct-tested, deconstruct-accepted, deconstruct-number}
 use Rattle.int32.proofs.WideLaws.{appended-length, freed-back, shortened-back, literal-back, all-made}
 
 -- ---- the test of every sample
@@ -81,21 +81,51 @@ module _ (info : Int32Info) (samples : List ℤ) (storage : List ℕ) (h : Sampl
       fields true q e = few q (ltb maxElements (length samples)) refl e
       fields false q e = absurd (omega arith)
 
-  refused : InOrder info samples storage → NoSource (settingOf info) samples → deconstructRefusal info samples (length storage) ≡ 16
-  refused o x =
-      let f = fields-fit info (o .fields) in
-      go f (allReinsertable (settingOf info) samples) refl
+  -- the answer by the test of every sample, where all before it is in order
+  by-test : InOrder info samples storage → (t : Bool) → t ≡ allReinsertable (settingOf info) samples
+      → cond t 0 16 ≡ deconstructRefusal info samples (length storage)
+  by-test o t q =
+      let none = info-none info (length samples) (fields-fit info (o .fields)) (o .few) in
+      deconstruct-tested info samples (length storage) t (sym none) (o .enough) q
+
+  refused : InOrder info samples storage → NoSource (settingOf info) samples
+      → deconstructRefusal info samples (length storage) ≡ 16
+  refused o x = go (info-width info (fields-fit info (o .fields))) (allReinsertable (settingOf info) samples) refl
     where
-      go : Fields info → (t : Bool) → allReinsertable (settingOf info) samples ≡ t → deconstructRefusal info samples (length storage) ≡ 16
-      go f true q = absurd (x .none (each-holds (settingOf info) samples (x .place) (info-width info f) h q (x .inside)))
-      go f false q =
-          sym (deconstruct-tested info samples (length storage) false (sym (info-none info (length samples) f (o .few))) (o .enough) (sym q))
+      go : width (settingOf info) ≤ 31 → (t : Bool) → allReinsertable (settingOf info) samples ≡ t
+          → deconstructRefusal info samples (length storage) ≡ 16
+      go w true q = absurd (x .none (each-holds (settingOf info) samples (x .place) w h q (x .inside)))
+      go w false q = sym (by-test o false (sym q))
+
+  -- and accepted: all is in order, and each sample has a source
+  whole : deconstructRefusal info samples (length storage) ≡ 0
+      → InOrder info samples storage × EachHasSource (settingOf info) samples
+  whole e =
+      let d = divisible info samples (length storage) e in (
+        record { fields = fields-true info (d .fields); few = d .few; enough = d .enough },
+        λ i l. each-holds (settingOf info) samples i (info-width info (d .fields)) h (d .images) l,
+      )
+
+  accepted : InOrder info samples storage → EachHasSource (settingOf info) samples
+      → deconstructRefusal info samples (length storage) ≡ 0
+  accepted o each =
+      go (info-width info (fields-fit info (o .fields))) (allReinsertable (settingOf info) samples) refl
+    where
+      go : width (settingOf info) ≤ 31 → (t : Bool) → allReinsertable (settingOf info) samples ≡ t
+          → deconstructRefusal info samples (length storage) ≡ 0
+      go w true q = sym (by-test o true (sym q))
+      go w false q =
+          let r = some-fails (settingOf info) samples w h q in
+          absurd (r .none (each (r .place) (r .inside)))
 
 pub refused-exactly : RefusedExactly
-refused-exactly info samples storage h = (
-  λ e. why info samples storage h (sym (deconstruct-number info samples storage) ∙ e),
-  λ o x. deconstruct-number info samples storage ∙ refused info samples storage h o x,
-)
+refused-exactly info samples storage h =
+    let e = deconstruct-number info samples storage in (
+      λ z. why info samples storage h (sym e ∙ z),
+      λ o x. e ∙ refused info samples storage h o x,
+      λ z. whole info samples storage h (sym e ∙ z),
+      λ o each. e ∙ accepted info samples storage h o each,
+    )
 
 -- ---- put in, then taken out
 

@@ -2,10 +2,8 @@
 -- and its value ask for.
 -- Assumes nothing.
 use mathlib.Core.Path.{_≡_, refl, sym, ap, ap₂, _∙_}
-use mathlib.Core.Bool.{Bool}
 use mathlib.Core.List.{List, [], _∷_, _++_, map, append-nil}
 use Prim.Native.Nat.{ℕ, suc, _+_, _*_, _≤_, _<_}
-use native.Mathlib.Nat.{suc-mul}
 use native.Mathlib.Numerals.{add-one}
 use native.Mathlib.Decide.{decLt}
 use native.Mathlib.Omega.{arith}
@@ -14,10 +12,7 @@ use lib.ListN.{length, take, drop, set, getD, length-set, drop-of-length-le, Lis
 use mir.Syntax.{w32}
 use mir.Val.{SFits}
 use lib.Seq.{getD-drop, take-all, drop-cons, drop-drop, drop-set-lt, take-suc-set, append-snoc}
-use Rattle.bits.specs.Bits.{num}
-use Rattle.int32_sample.specs.Sample.{below}
 use Rattle.int32.specs.Info.{Samples32}
-use Rattle.int32.specs.Reassemble.{appended}
 
 -- each element from the place i on, replaced
 unfoldable pub mapFrom : (ℕ → ℤ → ℤ) → ℕ → List ℤ → List ℤ
@@ -94,18 +89,3 @@ pub map-from : (g : ℤ → ℤ) (i : ℕ) (xs : List ℤ) → map g xs ≡ mapF
 unfolding mapFrom
 map-from g i [] = refl
 map-from g i (x ∷ xs) = ap (λ (l : List ℤ). g x ∷ l) (map-from g (suc i) xs)
-
--- literal bits: those of the place i
-abbrev pub appendAt : ℕ → List Bool → ℕ → ℤ → ℤ
-appendAt sent bits i x = below sent (num (take sent (drop (i * sent) bits))) x
-
-appended-at : (sent : ℕ) (bits : List Bool) (i : ℕ) (xs : List ℤ) → appended sent (drop (i * sent) bits) xs ≡ mapFrom (appendAt sent bits) i xs
-unfolding mapFrom appended
-appended-at sent bits i [] = refl
-appended-at sent bits i (x ∷ xs) =
-    let d : drop sent (drop (i * sent) bits) ≡ drop (suc i * sent) bits =
-    drop-drop sent (i * sent) bits ∙ ap (λ (n : ℕ). drop n bits) (sym (suc-mul i sent)) in
-    ap (λ (l : List ℤ). appendAt sent bits i x ∷ l) (ap (λ (b : List Bool). appended sent b xs) d ∙ appended-at sent bits (suc i) xs)
-
-pub appended-from : (sent : ℕ) (bits : List Bool) (xs : List ℤ) → appended sent bits xs ≡ mapFrom (appendAt sent bits) 0 xs
-appended-from sent bits xs = let z : 0 * sent ≡ 0 = omega arith in ap (λ (n : ℕ). appended sent (drop n bits) xs) (sym z) ∙ appended-at sent bits 0 xs

@@ -4,9 +4,6 @@ pub mod InfoLaws
 pub mod ReassembleLaws
 pub mod DeconstructLaws
 pub mod WideLaws
-pub mod TestLaws
-pub mod LiteralLaws
-pub mod LayLaws
 pub mod Theorems
 pub mod Images
 pub mod Cases

@@ -62,10 +62,6 @@ pub reinserted-nothing : (s : Setting) (xs : List ℤ) → width s ≡ 0 → Sam
 reinserted-nothing s [] w h = refl
 reinserted-nothing s (x ∷ xs) w h = ap₂ (λ (y : ℤ) (l : List ℤ). y ∷ l) (reinsert-nothing s x w (h 0)) (reinserted-nothing s xs w (λ i. h (suc i)))
 
--- the literal bits of the place i lie within those of all samples
-pub literal-room : (i n sent bits : ℕ) → i < n → n * sent ≤ bits → i * sent + sent ≤ bits
-literal-room i n sent bits h l = le-trans (rw (← suc-mul i sent) (mul-le-mul-right sent h)) l
-
 -- ---- taken out, then put back
 
 -- the literal bits, whatever bits follow them

@@ -49,12 +49,20 @@ pub record NoSource (s : Setting) (samples : List ℤ) : Type 0 where
   pub inside : place < length samples
   pub none : Source s (getD samples place (pos 0)) → ⊥
 
--- 16 is refused there, and nowhere else
+-- each sample is the image of one
+abbrev pub EachHasSource : Setting → List ℤ → Type 0
+EachHasSource s samples = (i : ℕ) → i < length samples → Source s (getD samples i (pos 0))
+
+-- "it is refused exactly when": 16 there and nowhere else, and 0, which is accepted, where all is in
+-- order and each sample is the image of one, and nowhere else (Q6.4)
 abbrev pub RefusedExactly : Type 0
 RefusedExactly =
     (info : Int32Info) (samples : List ℤ) (storage : List ℕ) → Samples32 samples
-    → (deconstructEntry info samples storage .refusal ≡ 16 → InOrder info samples storage × NoSource (settingOf info) samples)
-    × (InOrder info samples storage → NoSource (settingOf info) samples → deconstructEntry info samples storage .refusal ≡ 16)
+    → let refusal = deconstructEntry info samples storage .refusal in
+    (refusal ≡ 16 → InOrder info samples storage × NoSource (settingOf info) samples)
+    × (InOrder info samples storage → NoSource (settingOf info) samples → refusal ≡ 16)
+    × (refusal ≡ 0 → InOrder info samples storage × EachHasSource (settingOf info) samples)
+    × (InOrder info samples storage → EachHasSource (settingOf info) samples → refusal ≡ 0)
 
 -- no sample loses a bit: not where the literal bits are put in below it, and not where the redundant
 -- ones are

@@ -1,15 +1,12 @@
-// Implements document 02 §6, after int32.rs: recordings of samples wider than the words. Each sample
-// is completed by literal bits of a second bit stream and by redundant bits, and the way back takes
-// both out. Every test comes before the first sample or byte is written.
+// Document 02 §6, after int32.rs: recordings of samples wider than the words. Each sample is completed
+// by literal bits of a second bit stream and by redundant bits, and the way back takes both out. Here
+// are the fields that say how, what both entries answer, and the tests that they share.
 use answers::Outcome;
 use answers::Refusal;
 use answers::limits::MAX_ELEMENTS;
 ghost use mathlib.Core.Path.{_≡_};
 ghost use Rattle.answers.specs.Numbers.{outcomeNumber};
 ghost use Rattle.int32.specs.Info.{infoRefusal};
-
-pub mod deconstruct;
-pub mod reassemble;
 
 // The most bits that a field tells of.
 const MAX_BITS: u32 = 31;
