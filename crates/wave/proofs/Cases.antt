@@ -9,7 +9,8 @@ use lib.ListN.{take, set}
 use Rattle.little_endian.specs.LittleEndian.{littleEndian, numberOf}
 use Rattle.wave_file.specs.File.{fmtChunk, waveHeader}
 use Rattle.wave_file.proofs.Cases.{oneFrame}
-use Rattle.wave.specs.Import.{alike, isWave, samplesOf, fileSamples}
+use Rattle.wave_data.specs.Data.{samplesOf, fileSamples}
+use Rattle.wave_header.specs.Wave.{alike, isWave}
 
 taken : isWave oneFrame ≡ true
 unfolding isWave alike waveHeader fmtChunk littleEndian numberOf

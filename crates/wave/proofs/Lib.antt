@@ -1,9 +1,3 @@
--- What other crates cite.
-pub mod LayLaws
-pub mod AlikeLaws
-pub mod SampleLaws
-pub mod ExportLaws
-pub mod ImportLaws
-pub mod TakeLaws
+-- What is shown of both entries.
 pub mod Theorems
 pub mod Cases

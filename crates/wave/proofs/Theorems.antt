@@ -13,14 +13,17 @@ use Rattle.overlay.proofs.OverlayLaws.{overlay-take}
 use Rattle.little_endian.specs.LittleEndian.{littleEndian}
 use Rattle.little_endian.proofs.LittleEndianLaws.{number-back}
 use Rattle.wave_file.specs.File.{headerBytes, fmtChunk, waveHeader, dataBytes, waveFile}
-use Rattle.wave.specs.Export.{exportRefusal}
-use Rattle.wave.specs.Import.{alike, fileRate, isWave, fileSamples, importRefusal}
-use Rattle.wave.specs.SoundFile.{Bytes, InSpan, ExportThenImport, EveryExport, OnlyExports, NoSecondFile, ExportsInSpan, NoTwoSoundsAlike}
+use Rattle.wave_data.specs.Data.{Bytes, fileSamples}
+use Rattle.wave_export.specs.Export.{exportRefusal}
+use Rattle.wave_header.specs.Wave.{alike, fileRate, isWave}
+use Rattle.wave_import.specs.Import.{importRefusal}
+use Rattle.wave.specs.SoundFile.{InSpan, ExportThenImport, EveryExport, OnlyExports, NoSecondFile, ExportsInSpan, NoTwoSoundsAlike}
 use Rattle.wave_file.proofs.FileLaws.{rate-in, rate-out, header-length, file-length}
-use Rattle.wave.proofs.AlikeLaws.{alike-same, alike-is}
-use Rattle.wave.proofs.SampleLaws.{samples-back, data-back, samples-within}
-use Rattle.wave.proofs.ExportLaws.{Ready, export-none, export-ready, export-number, export-told}
-use Rattle.wave.proofs.ImportLaws.{Wave, Importable, file-samples, wave-compared, wave-parts, import-none, importable, import-number, import-told}
+use Rattle.wave_header.proofs.AlikeLaws.{alike-same, alike-is}
+use Rattle.wave_data.proofs.SampleLaws.{file-samples, samples-back, data-back, samples-within}
+use Rattle.wave_export.proofs.ExportLaws.{Ready, export-none, export-ready, export-number, export-told}
+use Rattle.wave_header.proofs.WaveLaws.{Wave, wave-compared, wave-parts}
+use Rattle.wave_import.proofs.ImportLaws.{Importable, import-none, importable, import-number, import-told}
 
 -- ---- a file that export wrote
 

@@ -1,3 +1,1 @@
-pub mod Export
-pub mod Import
 pub mod SoundFile

@@ -4,17 +4,14 @@
 use mathlib.Core.Path.{_≡_}
 use mathlib.Core.Bool.{true}
 use mathlib.Core.List.{List}
-use Prim.Native.Nat.{ℕ, _%_, _≤_, _<_}
+use Prim.Native.Nat.{ℕ, _%_, _≤_}
 use lib.IntN.{ℤ}
-use lib.ListN.{length, take, getD}
+use lib.ListN.{length, take}
 use Rattle.answers.specs.Limits.{maxElements}
 use Rattle.wave_file.specs.File.{maxRate, waveFile}
-use Rattle.wave.specs.Export.{within16, ExportTold, tellExport, exportEntry}
-use Rattle.wave.specs.Import.{ImportTold, importEntry, tellImport}
-
--- each is a byte
-abbrev pub Bytes : List ℕ → Type 0
-Bytes list = (i : ℕ) → getD list i 0 < 256
+use Rattle.wave_data.specs.Data.{within16, Bytes}
+use Rattle.wave_export.specs.Export.{ExportTold, tellExport, exportEntry}
+use Rattle.wave_import.specs.Import.{ImportTold, importEntry, tellImport}
 
 -- a rate and samples in span: what a sound file can hold
 pub record InSpan (rate : ℕ) (samples : List ℤ) : Type 0 where

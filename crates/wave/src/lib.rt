@@ -1,4 +1,3 @@
-// Implements document 02 §1: a recording as an ordinary sound file, and back. Import takes just what
-// export writes (specs/SoundFile.antt), so no two files that it accepts stand for the same sound.
-pub mod export;
-pub mod import;
+// Document 02 §1: export and import of sound files belong together. Import accepts just what export
+// writes, so no two files that it accepts stand for the same sound; specs/SoundFile.antt states it. No
+// code is needed for that.

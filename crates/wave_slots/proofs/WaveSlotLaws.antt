@@ -10,8 +10,8 @@ use Rattle.answers.specs.declared.Refusal.{Refusal}
 use Rattle.answers.specs.Numbers.{outcomeNumber}
 use Rattle.overlay.specs.Overlay.{overlay}
 use Rattle.slots.proofs.FillLaws.{fill-short, fill-refused, fill-laid}
-use Rattle.wave.specs.Export.{exportEntry}
-use Rattle.wave.specs.Import.{importEntry}
+use Rattle.wave_export.specs.Export.{exportEntry}
+use Rattle.wave_import.specs.Import.{importEntry}
 use Rattle.wave_slots.specs.WaveSlots.{leaveExport, exportCall, leaveImport, importCall}
 
 module _ (rate : ℕ) (samples : List ℤ) (out answer : List ℕ) where

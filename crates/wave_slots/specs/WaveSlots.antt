@@ -5,8 +5,8 @@ use Prim.Native.Nat.{ℕ}
 use mathlib.Core.List.{List, [], _∷_}
 use lib.IntN.{ℤ}
 use Rattle.slots.specs.Slots.{Filled, fillCall}
-use Rattle.wave.specs.Export.{ExportTold, exportEntry}
-use Rattle.wave.specs.Import.{ImportTold, importEntry}
+use Rattle.wave_export.specs.Export.{ExportTold, exportEntry}
+use Rattle.wave_import.specs.Import.{ImportTold, importEntry}
 
 -- what export tells, with 1 slot: the bytes written
 abbrev pub leaveExport : List ℕ → List ℕ → ExportTold → Filled ℕ

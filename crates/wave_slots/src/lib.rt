@@ -5,8 +5,8 @@ use answers::Refusal;
 use answers::number;
 use answers::outcome_number;
 use slots::lay_words;
-use wave::export::export_wave;
-use wave::import::import_wave;
+use wave_export::export_wave;
+use wave_import::import_wave;
 ghost use mathlib.Core.Path.{_≡_};
 ghost use Rattle.wave_slots.specs.WaveSlots.{exportCall, importCall};
 
