@@ -17,10 +17,10 @@ use Rattle.answers.proofs.TestLaws.{clash, neither}
 use Rattle.bits.specs.Bits.{bitsOf}
 use Rattle.entropy.specs.Seed.{seedRefusal, seedMedians}
 use Rattle.word_state.specs.State.{State, start}
-use Rattle.samples.specs.Reading.{reading}
-use Rattle.samples.specs.Refused.{Why}
+use Rattle.readings.specs.Reading.{reading}
+use Rattle.readings.specs.Refused.{Why}
 use Rattle.samples.specs.View.{ReadTold, tellReading, readRefusal, refuseReading, readEntry}
-use Rattle.samples.proofs.RefusalLaws.{reading-why}
+use Rattle.readings.proofs.RefusalLaws.{reading-why}
 use Rattle.word_bits.specs.Residuals.{spanned}
 use Rattle.packing.specs.Entry.{PackTold, refusePacking, tellPacking, packedFrom, packEntry}
 use Rattle.packing.specs.Entry.{refusalBeforeSpan, spanRefusal, packRefusal}

@@ -19,7 +19,7 @@ use Rattle.bits.proofs.RoundTrip.{At, at-first, at-second}
 use Rattle.entropy.specs.Medians.{Medians, Small}
 use Rattle.entropy.specs.Seed.{seedRefusal, seedMedians}
 use Rattle.word_state.specs.State.{State, start}
-use Rattle.samples.specs.Reading.{Reading, reading}
+use Rattle.readings.specs.Reading.{Reading, reading}
 use Rattle.samples.specs.View.{tellReading, readRefusal, readEntry}
 use Rattle.word_bits.specs.Residuals.{spanned}
 use Rattle.packing.specs.Packing.{Out, wordOut, packed}

@@ -18,7 +18,8 @@ use Rattle.bits.proofs.RoundTrip.{At, at-first, at-second, low-at}
 use Rattle.fields.specs.Counts.{prefix}
 use Rattle.medians.specs.Interval.{lowOf, highOf}
 use Rattle.word_state.specs.State.{State, due, other, paid, inRun, unbroken, cleared, flagged, after, runHere, onZeros}
-use Rattle.words.specs.Word.{Report, none, zoneOf, Word, given, onPrefix, signed, value, plain, fresh, word}
+use Rattle.words.specs.Word.{Word, given, onPrefix, signed, value, plain, fresh, word}
+use Rattle.zones.specs.Report.{Report, none, zoneOf}
 use Rattle.words.proofs.PartLaws.{fresh-word, fresh-run}
 use Rattle.word_bits.specs.Counts.{count}
 use Rattle.word_bits.specs.Residuals.{zeros, ahead, sign}

@@ -24,7 +24,7 @@ use Rattle.medians.specs.Adaptation.{up, down, adapt}
 use Rattle.overlay.specs.Overlay.{overlay}
 use Rattle.word_state.specs.State.{paid, inRun, unbroken, cleared, flagged, after, runDue}
 use Rattle.words.specs.Word.{value, plain, fresh, word}
-use Rattle.samples.specs.Reading.{reading}
+use Rattle.readings.specs.Reading.{reading}
 use Rattle.samples.specs.View.{ReadTold, readRefusal, readEntry}
 
 -- the log word 256, six times

@@ -18,7 +18,7 @@ use Rattle.bits.specs.Bits.{bitsOf}
 use Rattle.entropy.specs.Medians.{MedianPair}
 use Rattle.entropy.specs.Seed.{seedRefusal, seedMedians}
 use Rattle.word_state.specs.State.{start}
-use Rattle.samples.specs.Reading.{reading}
+use Rattle.readings.specs.Reading.{reading}
 use Rattle.samples.specs.View.{ReadTold, tellReading, readRefusal, refuseReading, readEntry}
 
 module _ (entropy payload : List ℕ) (frames : ℕ) (list : List ℤ) where

@@ -19,11 +19,11 @@ use Rattle.entropy.specs.Seed.{seedRefusal, seedMedians}
 use Rattle.entropy.proofs.SeedBounds.{cond-le, seed-le}
 use Rattle.overlay.proofs.OverlayLaws.{overlay-take}
 use Rattle.word_state.specs.State.{State, start}
-use Rattle.samples.specs.Reading.{reading}
+use Rattle.readings.specs.Reading.{reading}
 use Rattle.samples.specs.View.{ReadTold, viewReading, tellReading, readRefusal, refuseReading, readEntry}
 use Rattle.samples.specs.declared.ReadAnswer.{ReadAnswer}
-use Rattle.samples.proofs.WordBounds.{small-reading}
-use Rattle.samples.proofs.LocalLaws.{reading-inside}
+use Rattle.readings.proofs.WordBounds.{small-reading}
+use Rattle.readings.proofs.LocalLaws.{reading-inside}
 
 -- what is told of a payload of some bytes
 pub record SmallTold (bytes frames : ℕ) (t : ReadTold) : Type 0 where

@@ -1,10 +1,10 @@
--- What the structs of the two entries stand for, and what each entry answers (X2, X3).
+-- What the struct of reading stands for, and what reading answers (X2).
 -- Assumes nothing.
 use mathlib.Core.Bool.{cond, _||_}
 use mathlib.Core.List.{List}
 use Prim.Native.Nat.{ℕ, _*_}
 use lib.Dec.{ltb, eqb}
-use lib.IntN.{ℤ, pos}
+use lib.IntN.{ℤ}
 use lib.ListN.{length}
 use Rattle.answers.specs.Guard.{unlessRefused}
 use Rattle.answers.specs.Limits.{maxFrames, maxPayloadBytes}
@@ -14,51 +14,8 @@ use Rattle.entropy.specs.Medians.{MedianPair, pairOf, zeroPair}
 use Rattle.entropy.specs.Seed.{seedRefusal, seedMedians}
 use Rattle.overlay.specs.Overlay.{overlay}
 use Rattle.word_state.specs.State.{State, start}
-use Rattle.word_state.specs.View.{stateOf}
-use Rattle.words.specs.Word.{Report, none, zone0, zone1, zone2, over, Word, given, refused, word}
-use Rattle.samples.specs.Reading.{Reading, reading}
-use Rattle.samples.specs.declared.Zone.{Zone}
-use Rattle.samples.specs.declared.MaybeZone.{MaybeZone}
-use Rattle.samples.specs.declared.WordAnswer.{WordAnswer}
+use Rattle.readings.specs.Reading.{Reading, reading}
 use Rattle.samples.specs.declared.ReadAnswer.{ReadAnswer}
-
--- ---- one word
-
--- the report that an enum of zones is
-abbrev pub reportOfZone : Zone → Report
-reportOfZone Zone.Zone0 = zone0
-reportOfZone Zone.Zone1 = zone1
-reportOfZone Zone.Zone2 = zone2
-reportOfZone (Zone.Zone2Overflow k) = over k
-
--- and none
-abbrev pub reportOf : MaybeZone → Report
-reportOf MaybeZone.None = none
-reportOf (MaybeZone.Some z) = reportOfZone z
-
--- what the entry answers: the refusal's number (0: accepted), sample, place, state and report
-pub record WordTold : Type 0 where
-  pub refusal : ℕ
-  pub sample : ℤ
-  pub place : ℕ
-  pub state : State
-  pub report : Report
-
--- the answer that the entry's struct holds
-abbrev pub viewWord : WordAnswer → WordTold
-viewWord r = record { refusal = outcomeNumber (r .outcome); sample = r .sample; place = r .place; state = stateOf (r .state); report = reportOf (r .report .zone) }
-
--- document 01 (X3): "A refusal gives sample 0 and the old state and place"
-abbrev pub tellWord : ℕ → State → Word → WordTold
-tellWord p s (given v q t z) = record { refusal = 0; sample = v; place = q; state = t; report = z }
-tellWord p s (refused c) = record { refusal = c; sample = pos 0; place = p; state = s; report = none }
-
--- document 01 (X3): "One word: 5, the payload bytes only; 12, next_channel above 1; 3; 4"
-unfoldable pub oneWord : List ℕ → ℕ → State → WordTold
-oneWord payload p s =
-    tellWord p s (cond (ltb maxPayloadBytes (length payload)) (refused 5) (cond (ltb 1 (s .channel)) (refused 12) (word (bitsOf payload) p s)))
-
--- ---- reading
 
 -- what reading answers: the refusal's number (0: accepted), bits used, medians after, samples
 -- written; and what the lent list then holds

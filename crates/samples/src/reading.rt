@@ -1,7 +1,7 @@
 // Implements document 01, "Reading": the refusals that come before any word, then word after word
 // into a lent list. The medians are a local array that is indexed by channel, and the rest of the
-// state is in locals; a run is one turn, so that no debt is held. Behind each word that is read field
-// by field come plain words, as far as they go (`plain`): most words are, and that is what is fast.
+// state is in locals; a run is one turn, so that no debt is held. After each word that is read field by
+// field come short words, as far as they go: most words are, and that is what is fast.
 ghost use mathlib.Core.Path.{_≡_};
 ghost use mathlib.Core.List.{List};
 ghost use Prim.Native.Nat.{_≤_, _<_};
@@ -12,18 +12,18 @@ ghost use Rattle.answers.specs.Numbers.{outcomeNumber};
 ghost use Rattle.bits.specs.Bits.{bitsOf};
 ghost use Rattle.entropy.specs.Medians.{pairOf};
 ghost use Rattle.word_state.specs.State.{start};
-ghost use Rattle.samples.specs.Reading.{reading};
+ghost use Rattle.readings.specs.Reading.{reading};
 ghost use Rattle.samples.specs.Zeros.{ZerosIs};
 ghost use Rattle.samples.specs.View.{viewReading, tellReading, refuseReading, readEntry};
 use crate::ReadAnswer;
-use crate::plain::read_plain_words;
-use crate::plain::stands_at;
 use answers::Outcome;
 use answers::Refusal;
 use answers::limits::MAX_FRAMES;
 use answers::limits::MAX_PAYLOAD_BYTES;
 use entropy::AdaptiveMedians;
 use medians::adaptation::adapt;
+use short_reading::read_short_words;
+use short_reading::stands_at;
 use stereo_pair::stereo_pair_from_entropy;
 use word_state::zero_run_eligible;
 use words::coded::Coded;
@@ -119,7 +119,7 @@ fn decode_packed_samples_stereo(
                 medians[written % 2] = adapt(due, ones_count);
                 out[written] = value;
                 let from = stands_at(next, written + 1, medians, zero, one);
-                let at = read_plain_words(payload, out, from);
+                let at = read_short_words(payload, out, from);
                 let left = at.left;
                 let right = at.right;
                 medians = [left, right];

@@ -14,9 +14,10 @@ use Rattle.overlay.specs.Overlay.{overlay}
 use Rattle.overlay.proofs.OverlayLaws.{overlay-two}
 use Rattle.entropy.specs.Medians.{pairOf}
 use Rattle.word_state.specs.State.{State}
-use Rattle.samples.specs.View.{viewReading, readEntry, viewWord, oneWord}
+use Rattle.samples.specs.View.{viewReading, readEntry}
+use Rattle.one_word.specs.View.{viewWord, oneWord}
 use Rattle.samples.specs.declared.ReadAnswer.{ReadAnswer}
-use Rattle.samples.specs.declared.WordAnswer.{WordAnswer}
+use Rattle.one_word.specs.declared.WordAnswer.{WordAnswer}
 use Rattle.word_slots.specs.WordSlots.{countSlots, slotsPlace, slotsState, leaveWord}
 use Rattle.word_slots.specs.Calls.{readCall, wordCall}
 

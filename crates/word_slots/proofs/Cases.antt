@@ -17,8 +17,9 @@ use Rattle.medians.specs.Interval.{lowOf, highOf}
 use Rattle.medians.specs.Adaptation.{up, down, adapt}
 use Rattle.word_state.specs.State.{paid, inRun, unbroken, cleared, flagged, after, runDue}
 use Rattle.words.specs.Word.{value, plain, fresh, word}
-use Rattle.samples.specs.Reading.{reading}
-use Rattle.samples.specs.View.{readRefusal, readEntry, oneWord}
+use Rattle.readings.specs.Reading.{reading}
+use Rattle.samples.specs.View.{readRefusal, readEntry}
+use Rattle.one_word.specs.View.{oneWord}
 use Rattle.overlay.specs.Overlay.{overlay}
 use Rattle.word_slots.specs.Calls.{readCall, wordCall}
 

@@ -19,8 +19,9 @@ use Rattle.overlay.specs.Overlay.{overlay}
 use Rattle.overlay.proofs.OverlayLaws.{overlay-two}
 use Rattle.word_state.specs.State.{State}
 use Rattle.word_state.specs.View.{stateOf}
-use Rattle.samples.specs.View.{reportOf, viewWord}
-use Rattle.samples.specs.declared.WordAnswer.{WordAnswer}
+use Rattle.one_word.specs.View.{viewWord}
+use Rattle.zones.specs.Report.{reportOf}
+use Rattle.one_word.specs.declared.WordAnswer.{WordAnswer}
 use Rattle.word_state.proofs.StateLaws.{noSet, there}
 use Rattle.answers.proofs.GuardLaws.{guard-refused}
 use Rattle.word_slots.specs.WordSlots.{medianSlots, pairSlots, isSet, stateSlots, reportSlots, leaveWord}

@@ -10,8 +10,8 @@ use Rattle.bits.specs.Bits.{val}
 use Rattle.entropy.specs.Medians.{Medians, MedianPair}
 use Rattle.overlay.specs.Overlay.{overlay}
 use Rattle.word_state.specs.State.{State}
-use Rattle.words.specs.Word.{Report, none, zone0, zone1, zone2, over}
-use Rattle.samples.specs.View.{WordTold}
+use Rattle.zones.specs.Report.{Report, none, zone0, zone1, zone2, over}
+use Rattle.one_word.specs.View.{WordTold}
 use Rattle.slots.specs.Slots.{leaveValues}
 
 -- the 3 slots of a set of medians

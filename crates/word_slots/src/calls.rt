@@ -7,7 +7,7 @@ use crate::state_in;
 use answers::Refusal;
 use answers::number;
 use answers::outcome_number;
-use samples::one_word::decode_sample_stateful_stereo;
+use one_word::decode_sample_stateful_stereo;
 use samples::reading::decode_packed_samples_stereo_from_entropy;
 use slots::lay_words;
 ghost use mathlib.Core.Path.{_≡_};

@@ -23,7 +23,8 @@ use Rattle.medians.specs.Interval.{lowOf, highOf}
 use Rattle.word_state.specs.State.{State, inRun, unbroken, cleared, flagged, runDue, runHere, onZeros}
 use Rattle.answers.proofs.TestLaws.{clash}
 use Rattle.word_state.proofs.StateLaws.{zeros-some, same-unbroken}
-use Rattle.words.specs.Word.{Word, given, none, over, zoneOf, onField, signed, value, plain, fresh}
+use Rattle.words.specs.Word.{Word, given, onField, signed, value, plain, fresh}
+use Rattle.zones.specs.Report.{none}
 use Rattle.words.specs.Parts.{ValueIs, SignedCodeIs, CountIs, notCounted, ZeroRunIs}
 use Rattle.words.specs.declared.coded.OnesCount.{OnesCount}
 use Rattle.words.specs.declared.coded.SignedValue.{SignedValue}
@@ -126,10 +127,3 @@ run-zero bits p n q h z = record { is = λ s e. rw (fresh-run bits p s e, h, z) 
 -- a run length above 0
 pub run-some : (bits : List Bool) (p n q : ℕ) → runLength bits p ≡ Value n q → 0 < n → ZeroRunIs bits p true (ZeroRun.Run (n - 1) q)
 run-some bits p n q h l = record { is = λ s e. rw (fresh-run bits p s e, h) (zeros-some n (λ d. given (pos 0) q (inRun d s) none) (plain bits q (unbroken s)) l) }
-
--- the zone of a count of 3 or more, at a count that is known only by its order
-pub zone-many : (k : ℕ) → 3 ≤ k → over k ≡ zoneOf k
-zone-many zero h = absurd (omega arith)
-zone-many (suc zero) h = absurd (omega arith)
-zone-many (suc (suc zero)) h = absurd (omega arith)
-zone-many (suc (suc (suc j))) h = refl

@@ -11,7 +11,8 @@ use Rattle.entropy.specs.Medians.{Medians}
 use Rattle.fields.specs.declared.Prefix.{Prefix}
 use Rattle.medians.specs.Interval.{lowOf, highOf}
 use Rattle.word_state.specs.State.{State, due, withFlags, inRun, unbroken, after, runHere}
-use Rattle.words.specs.Word.{Word, given, refused, none, zoneOf, value, plain, fresh}
+use Rattle.words.specs.Word.{Word, given, refused, value, plain, fresh}
+use Rattle.zones.specs.Report.{none, zoneOf}
 use Rattle.words.specs.declared.coded.OnesCount.{OnesCount}
 use Rattle.words.specs.declared.coded.SignedValue.{SignedValue}
 use Rattle.words.specs.declared.coded.ZeroRun.{ZeroRun}

@@ -12,23 +12,8 @@ use Rattle.fields.specs.Counts.{runLength, prefix}
 use Rattle.fields.specs.Code.{truncatedBinary}
 use Rattle.fields.specs.declared.Prefix.{Prefix}
 use Rattle.medians.specs.Interval.{lowOf, highOf}
+use Rattle.zones.specs.Report.{Report, none, zoneOf}
 use Rattle.word_state.specs.State.{State, due, paid, inRun, unbroken, cleared, flagged, after, runDue, onZeros}
-
--- document 01 (Z1): "A word's report holds its zone, the overflow zone with its count; a zero out
--- of a run and a refused word report none"
-pub data Report : Type 0 where
-  none : Report
-  zone0 : Report
-  zone1 : Report
-  zone2 : Report
-  over : ℕ → Report
-
--- the zone of a count
-abbrev pub zoneOf : ℕ → Report
-zoneOf zero = zone0
-zoneOf (suc zero) = zone1
-zoneOf (suc (suc zero)) = zone2
-zoneOf (suc (suc (suc k))) = over (suc (suc (suc k)))
 
 -- what a word gives: a sample, the place after, the state after and a report; or the number of a
 -- refusal

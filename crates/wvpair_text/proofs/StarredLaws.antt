@@ -14,7 +14,7 @@ use Rattle.logpack.specs.Exp2Table.{exp2Table}
 use Rattle.logpack.specs.LogWord.{mantissa, magnitude, logWord}
 use Rattle.medians.specs.Adaptation.{up, down, adapt}
 use Rattle.medians.specs.Interval.{lowOf, highOf}
-use Rattle.samples.specs.Reading.{reading}
+use Rattle.readings.specs.Reading.{reading}
 use Rattle.word_state.specs.State.{paid, inRun, unbroken, cleared, flagged, after, runDue}
 use Rattle.samples.specs.View.{readRefusal, readEntry}
 use Rattle.words.specs.Word.{value, plain, fresh, word}

@@ -14,7 +14,7 @@ use Rattle.entropy.specs.Medians.{pairOf}
 use Rattle.word_state.specs.State.{start}
 use Rattle.words.specs.Parts.{codedWord}
 use Rattle.word_state.proofs.StateLaws.{length-mapped}
-use Rattle.samples.specs.declared.plain.Standing.{Standing}
+use Rattle.short_reading.specs.declared.Standing.{Standing}
 use Rattle.samples.proofs.LoopLaws.{Loop, loop-start, loop-end, loop-run, loop-sample, loop-stop, room-behind}
 use Rattle.samples.proofs.reading.decode_packed_samples_stereo.Statement.{statement}
 use Rattle.samples.proofs.reading.decode_packed_samples_stereo.Tie as tie
@@ -53,8 +53,8 @@ loop-again c =
     let l = at-loop w .loop .inv in
     loop-run _ _ _ _ _ _ _ _ _ _ l _ _ (omega arith) (w .before .zero-run-eligible .ensures) (w .read-word .ensures) _ _ _ _ (y .behind .given .1) (c .before .put-zeros .ensures)
 
-read-plain-words-requires : tie.Need-read-plain-words-requires Inv-loop μ-loop
-read-plain-words-requires c κs =
+read-short-words-requires : tie.Need-read-short-words-requires Inv-loop μ-loop
+read-short-words-requires c κs =
     let y : tie.After-value Inv-loop μ-loop = search needs in
     let w = y .before .before in
     let l = at-loop w .loop in
@@ -66,26 +66,26 @@ loop-less-2 : tie.Need-loop-less-2 Inv-loop μ-loop
 loop-less-2 c =
     let y : tie.After-value Inv-loop μ-loop = search needs in
     let s : tie.After-stands-at Inv-loop μ-loop = search needs in
-    let g : tie.After-read-plain-words Inv-loop μ-loop = search needs in
+    let g : tie.After-read-short-words Inv-loop μ-loop = search needs in
     let w = y .before .before in
     let l = at-loop w .loop in
     let e : s .stands-at .result .written ≡ l .written + 1 = ap (λ (x : Standing). x .written) (s .stands-at .ensures) in
     let h : l .written < length (l .out) = omega (arith, in-loop w .loop-test .taken) in
-    omega (arith, l .inv .words .same, g .read-plain-words .ensures .since)
+    omega (arith, l .inv .words .same, g .read-short-words .ensures .since)
 
 loop-again-2 : tie.Need-loop-again-2 Inv-loop μ-loop
 loop-again-2 c =
     let y : tie.After-value Inv-loop μ-loop = search needs in
     let d : tie.After-adapt Inv-loop μ-loop = search needs in
     let s : tie.After-stands-at Inv-loop μ-loop = search needs in
-    let g : tie.After-read-plain-words Inv-loop μ-loop = search needs in
+    let g : tie.After-read-short-words Inv-loop μ-loop = search needs in
     let w = y .before .before in
     let l = at-loop w .loop in
     let v = y .value .given .0 .0 in
     let f : SFits w32 v = search needs in
     let h : l .written < length (l .out) = omega (arith, in-loop w .loop-test .taken) in
     loop-sample _ _ _ _ _ _ _ _ _ _ (l .inv) _ _ h (w .before .zero-run-eligible .ensures) (w .read-word .ensures) v _ _ _ _ _ _ _ (y .value .given .1) (d .adapt .ensures)
-    (rw (toZ-ofZ f, s .stands-at .ensures) at (g .read-plain-words .ensures))
+    (rw (toZ-ofZ f, s .stands-at .ensures) at (g .read-short-words .ensures))
 
 returns : tie.Need-returns Inv-loop μ-loop
 returns c =
@@ -131,7 +131,7 @@ decode-packed-samples-stereo-spec =
     (λ c. search needs)
     (λ c. search needs)
     (λ c κs. search needs)
-    read-plain-words-requires
+    read-short-words-requires
     loop-less-2
     loop-again-2
     (λ c. search needs)

@@ -6,7 +6,7 @@ use mathlib.Core.Path.{_∙_}
 use native.Mathlib.Omega.{arith}
 use lib.ListN.{length, getD}
 use Rattle.word_state.specs.View.{stateOf}
-use Rattle.samples.proofs.PlaceLaws.{place-fits}
+use Rattle.one_word.proofs.PlaceLaws.{place-fits}
 use Rattle.word_slots.proofs.CallLaws.{word-short, word-told}
 use borrow.Author.Needs.{needs}
 use Rattle.word_slots.proofs.calls.word_call.Statement.{statement}

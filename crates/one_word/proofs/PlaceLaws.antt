@@ -1,0 +1,113 @@
+-- The place after a word: within the payload the word ends within it, and at its end or behind it a
+-- word is refused, or is a zero that stays where it is. So a place of 32 bits stays one.
+-- Assumes nothing.
+use mathlib.Core.Path.{_≡_, refl, sym, ap, _∙_}
+use mathlib.Core.Bool.{Bool, true, false, cond}
+use mathlib.Core.List.{List}
+use Prim.Native.Nat.{ℕ, zero, suc, _+_, _-_, _≤_}
+use native.Mathlib.Omega.{arith}
+use borrow.Author.Tests.{ltb-false, leb-true, leb-false}
+use lib.Dec.{ltb, leb}
+use lib.IntN.{ℤ}
+use lib.ListN.{length, drop-of-length-le}
+use Rattle.answers.specs.Limits.{maxPayloadBytes}
+use Rattle.bits.specs.Bits.{ones, bitsOf}
+use Rattle.bits.specs.Fields.{getBits, unary}
+use Rattle.bits.specs.declared.Field.{Field}
+use Rattle.bits.specs.declared.Field.the-variants.{Value, Truncated}
+use Rattle.bits.proofs.BitLaws.{length-bits}
+use Rattle.fields.specs.Counts.{runLength, prefix}
+use Rattle.fields.specs.Code.{truncatedBinary}
+use Rattle.fields.specs.declared.Prefix.{Prefix}
+use Rattle.fields.proofs.Local.{fieldEnd}
+use Rattle.fields.proofs.LocalLaws.{truncated-binary-local}
+use Rattle.medians.specs.Interval.{lowOf, highOf}
+use Rattle.word_state.specs.State.{State, due, cleared, unbroken, after, runDue}
+use Rattle.words.specs.Word.{Word, given, refused, onField, signed, value, plain, fresh, word}
+use Rattle.zones.specs.Report.{Report, zoneOf}
+use Rattle.one_word.specs.View.{WordTold, viewWord, tellWord, oneWord}
+use Rattle.one_word.specs.declared.WordAnswer.{WordAnswer}
+use Rattle.readings.proofs.WordLaws.{word-paid, word-fresh}
+use Rattle.readings.proofs.LocalLaws.{word-inside}
+
+-- the place of a given word; a refused one has none
+abbrev placeOf : Word → ℕ
+placeOf (given v q t z) = q
+placeOf (refused c) = 0
+
+abbrev isGiven : Word → ℕ
+isGiven (given v q t z) = 1
+isGiven (refused c) = 0
+
+-- ---- at the end of the payload and behind it
+
+module _ (a : List Bool) where
+  unary-past : (p : ℕ) → length a ≤ p → unary a p ≡ Truncated
+  unfolding unary ones
+  unary-past p h = rw (drop-of-length-le a h)
+
+  bit-past : (p : ℕ) → length a ≤ p → getBits a p 1 ≡ Truncated
+  unfolding getBits
+  bit-past p h = rw (drop-of-length-le a h)
+
+  run-past : (p : ℕ) → length a ≤ p → runLength a p ≡ Truncated
+  unfolding runLength
+  run-past p h = rw (unary-past p h)
+
+  prefix-past : (p : ℕ) → length a ≤ p → prefix a p ≡ Prefix.Truncated
+  unfolding prefix
+  prefix-past p h = rw (unary-past p h)
+
+  -- a sample needs its sign
+  value-past : (p k : ℕ) (s : State) → length a ≤ p → value a p k s ≡ refused 3
+  unfolding value
+  value-past p k s h = go (truncatedBinary a p (highOf (due s) k - lowOf (due s) k)) refl
+    where
+      go : (f : Field) → truncatedBinary a p (highOf (due s) k - lowOf (due s) k) ≡ f
+          → onField f (λ c q. onField (getBits a q 1) λ t n. given (signed t (lowOf (due s) k + c)) n (after k s) (zoneOf k)) ≡ refused 3
+      go (Value c q) e = rw (bit-past q (omega (arith, h, truncated-binary-local p (highOf (due s) k - lowOf (due s) k) .on a q (ap fieldEnd e))))
+      go Truncated e = refl
+
+  plain-past : (p : ℕ) (s : State) → length a ≤ p → plain a p s ≡ refused 3
+  unfolding plain
+  plain-past p s h = rw (value-past p 0 (cleared s) h, prefix-past p h) (either (s .lastZero))
+    where
+      either : (b : Bool) → cond b (refused 3) (refused 3) ≡ refused 3
+      either true = refl
+      either false = refl
+
+  fresh-past : (p : ℕ) (s : State) → length a ≤ p → fresh a p s ≡ refused 3
+  unfolding fresh
+  fresh-past p s h =
+      rw (plain-past p (unbroken s) h, plain-past p s h, run-past p h) (either (s .runBreak) (runDue (s .left) (s .right) (s .lastZero) (s .lastOne)))
+    where
+      either : (b c : Bool) → cond b (refused 3) (cond c (refused 3) (refused 3)) ≡ refused 3
+      either true c = refl
+      either false true = refl
+      either false false = refl
+
+  -- a limit that holds the payload's bits and a place holds the place after
+  word-near : (m p q : ℕ) (s t : State) (v : ℤ) (z : Report) → length a ≤ m → p ≤ m → word a p s ≡ given v q t z → q ≤ m
+  word-near m p q s t v z l h e = go (leb p (length a)) refl (s .debt) refl
+    where
+      go : (b : Bool) → leb p (length a) ≡ b → (d : ℕ) → s .debt ≡ d → q ≤ m
+      go true i d j = omega (arith, l, word-inside a p q s t v z e (leb-true p (length a) i))
+      go false i zero j = absurd (omega (arith, ap isGiven (sym (fresh-past p s (omega (arith, leb-false p (length a) i))) ∙ sym (word-fresh a p s j) ∙ e)))
+      go false i (suc d) j = omega (arith, h, ap placeOf (sym (word-paid a p s (omega arith)) ∙ e))
+
+-- ---- the two entries
+
+-- the place after a word that was given a place of 32 bits
+word-fits : (payload : List ℕ) (p : ℕ) (s : State) → p ≤ 4294967295 → oneWord payload p s .place ≤ 4294967295
+unfolding oneWord
+word-fits payload p s h = go (ltb maxPayloadBytes (length payload)) (ltb 1 (s .channel)) (word (bitsOf payload) p s) refl refl
+  where
+    go : (b c : Bool) (w : Word) → ltb maxPayloadBytes (length payload) ≡ b → word (bitsOf payload) p s ≡ w → tellWord p s (cond b (refused 5) (cond c (refused 12) w)) .place ≤ 4294967295
+    go true c w e f = h
+    go false true w e f = h
+    go false false (given v q t z) e f = word-near (bitsOf payload) 4294967295 p q s t v z (omega (arith, length-bits payload, ltb-false maxPayloadBytes (length payload) e)) h f
+    go false false (refused n) e f = h
+
+-- the place that was told fits its slot
+pub place-fits : (payload : List ℕ) (p : ℕ) (s : State) (x : WordAnswer) → viewWord x ≡ oneWord payload p s → p ≤ 4294967295 → x .place ≤ 4294967295
+place-fits payload p s x t h = rw (ap (λ (w : WordTold). w .place) t) (word-fits payload p s h)

@@ -1,0 +1,38 @@
+-- What the struct of the one-word entry stands for, and what the entry answers (X3).
+-- Assumes nothing.
+use mathlib.Core.Bool.{cond}
+use mathlib.Core.List.{List}
+use Prim.Native.Nat.{ℕ}
+use lib.Dec.{ltb}
+use lib.IntN.{ℤ, pos}
+use lib.ListN.{length}
+use Rattle.answers.specs.Limits.{maxPayloadBytes}
+use Rattle.answers.specs.Numbers.{outcomeNumber}
+use Rattle.bits.specs.Bits.{bitsOf}
+use Rattle.word_state.specs.State.{State}
+use Rattle.word_state.specs.View.{stateOf}
+use Rattle.words.specs.Word.{Word, given, refused, word}
+use Rattle.zones.specs.Report.{Report, none, reportOf}
+use Rattle.one_word.specs.declared.WordAnswer.{WordAnswer}
+
+-- what the entry answers: the refusal's number (0: accepted), sample, place, state and report
+pub record WordTold : Type 0 where
+  pub refusal : ℕ
+  pub sample : ℤ
+  pub place : ℕ
+  pub state : State
+  pub report : Report
+
+-- the answer that the entry's struct holds
+abbrev pub viewWord : WordAnswer → WordTold
+viewWord r = record { refusal = outcomeNumber (r .outcome); sample = r .sample; place = r .place; state = stateOf (r .state); report = reportOf (r .report .zone) }
+
+-- document 01 (X3): "A refusal gives sample 0 and the old state and place"
+abbrev pub tellWord : ℕ → State → Word → WordTold
+tellWord p s (given v q t z) = record { refusal = 0; sample = v; place = q; state = t; report = z }
+tellWord p s (refused c) = record { refusal = c; sample = pos 0; place = p; state = s; report = none }
+
+-- document 01 (X3): "One word: 5, the payload bytes only; 12, next_channel above 1; 3; 4"
+unfoldable pub oneWord : List ℕ → ℕ → State → WordTold
+oneWord payload p s =
+    tellWord p s (cond (ltb maxPayloadBytes (length payload)) (refused 5) (cond (ltb 1 (s .channel)) (refused 12) (word (bitsOf payload) p s)))

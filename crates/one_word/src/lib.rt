@@ -1,0 +1,173 @@
+// Implements document 01, "One word", as an entry of its own: for a caller that holds the state
+// from word to word.
+ghost use mathlib.Core.Path.{_≡_};
+ghost use Prim.Native.Nat.{_<_};
+ghost use lib.IntN.{pos};
+ghost use Rattle.answers.specs.Numbers.{numberOf};
+ghost use Rattle.word_state.specs.State.{withFlags, paid, inRun, unbroken, after};
+ghost use Rattle.words.specs.Word.{given, refused};
+ghost use Rattle.word_state.specs.View.{stateOf};
+ghost use Rattle.zones.specs.Report.{none, zoneOf};
+ghost use Rattle.one_word.specs.View.{viewWord, tellWord, oneWord};
+use answers::Outcome;
+use answers::Refusal;
+use answers::limits::MAX_PAYLOAD_BYTES;
+use entropy::AdaptiveMedians;
+use medians::adaptation::adapt;
+use word_state::StereoDecodeState;
+use word_state::zero_run_eligible;
+use words::coded::Coded;
+use words::coded::read_word;
+use zones::MaybeZone;
+use zones::WordReport;
+use zones::Zone;
+
+// What the one-word entry answers.
+pub struct WordAnswer {
+    pub outcome: Outcome,
+    pub sample: i32,
+    pub place: usize,
+    pub state: StereoDecodeState,
+    pub report: WordReport,
+}
+
+// A refused word: sample 0, the old place and state, no report.
+fn refused(refusal: Refusal, place: usize, state: StereoDecodeState) -> WordAnswer
+    ensures { λ r. ⌜ viewWord r ≡ tellWord place (stateOf state) (refused (numberOf refusal)) ⌝ }
+{
+    WordAnswer {
+        outcome: Outcome::Refused(refusal),
+        sample: 0,
+        place,
+        state,
+        report: WordReport {
+            zone: MaybeZone::None,
+        },
+    }
+}
+
+// A zero out of a run, which reports no zone.
+fn zero(place: usize, state: StereoDecodeState) -> WordAnswer
+    ensures { λ r.
+        ⌜ viewWord r ≡ tellWord place (stateOf state) (given (pos 0) place (stateOf state) none) ⌝ }
+{
+    WordAnswer {
+        outcome: Outcome::Accepted,
+        sample: 0,
+        place,
+        state,
+        report: WordReport {
+            zone: MaybeZone::None,
+        },
+    }
+}
+
+// A sample outside a run.
+fn given(sample: i32, place: usize, state: StereoDecodeState, ones_count: u32) -> WordAnswer
+    ensures { λ r.
+        ⌜ viewWord r
+        ≡ tellWord place (stateOf state)
+        (given sample place (stateOf state) (zoneOf «ones_count»)) ⌝ }
+{
+    WordAnswer {
+        outcome: Outcome::Accepted,
+        sample,
+        place,
+        state,
+        report: WordReport {
+            zone: MaybeZone::Some(Zone::from_ones_count(ones_count)),
+        },
+    }
+}
+
+// Step 1: `owed` zeros are left.
+fn paid(state: StereoDecodeState, owed: u32) -> StereoDecodeState
+    requires { ⌜ state .«next_channel» < 2 ⌝ }
+    ensures { λ r. ⌜ stateOf r ≡ paid owed (stateOf state) ⌝ }
+{
+    let mut next = state;
+    next.zero_run_pending = owed;
+    next.next_channel = 1 - state.next_channel;
+    next
+}
+
+// Step 2: the first zero of a run, after which `owed` are left.
+fn in_run(state: StereoDecodeState, owed: u32) -> StereoDecodeState
+    requires { ⌜ state .«next_channel» < 2 ⌝ }
+    ensures { λ r. ⌜ stateOf r ≡ inRun owed (stateOf state) ⌝ }
+{
+    let none = AdaptiveMedians { values: [0, 0, 0] };
+    let medians = [none, none];
+    let mut next = state;
+    next.medians = medians;
+    next.zero_run_pending = owed;
+    next.run_break = true;
+    next.ever_took_zero_run = true;
+    next.next_channel = 1 - state.next_channel;
+    next
+}
+
+// Steps 3 and 4: the flags after a word, and the medians due adapted to its count.
+fn adapted(
+    state: StereoDecodeState,
+    ones_count: u32,
+    last_zero: bool,
+    last_one: bool,
+) -> StereoDecodeState
+    requires { ⌜ state .«next_channel» < 2 ⌝ }
+    ensures { λ r.
+        ⌜ stateOf r
+        ≡ after «ones_count» (withFlags «last_zero» «last_one» (unbroken (stateOf state))) ⌝ }
+{
+    let channel = state.next_channel as usize;
+    let mut medians = state.medians;
+    medians[channel] = adapt(medians[channel], ones_count);
+    let mut next = state;
+    next.medians = medians;
+    next.last_zero = last_zero;
+    next.last_one = last_one;
+    next.run_break = false;
+    next.next_channel = 1 - state.next_channel;
+    next
+}
+
+// The word at a place of the payload, in any state. Refuses with 5 a payload of over 4,194,304
+// bytes, with 12 a channel above 1, then with 3 or 4 what the word runs into; a refusal gives
+// sample 0, the old place, the old state and no report.
+pub fn decode_sample_stateful_stereo(
+    payload: &[u8],
+    place: usize,
+    state: StereoDecodeState,
+) -> WordAnswer
+    ensures { λ r. ⌜ viewWord r ≡ oneWord (now (payload .entry)) place (stateOf state) ⌝ }
+{
+    if payload.len() > MAX_PAYLOAD_BYTES {
+        return refused(Refusal::TooLarge, place, state);
+    }
+    if state.next_channel > 1 {
+        return refused(Refusal::InvalidChannel, place, state);
+    }
+    let debt = state.zero_run_pending;
+    if debt > 0 {
+        return zero(place, paid(state, debt - 1));
+    }
+    let channel = state.next_channel as usize;
+    let sets = state.medians;
+    let zero_before = state.last_zero;
+    let one_before = state.last_one;
+    let run = zero_run_eligible(sets[0], sets[1], state.run_break, zero_before, one_before);
+    let word = read_word(payload, place, run, sets[channel], zero_before, one_before);
+    match word {
+        Coded::Run(owed, next) => zero(next, in_run(state, owed)),
+        Coded::Sample(sample, ones_count, next, last_zero, last_one) => {
+            given(
+                sample,
+                next,
+                adapted(state, ones_count, last_zero, last_one),
+                ones_count,
+            )
+        }
+        Coded::EndOfStream => refused(Refusal::EndOfStream, place, state),
+        Coded::Truncated => refused(Refusal::Truncated, place, state),
+    }
+}

@@ -1,2 +1,0 @@
--- What the proofs of this crate and the crates above cite.
-pub mod PlainLaws

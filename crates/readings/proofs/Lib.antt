@@ -1,0 +1,8 @@
+-- What other crates cite.
+pub mod WordLaws
+pub mod ReadingLaws
+pub mod HeldLaws
+pub mod StandingLaws
+pub mod RefusalLaws
+pub mod LocalLaws
+pub mod WordBounds
