@@ -16,7 +16,8 @@ pub extern "C" fn wv_pack(
 ) -> u32
     ensures { λ r. ⌜
         record { refusal = r; bytes = now (out .exit); answer = now (answer .exit) }
-        ≡ packCall (now (residuals .entry)) (now (entropy .entry)) frames (now (out .entry)) (now (answer .entry))
+        ≡ packCall (now (residuals .entry)) (now (entropy .entry)) frames
+        (now (out .entry)) (now (answer .entry))
         ⌝ }
 {
     pack_slots::pack_call(residuals, entropy, frames, out, answer)

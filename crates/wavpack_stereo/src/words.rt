@@ -17,7 +17,8 @@ pub extern "C" fn wv_read(
 ) -> u32
     ensures { λ r. ⌜
         record { refusal = r; samples = now (samples .exit); answer = now (answer .exit) }
-        ≡ readCall (now (entropy .entry)) (now (payload .entry)) frames (now (samples .entry)) (now (answer .entry))
+        ≡ readCall (now (entropy .entry)) (now (payload .entry)) frames
+        (now (samples .entry)) (now (answer .entry))
         ⌝ }
 {
     word_slots::calls::read_call(entropy, payload, frames, samples, answer)
@@ -34,7 +35,12 @@ pub extern "C" fn wv_word(
     report: &mut [u32],
 ) -> u32
     ensures { λ r. ⌜
-        record { refusal = r; state = now (state .exit); sample = now (sample .exit); report = now (report .exit) }
+        record {
+          refusal = r;
+          state = now (state .exit);
+          sample = now (sample .exit);
+          report = now (report .exit);
+        }
         ≡ wordCall (now (payload .entry)) (now (state .entry)) (now (sample .entry)) (now (report .entry))
         ⌝ }
 {

@@ -11,7 +11,12 @@ returns c =
     let s = c .before .before .before in
     let a = s .args in
     let f = s .fits in
-    rw (toZ-ofZ w8 (a .term) (f .term), toZ-ofZ w32 (a .delta) (f .delta), toZ-ofZ w32 (a .weight-a) (f .weight-a), toZ-ofZ w32 (a .weight-b) (f .weight-b))
+    rw (
+      toZ-ofZ w8 (a .term) (f .term),
+      toZ-ofZ w32 (a .delta) (f .delta),
+      toZ-ofZ w32 (a .weight-a) (f .weight-a),
+      toZ-ofZ w32 (a .weight-b) (f .weight-b),
+    )
     at (c .before .make-pass .ensures)
 
 pub wv-pass-spec : {M : Type 1} → statement M
