@@ -1,12 +1,14 @@
 #!/bin/sh
 # Holds what people read of the refusals to include/refusals.txt: the C header, the table in
 # docs/REFUSALS.md and the Rust bindings have each number with its name and wording, and no other
-# refusal; the program `morning` has those that a recording can meet. Prints what does not hold.
+# refusal; the program `morning` has those that a recording can meet, 1 in words of its own, since there
+# it is about the length of the whole input. Prints what does not hold.
 set -u
 cd "$(dirname "$0")/.." || exit 2
 table=include/refusals.txt
+short='the input is shorter than 16 bytes: 12 entropy bytes and a 4-byte frame count'
 
-awk -v table="$table" '
+awk -v table="$table" -v short="$short" '
     function wrong(text) { print file ": " text; bad = 1 }
 
     # NOT_STEREO as a Rust name, NotStereo.
@@ -81,7 +83,10 @@ awk -v table="$table" '
     FILENAME ~ /[.]rt$/ && !/^ *[/][/]/ {
         if (/^}/) arm = 0
         if (/^ *([0-9]+|_) =>/) arm = $1 == "_" ? rust["TooLarge"] : $1 + 0
-        if (arm && match($0, /"[^"]*"/)) worded(arm, "", substr($0, RSTART + 1, RLENGTH - 2))
+        if (!arm || !match($0, /"[^"]*"/)) next
+        text = substr($0, RSTART + 1, RLENGTH - 2)
+        if (arm == rust["EntropyLength"] && text == short) text = wording[arm]
+        worded(arm, "", text)
     }
 
     END {
