@@ -1,7 +1,7 @@
 // The fields of a word, as document 01 has them: run length, prefix and the code inside an interval,
 // as "One word" reads them and as "Packing" writes them: the definitions in specs/ and their laws in
 // proofs/, what reading a prefix finds, bits gathered to be laid, and the one number that readers and
-// writers both work out. They stand in `field_reading` and `field_writing`.
+// writers both work out. They stand in `count_reading`, `code_reading` and `field_writing`.
 ghost use mathlib.Core.Path.{_≡_};
 ghost use Rattle.fields.specs.Code.{bitLength};
 

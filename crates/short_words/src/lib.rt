@@ -3,7 +3,7 @@
 // left to the crate words, whose definition is met by both.
 //
 // What must be fast hangs on branches. A count of 0 or 1 is tested for, since the medians make a 0
-// come five times in seven; what is as random as a coin is chosen (`field_reading::code`). Each way adapts
+// come five times in seven; what is as random as a coin is chosen (`code_reading`). Each way adapts
 // the medians by a count that the compiler knows.
 ghost use mathlib.Core.Path.{_≡_};
 ghost use mathlib.Core.Bool.{true, false};

@@ -13,11 +13,11 @@ ghost use Rattle.words.specs.Parts.{SignedCodeIs, ValueIs, CountIs, Plai
 use bit_reading::get_bit;
 use bit_windows::load::eight;
 use bits::Field;
+use code_reading::code_in_window;
+use code_reading::read_truncated_binary;
+use count_reading::read_raw_prefix;
+use count_reading::read_zero_run_length;
 use entropy::AdaptiveMedians;
-use field_reading::code::code_in_window;
-use field_reading::code::read_truncated_binary;
-use field_reading::counts::read_raw_prefix;
-use field_reading::counts::read_zero_run_length;
 use fields::Prefix;
 use medians::interval::sample_interval;
 

@@ -19,7 +19,9 @@ same c =
     rw (c .u8-to-u32 .ensures, shl-one (a .k) 32 (omega arith), shl-one (a .m) 32 (omega arith), shl-exact (a .m) (a .k) 32 (mod-lt (a .v) (pow-pos (a .m))) (omega arith))
 
 rem-old : tie.Need-rem-old
-rem-old c = let k = c .before .args .k in omega (arith, shl-one k 32 (omega arith), pow-pos k)
+rem-old c =
+    let a = c .before .args in
+    omega (arith, shl-one (a .k) 32 (omega arith), pow-pos (a .k), shl-one (a .m) 32 (omega arith), pow-pos (a .m))
 
 rem-x : tie.Need-rem-x
 rem-x c = let m = c .before .args .m in omega (arith, shl-one m 32 (omega arith), pow-pos m)

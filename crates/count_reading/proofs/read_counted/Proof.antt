@@ -1,4 +1,4 @@
--- `field_reading::counts::read_counted` meets its contract: each way out is the definition, rewritten with
+-- `count_reading::read_counted` meets its contract: each way out is the definition, rewritten with
 -- the tests and the field on the way.
 -- Assumes nothing.
 use borrow.Author.Needs.{needs}
@@ -14,8 +14,8 @@ use Rattle.fields.specs.Counts.{counted}
 use Rattle.bits.specs.declared.Field.the-variants.{Value}
 use Rattle.bits.proofs.BitLaws.{shl-one}
 use Rattle.bits.proofs.ReadLaws.{bits-lt}
-use Rattle.field_reading.proofs.counts.read_counted.Statement.{statement}
-use Rattle.field_reading.proofs.counts.read_counted.Tie as tie
+use Rattle.count_reading.proofs.read_counted.Statement.{statement}
+use Rattle.count_reading.proofs.read_counted.Tie as tie
 
 returns : tie.Need-returns
 unfolding counted

@@ -1,4 +1,4 @@
--- `field_reading::counts::read_raw_prefix` meets its contract: each way out is the definition, rewritten
+-- `count_reading::read_raw_prefix` meets its contract: each way out is the definition, rewritten
 -- with the tests and the parts on the way.
 -- Assumes nothing.
 use borrow.Author.Needs.{needs}
@@ -14,8 +14,8 @@ use Rattle.bits.specs.Fields.{unary}
 use Rattle.fields.specs.Counts.{escaped, prefix}
 use Rattle.fields.specs.declared.Prefix.{Prefix}
 use Rattle.bits.specs.declared.Field.the-variants.{Value}
-use Rattle.field_reading.proofs.counts.read_raw_prefix.Statement.{statement}
-use Rattle.field_reading.proofs.counts.read_raw_prefix.Tie as tie
+use Rattle.count_reading.proofs.read_raw_prefix.Statement.{statement}
+use Rattle.count_reading.proofs.read_raw_prefix.Tie as tie
 
 returns : tie.Need-returns
 unfolding prefix
@@ -52,19 +52,25 @@ past c =
 
 returns-4 : tie.Need-returns-4
 unfolding escaped
-returns-4 c = rw (past (c .before), eq-eqb _ _ (c .if2 .taken))
+returns-4 c = rw (past (c .before), eq-eqb (c .before .before .second .given .0 .0) 33 (omega arith))
 
 returns-5 : tie.Need-returns-5
 unfolding escaped
-returns-5 c = rw (past (c .before .before), ne-eqb _ _ (c .before .if2 .left), lt-ltb _ _ (c .if3 .taken))
+returns-5 c =
+    let n = c .before .before .before .second .given .0 .0 in
+    rw (past (c .before .before), ne-eqb n 33 (omega arith), lt-ltb 33 n (omega arith))
 
 returns-6 : tie.Need-returns-6
 unfolding escaped
 returns-6 c =
     let after-known-told2 : tie.After-known-told2 = search needs in
-    let else2 : tie.Else2 = search needs in
-    let else3 : tie.Else3 = search needs in
-    rw (past after-known-told2, ne-eqb _ _ (else2 .if2 .left), le-ltb _ _ (else3 .if3 .left), sym (c .before .before .read-counted .ensures) ∙ c .enum-told3 .given .1)
+    let n = after-known-told2 .before .second .given .0 .0 in
+    rw (
+      past after-known-told2,
+      ne-eqb n 33 (omega arith),
+      le-ltb 33 n (omega arith),
+      sym (c .before .before .read-counted .ensures) ∙ c .enum-told3 .given .1,
+    )
 
 third : (c : tie.After-known-told3) →
     let a = c .before .before .before .before .before .before .before .before .before .before .before .before .before .before .before .before .args in
@@ -73,10 +79,14 @@ third : (c : tie.After-known-told3) →
 unfolding escaped
 third c =
     let after-known-told2 : tie.After-known-told2 = search needs in
-    let else2 : tie.Else2 = search needs in
-    let else3 : tie.Else3 = search needs in
+    let n = after-known-told2 .before .second .given .0 .0 in
     let after-read-counted : tie.After-read-counted = search needs in
-    rw (past after-known-told2, ne-eqb _ _ (else2 .if2 .left), le-ltb _ _ (else3 .if3 .left), sym (after-read-counted .read-counted .ensures) ∙ c .before .rest .given .1)
+    rw (
+      past after-known-told2,
+      ne-eqb n 33 (omega arith),
+      le-ltb 33 n (omega arith),
+      sym (after-read-counted .read-counted .ensures) ∙ c .before .rest .given .1,
+    )
 
 returns-7 : tie.Need-returns-7
 returns-7 c = rw (third (c .before), lt-leb (16 + c .before .before .rest .given .0 .0) 4294967295 (omega arith))

@@ -1,4 +1,4 @@
--- `field_reading::code::code_in_window` meets its contract, by `code-in`: what is known of the bit length
+-- `code_reading::code_in_window` meets its contract, by `code-in`: what is known of the bit length
 -- makes shifts, casts and differences fit.
 -- Assumes nothing.
 use borrow.Author.Needs.{needs}
@@ -10,8 +10,8 @@ use lib.Pow.{pow-mono, pow-pos}
 use Rattle.bits.proofs.BitLaws.{shl-one}
 use Rattle.fields.specs.Code.{CodeIn}
 use Rattle.fields.proofs.WindowLaws.{Wide, wide, code-in}
-use Rattle.field_reading.proofs.code.code_in_window.Statement.{statement}
-use Rattle.field_reading.proofs.code.code_in_window.Tie as tie
+use Rattle.code_reading.proofs.code_in_window.Statement.{statement}
+use Rattle.code_reading.proofs.code_in_window.Tie as tie
 
 -- what is known of the bit length b, of the two shifts by b - 1 and of the short code
 record Parts (v M b : ℕ) : Type 0 where

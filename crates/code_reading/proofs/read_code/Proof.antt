@@ -1,4 +1,4 @@
--- `field_reading::code::read_code` meets its contract: each way out is the definition, rewritten with the
+-- `code_reading::read_code` meets its contract: each way out is the definition, rewritten with the
 -- parts that were read on the way.
 -- Assumes nothing.
 use borrow.Author.Needs.{needs}
@@ -12,8 +12,8 @@ use Rattle.bits.specs.Fields.{getBits}
 use Rattle.fields.specs.Code.{codeOf}
 use Rattle.bits.specs.declared.Field.the-variants.{Value}
 use Rattle.bits.proofs.ReadLaws.{bits-lt}
-use Rattle.field_reading.proofs.code.read_code.Statement.{statement}
-use Rattle.field_reading.proofs.code.read_code.Tie as tie
+use Rattle.code_reading.proofs.read_code.Statement.{statement}
+use Rattle.code_reading.proofs.read_code.Tie as tie
 
 returns : tie.Need-returns
 unfolding codeOf

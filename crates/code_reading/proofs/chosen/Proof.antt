@@ -1,9 +1,9 @@
--- `field_reading::code::chosen` meets its contract: its test is the definition's.
+-- `code_reading::chosen` meets its contract: its test is the definition's.
 -- Assumes nothing.
 use borrow.Author.Needs.{needs}
 use borrow.Author.Tests.{lt-ltb, le-ltb}
-use Rattle.field_reading.proofs.code.chosen.Statement.{statement}
-use Rattle.field_reading.proofs.code.chosen.Tie as tie
+use Rattle.code_reading.proofs.chosen.Statement.{statement}
+use Rattle.code_reading.proofs.chosen.Tie as tie
 
 returns : tie.Need-returns
 returns c = rw (lt-ltb _ _ (c .if1 .taken))

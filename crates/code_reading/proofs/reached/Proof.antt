@@ -1,8 +1,8 @@
--- `field_reading::code::reached` meets its contract: its test is the definition's.
+-- `code_reading::reached` meets its contract: its test is the definition's.
 -- Assumes nothing.
 use borrow.Author.Tests.{lt-ltb, le-ltb}
-use Rattle.field_reading.proofs.code.reached.Statement.{statement}
-use Rattle.field_reading.proofs.code.reached.Tie as tie
+use Rattle.code_reading.proofs.reached.Statement.{statement}
+use Rattle.code_reading.proofs.reached.Tie as tie
 
 returns : tie.Need-returns
 returns c = rw (lt-ltb _ _ (c .if1 .taken))

@@ -1,4 +1,4 @@
--- `field_reading::code::read_truncated_binary` meets its contract: what is known of the bit length makes
+-- `code_reading::read_truncated_binary` meets its contract: what is known of the bit length makes
 -- the shift and the differences fit.
 -- Assumes nothing.
 use borrow.Author.Needs.{needs}
@@ -9,8 +9,8 @@ use borrow.Author.Tests.{eq-eqb, ne-eqb}
 use Rattle.fields.specs.Code.{truncatedBinary}
 use Rattle.bits.proofs.BitLaws.{shl-one}
 use Rattle.fields.proofs.LengthLaws.{Long, long, long-le}
-use Rattle.field_reading.proofs.code.read_truncated_binary.Statement.{statement}
-use Rattle.field_reading.proofs.code.read_truncated_binary.Tie as tie
+use Rattle.code_reading.proofs.read_truncated_binary.Statement.{statement}
+use Rattle.code_reading.proofs.read_truncated_binary.Tie as tie
 
 returns : tie.Need-returns
 unfolding truncatedBinary
