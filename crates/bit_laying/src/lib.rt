@@ -1,7 +1,7 @@
 // Implements document 01, "Packing" (K7, K8): fields laid into a lent buffer. The bits before the
 // place stay, the spare bits of the last byte that is touched become 0, the bytes behind stay.
 // `put_bits` and `put_unary` write into the rest of a buffer from its first unfinished byte on, so
-// their places are small, as does `put_gathered`; `lay_bits` lends that rest on.
+// their places are small; `lay_bits` lends that rest on.
 ghost use mathlib.Core.Path.{_≡_};
 ghost use Prim.Native.Nat.{_+_, _*_, _/_, _%_, _^_, _≤_, _<_, min};
 ghost use lib.ListN.{length};
@@ -9,8 +9,6 @@ ghost use Rattle.bits.specs.Bits.{low};
 ghost use Rattle.bits.specs.Fields.{unaryField};
 ghost use Rattle.bits.specs.Laid.{put};
 use wrapping::casts::u8_to_u32;
-
-pub mod gathered;
 
 fn least(a: u32, b: u32) -> u32
     ensures { λ r. ⌜ r ≡ min a b ⌝ }

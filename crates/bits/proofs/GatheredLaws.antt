@@ -123,7 +123,6 @@ take-first c buf at h =
 -- the low bits of the first byte, and the field above them, as the code joins them
 pub record Begun (buf : List ℕ) (at count value left : ℕ) : Type 0 where
   pub begins : left ≡ num (held buf at count value)
-  pub power : 1 * 2 ^ at % 2 ^ 64 ≡ 2 ^ at
   pub fits : left < 18446744073709551616
 
 -- so it is for a field of at most 56 bits that starts in the first byte
@@ -139,4 +138,4 @@ begun (c ∷ buf) at count value h l v n p =
     ap (λ (x : List Bool). num (x ++ low count value)) t ∙ num-append (low at c) (low count value)
     ∙ ap₂ (λ (x y : ℕ). x + y) (num-low at c) (ap₂ (λ (x y : ℕ). x * 2 ^ y) (num-low count value ∙ mod-eq-of-lt v) (length-low at c)) in
     let b : num w < 2 ^ 64 = lt-of-lt-of-le (num-lt w) (pow-mono {i = length w} {j = 64} (omega (arith, length-held (c ∷ buf) at count value (omega arith)))) in
-    record { begins = rw (o, s) (sym e); power = o; fits = rw (o, s) (omega arith) }
+    record { begins = rw (o, s) (sym e); fits = rw (o, s) (omega arith) }

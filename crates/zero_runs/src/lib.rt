@@ -48,8 +48,9 @@ pub fn zeros_from(residuals: &[i32], first: usize) -> usize
     requires { ⌜ first ≤ length (now residuals) ⌝ }
     ensures { λ r. ⌜ r ≡ zeros (drop first (now (residuals .entry))) ⌝ }
 {
+    let end = residuals.len();
     let mut i = skip(residuals, first);
-    while i < residuals.len() {
+    while i < end {
         if residuals[i] != 0 {
             return i - first;
         }

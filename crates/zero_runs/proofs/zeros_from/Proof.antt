@@ -17,10 +17,11 @@ use Rattle.zero_runs.proofs.zeros_from.Statement.{statement}
 use Rattle.zero_runs.proofs.zeros_from.Tie as tie
 
 abbrev Inv-loop : tie.InvT-loop
-Inv-loop residuals first i₀ i = (first ≤ i) × (i ≤ length residuals) × (zeros (drop first residuals) ≡ i - first + zeros (drop i residuals))
+Inv-loop residuals first end i₀ i =
+    (first ≤ i) × (i ≤ length residuals) × (end ≡ length residuals) × (zeros (drop first residuals) ≡ i - first + zeros (drop i residuals))
 
 abbrev μ-loop : tie.MeasureT-loop
-μ-loop residuals first i₀ i = length residuals - i
+μ-loop residuals first end i₀ i = length residuals - i
 
 loop-holds : tie.Need-loop-holds Inv-loop μ-loop
 loop-holds c = let s = c .skip .ensures in omega arith

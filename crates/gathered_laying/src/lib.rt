@@ -1,6 +1,6 @@
-// Lays bits that are gathered in one number, byte by byte, into the lent rest of a buffer. A word's
-// prefix, code and sign go in by one call, so that each byte is stored once; bytes behind the last
-// one that holds a bit are not stored at all.
+// Bits that are gathered in one number, laid byte by byte into the lent rest of a buffer (document 01,
+// "Packing", K7, K8). A word's prefix, code and sign go in by one call, so that each byte is stored
+// once; bytes after the last one that holds a bit are not stored at all.
 ghost use mathlib.Core.Path.{_≡_};
 ghost use Prim.Native.Nat.{_+_, _*_, _^_, _≤_, _<_};
 ghost use lib.ListN.{length};

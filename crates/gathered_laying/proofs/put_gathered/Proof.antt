@@ -1,14 +1,15 @@
 -- `put_gathered` meets its contract: after i turns the first i bytes are stored, and
 -- `left` holds the bits that are not.
 -- Assumes nothing.
-use Prim.Native.Nat.{_+_, _-_, _*_, _/_, _%_, _^_, _≤_}
+use Prim.Native.Nat.{ℕ, _+_, _-_, _*_, _/_, _%_, _^_, _≤_, _<_}
 use native.Mathlib.Omega.{arith}
 use borrow.Author.Needs.{needs}
 use denote.Ref.{now}
 use lib.Pow.{pow-pos}
+use Rattle.bits.proofs.BitLaws.{shl-one}
 use Rattle.bits.proofs.GatheredLaws.{held, Laying, laying-start, laying-step, laying-end, Begun, begun}
-use Rattle.bit_laying.proofs.gathered.put_gathered.Statement.{statement}
-use Rattle.bit_laying.proofs.gathered.put_gathered.Tie as tie
+use Rattle.gathered_laying.proofs.put_gathered.Statement.{statement}
+use Rattle.gathered_laying.proofs.put_gathered.Tie as tie
 
 abbrev Inv-loop : tie.InvT-loop
 Inv-loop out₀ at value count end left₀ i₀ out left i = (i ≤ (end + 7) / 8) × Laying out₀ (held out₀ at count value) out left i
@@ -27,7 +28,8 @@ joins c =
 rem-left : tie.Need-rem-left Inv-loop μ-loop
 rem-left c =
     let start : tie.Start Inv-loop μ-loop = search needs in
-    rw (joins c .power) (pow-pos (start .args .at))
+    let power : (m : ℕ) → m < 64 → 0 < 1 * 2 ^ m % 2 ^ 64 = λ m h. rw (shl-one m 64 h) (pow-pos m) in
+    omega (arith, power (start .args .at) (omega arith), power (start .args .count) (omega arith))
 
 add-left : tie.Need-add-left Inv-loop μ-loop
 add-left c = record { fits = joins c .fits }
