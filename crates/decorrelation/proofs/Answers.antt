@@ -18,7 +18,9 @@ use Rattle.passes.specs.Run.{Chain}
 use Rattle.passes.specs.declared.DecorrPass.{DecorrPass}
 use Rattle.passes.specs.declared.Direction.{Direction}
 use Rattle.passes.specs.declared.Direction.the-variants.{Decorrelation, Analysis}
-use Rattle.decorrelation.specs.Lists.{allValid, listNumber, numberBy, Answer, done, refuseList, chained, listed, acceptedBy, followed, arrayAnswer}
+use Rattle.list_tests.specs.Tests.{allValid, listNumber, acceptedBy}
+use Rattle.list_runs.specs.Chained.{chained}
+use Rattle.decorrelation.specs.Lists.{numberBy, Answer, done, refuseList, listed, followed, arrayAnswer}
 
 -- both directions refuse the same lists
 pub number-by : (dir : Direction) (v : Bool) (n m : ℕ) → numberBy dir v n m ≡ listNumber v n m

@@ -38,7 +38,7 @@ use Rattle.passes.proofs.DecorrPass as R
 use Rattle.passes.proofs.Direction as D
 use Rattle.passes.proofs.Direction.Laws as D′
 use Rattle.decorrelation.specs.Lists.{Answer, listed}
-use Rattle.decorrelation.proofs.TurnCalls.{buf}
+use Rattle.list_runs.proofs.TurnCalls.{buf}
 use Rattle.decorrelation.proofs.TestCalls.{list-at}
 use Rattle.decorrelation.proofs.lists.run_checked as run-checked
 use Rattle.decorrelation.proofs.lists.run_checked.Symbol.{name as #decorrelation·run-checked}

@@ -38,14 +38,14 @@ use Rattle.answers.proofs.Outcome as S
 use Rattle.answers.proofs.Outcome.Laws as S′
 use Rattle.passes.specs.declared.DecorrPass.{DecorrPass}
 use Rattle.passes.proofs.DecorrPass as T
-use Rattle.decorrelation.specs.Lists.{allValid, listNumber, acceptedBy}
-use Rattle.decorrelation.proofs.Lending.{LentShared, lends-shared, shared-back}
-use Rattle.decorrelation.proofs.lists.all_valid as all-valid
-use Rattle.decorrelation.proofs.lists.all_valid.Symbol.{name as #decorrelation·all-valid}
-use Rattle.decorrelation.proofs.lists.list_outcome as list-outcome
-use Rattle.decorrelation.proofs.lists.list_outcome.Symbol.{name as #decorrelation·list-outcome}
-use Rattle.decorrelation.proofs.lists.is_accepted as is-accepted
-use Rattle.decorrelation.proofs.lists.is_accepted.Symbol.{name as #decorrelation·is-accepted}
+use Rattle.list_tests.specs.Tests.{allValid, listNumber, acceptedBy}
+use Rattle.lending.proofs.Lending.{LentShared, lends-shared, shared-back}
+use Rattle.list_tests.proofs.all_valid as all-valid
+use Rattle.list_tests.proofs.all_valid.Symbol.{name as #list_tests·all-valid}
+use Rattle.list_tests.proofs.list_outcome as list-outcome
+use Rattle.list_tests.proofs.list_outcome.Symbol.{name as #list_tests·list-outcome}
+use Rattle.list_tests.proofs.is_accepted as is-accepted
+use Rattle.list_tests.proofs.is_accepted.Symbol.{name as #list_tests·is-accepted}
 
 -- the list of passes at (b, o), under a ghost name
 module _ (b o : ℕ) where
@@ -81,10 +81,10 @@ module _ {M : Type 1} (𝓤 : URA M) (H : Heap 𝓤) (A : Atoms 𝓤) (W : Given
   -- `all_valid`: from [the list; its token; Γ] to the same, where whether all terms are valid is
   -- about to land
   pub calls-all-valid : {Γ : List (Item 𝓤)} {E : Env 𝓤 H} {C : Calls 𝓤 H} {Λ : Loops 𝓤 H} {Q : Post 𝓤 H} {xs : List Operand} {d : Place} {rest : Body}
-      → FmC 𝓤 H (W .laws) C → Triple 𝓤 (C #decorrelation·all-valid) (AllValid 𝓤 H A mem run) → Room T.the-row (length P)
+      → FmC 𝓤 H (W .laws) C → Triple 𝓤 (C #list_tests·all-valid) (AllValid 𝓤 H A mem run) → Room T.the-row (length P)
       → ((ν : ℕ) (δ : GName) → Opds (Go {0}) W (raw (AllValid 𝓤 H A mem run .pre (to-all-valid ν δ)) ∷ ‵ (LentShared T.the-row κ (ν ∷ []) q γ b o P) ∷ Γ) E xs (v ∷ []))
       → Seq (Go {0}) W (Passes ∷ ‵ (flft κ q) ∷ Γ) (lands C Λ E d (vbool (allValid P)) rest Q)
-      → Seq (Go {0}) W (Passes ∷ ‵ (flft κ q) ∷ Γ) (runs C Λ E (seq (call #decorrelation·all-valid xs d) rest) Q)
+      → Seq (Go {0}) W (Passes ∷ ‵ (flft κ q) ∷ Γ) (runs C Λ E (seq (call #list_tests·all-valid xs d) rest) Q)
   calls-all-valid {Γ} {E} {C} {Λ} {Q} {xs} {d} {rest} fm known gn ops k =
       lft-new ! tt (λ ν. move ! (1 ∷ 2 ∷ []) $
       use2 W (later (some (λ (δ : GName). ‵ (ShrSlice (named 0) (ν ∷ []) T.the-row .own (list-at b o δ P) (v ∷ [])) ⊛ ‵ (LentShared T.the-row κ (ν ∷ []) q γ b o P)))) (lends-shared T.the-row κ (ν ∷ []) q γ b o 𝓤 H A W (named 0) (named 0) P gn) $ await ! tt $ pick ! (λ δ. split ! $
@@ -108,10 +108,10 @@ module _ {M : Type 1} (𝓤 : URA M) (H : Heap 𝓤) (A : Atoms 𝓤) (W : Given
 
   -- `list_outcome`: the outcome r of a list is about to land
   pub calls-list-outcome : {Γ : List (Item 𝓤)} {E : Env 𝓤 H} {C : Calls 𝓤 H} {Λ : Loops 𝓤 H} {Q : Post 𝓤 H} {xs : List Operand} {d : Place} {rest : Body}
-      → FmC 𝓤 H (W .laws) C → Triple 𝓤 (C #decorrelation·list-outcome) (ListOutcome 𝓤 H A mem run) → n < 2 ^ 64 → m < 2 ^ 64
+      → FmC 𝓤 H (W .laws) C → Triple 𝓤 (C #list_tests·list-outcome) (ListOutcome 𝓤 H A mem run) → n < 2 ^ 64 → m < 2 ^ 64
       → Opds (Go {0}) W (raw (ListOutcome 𝓤 H A mem run .pre to-list-outcome) ∷ Γ) E xs (vbool valid ∷ vint w64 n ∷ vint w64 m ∷ [])
       → ((w : Val) (r : Outcome) → Is S.the-row r (w ∷ []) → outcomeNumber r ≡ listNumber valid n m → Seq (Go {0}) W Γ (lands C Λ E d w rest Q))
-      → Seq (Go {0}) W Γ (runs C Λ E (seq (call #decorrelation·list-outcome xs d) rest) Q)
+      → Seq (Go {0}) W Γ (runs C Λ E (seq (call #list_tests·list-outcome xs d) rest) Q)
   calls-list-outcome fm known fn fm′ ops k =
       use0 W (raw (ListOutcome 𝓤 H A mem run .pre to-list-outcome)) (goes-list-outcome fn fm′) $
       calls-at ! fm (ListOutcome 𝓤 H A mem run) known to-list-outcome ops (λ w.
@@ -128,10 +128,10 @@ module _ {M : Type 1} (𝓤 : URA M) (H : Heap 𝓤) (A : Atoms 𝓤) (W : Given
 
   -- `is_accepted`: whether an outcome is acceptance lands
   pub calls-is-accepted : {Γ : List (Item 𝓤)} {E : Env 𝓤 H} {C : Calls 𝓤 H} {Λ : Loops 𝓤 H} {Q : Post 𝓤 H} {xs : List Operand} {d : Place} {rest : Body}
-      → FmC 𝓤 H (W .laws) C → Triple 𝓤 (C #decorrelation·is-accepted) (IsAccepted 𝓤 H A mem run) → Is S.the-row r (w ∷ [])
+      → FmC 𝓤 H (W .laws) C → Triple 𝓤 (C #list_tests·is-accepted) (IsAccepted 𝓤 H A mem run) → Is S.the-row r (w ∷ [])
       → Opds (Go {0}) W (raw (IsAccepted 𝓤 H A mem run .pre to-is-accepted) ∷ Γ) E xs (w ∷ [])
       → Seq (Go {0}) W Γ (lands C Λ E d (vbool (acceptedBy r)) rest Q)
-      → Seq (Go {0}) W Γ (runs C Λ E (seq (call #decorrelation·is-accepted xs d) rest) Q)
+      → Seq (Go {0}) W Γ (runs C Λ E (seq (call #list_tests·is-accepted xs d) rest) Q)
   calls-is-accepted {Γ} {E} {C} {Λ} {Q} {xs} {d} {rest} fm known g ops k =
       use0 W (raw (IsAccepted 𝓤 H A mem run .pre to-is-accepted)) (goes-is-accepted g) $
       calls-at ! fm (IsAccepted 𝓤 H A mem run) known to-is-accepted ops (λ u.

@@ -20,7 +20,9 @@ use Rattle.passes.proofs.Unique.{residuals-unique}
 use Rattle.passes.proofs.Bounds.{AllBounded, decorrelated-bounded, analysed-bounded}
 use Rattle.passes.specs.declared.Direction.{Direction}
 use Rattle.passes.specs.declared.Direction.the-variants.{Decorrelation, Analysis}
-use Rattle.decorrelation.specs.Lists.{allValid, listNumber, numberBy, Answer, done, refuseList, chained, listed, followed, arrayAnswer, decorrelation, analysis}
+use Rattle.list_tests.specs.Tests.{allValid, listNumber}
+use Rattle.list_runs.specs.Chained.{chained}
+use Rattle.decorrelation.specs.Lists.{numberBy, Answer, done, refuseList, listed, followed, arrayAnswer, decorrelation, analysis}
 use Rattle.decorrelation.proofs.Answers.{number-by}
 
 -- what both entries accept: at most 16 well-made passes, and at most 262,144 elements

@@ -1,33 +1,18 @@
 -- Document 01, "Why each operation says no": decorrelation and analysis of a list of passes, with
--- what they refuse (X5). What they do to passes and buffer is defined in `passes`. Assumes nothing.
-use mathlib.Core.Bool.{Bool, true, false, cond, _&&_}
-use mathlib.Core.List.{List, [], _∷_, _++_}
-use Prim.Native.Nat.{ℕ, _-_}
-use lib.Dec.{ltb}
+-- what they refuse (X5, `list_tests`). What they do to passes and buffer is defined in `passes`. Assumes
+-- nothing.
+use mathlib.Core.Bool.{Bool}
+use mathlib.Core.List.{List, _++_}
+use Prim.Native.Nat.{ℕ}
 use lib.IntN.{ℤ}
 use lib.ListN.{length, take, drop}
 use Rattle.answers.specs.Guard.{unlessRefused}
-use Rattle.answers.specs.Limits.{maxElements, maxPasses}
-use Rattle.answers.specs.declared.Outcome.{Outcome}
-use Rattle.passes.specs.Terms.{termOf, isValid}
-use Rattle.passes.specs.Run.{Chain, decorrelated, analysed}
+use Rattle.passes.specs.Run.{Chain}
 use Rattle.passes.specs.declared.DecorrPass.{DecorrPass}
 use Rattle.passes.specs.declared.Direction.{Direction}
 use Rattle.passes.specs.declared.Direction.the-variants.{Decorrelation, Analysis}
-
--- a pass with a valid term
-abbrev pub validPass : DecorrPass → Bool
-validPass p = isValid (termOf (p .term))
-
--- "Passes are well-made when every term is valid" (M2)
-abbrev pub allValid : List DecorrPass → Bool
-allValid [] = true
-allValid (p ∷ ps) = validPass p && allValid ps
-
--- "5, over 262,144 elements; 9, over 16 passes; 7, an invalid term in the list" (X5), by whether
--- all are valid and how many there are of each; 0 for none
-unfoldable pub listNumber : Bool → ℕ → ℕ → ℕ
-listNumber valid passes elements = cond (ltb maxElements elements) 5 (cond (ltb maxPasses passes) 9 (cond valid 0 7))
+use Rattle.list_tests.specs.Tests.{allValid, listNumber}
+use Rattle.list_runs.specs.Chained.{chained}
 
 -- decorrelation asks no more of a list
 abbrev pub decorrelationNumber : Bool → ℕ → ℕ → ℕ
@@ -50,11 +35,6 @@ done c = record { refusal = 0; passes = c .passes; buffer = c .buffer }
 -- on refusal "passes and buffer keep their values" (X5)
 abbrev pub refuseList : List DecorrPass → List ℤ → ℕ → Answer
 refuseList ps l n = record { refusal = n; passes = ps; buffer = l }
-
--- a list of passes, run
-abbrev pub chained : Direction → List DecorrPass → List ℤ → Chain
-chained Decorrelation ps l = decorrelated ps l
-chained Analysis ps l = analysed ps l
 
 -- what each direction refuses
 abbrev pub numberBy : Direction → Bool → ℕ → ℕ → ℕ
@@ -82,15 +62,3 @@ followed rest c = record { passes = c .passes ++ rest; buffer = c .buffer }
 unfoldable pub arrayAnswer : Direction → List DecorrPass → ℕ → List ℤ → Answer
 arrayAnswer d ps n l =
     unlessRefused (numberBy d (allValid (take n ps)) n (length l)) (refuseList ps l) (done (followed (drop n ps) (chained d (take n ps) l)))
-
--- ---- how the code goes about it
-
--- whether an outcome is acceptance
-abbrev pub acceptedBy : Outcome → Bool
-acceptedBy Outcome.Accepted = true
-acceptedBy (Outcome.Refused r) = false
-
--- the pass that turn i of n works on: the first ones first, or the last ones first
-abbrev pub placeOf : Direction → ℕ → ℕ → ℕ
-placeOf Decorrelation n i = i
-placeOf Analysis n i = n - 1 - i

@@ -5,13 +5,15 @@ ghost use lib.ListN.{take, drop};
 ghost use Rattle.answers.specs.Limits.{maxPasses};
 ghost use Rattle.answers.specs.Numbers.{outcomeNumber};
 ghost use Rattle.passes.specs.declared.Direction.the-variants.{Decorrelation, Analysis};
-ghost use Rattle.decorrelation.specs.Lists.{allValid, analysisNumber, chained, followed, arrayAnswer};
-use crate::lists::is_accepted;
-use crate::lists::list_outcome;
-use crate::lists::run_list;
-use crate::lists::valid_pass;
+ghost use Rattle.list_tests.specs.Tests.{allValid};
+ghost use Rattle.list_runs.specs.Chained.{chained};
+ghost use Rattle.decorrelation.specs.Lists.{analysisNumber, followed, arrayAnswer};
 use answers::Outcome;
 use answers::limits::MAX_PASSES;
+use list_runs::run_list;
+use list_tests::array_valid;
+use list_tests::is_accepted;
+use list_tests::list_outcome;
 use passes::DecorrPass;
 use passes::Direction;
 
@@ -19,22 +21,6 @@ use passes::Direction;
 pub struct ListAnswer {
     pub outcome: Outcome,
     pub passes: [DecorrPass; MAX_PASSES],
-}
-
-// Whether the first `count` terms of an array are valid.
-fn array_valid(passes: [DecorrPass; MAX_PASSES], count: usize) -> bool
-    requires { ⌜ count ≤ maxPasses ⌝ }
-    ensures { λ r. ⌜ r ≡ allValid (take count passes) ⌝ }
-{
-    let mut i: usize = 0;
-    while i < count {
-        let p = passes[i];
-        if !valid_pass(p) {
-            return false;
-        }
-        i += 1;
-    }
-    true
 }
 
 // Runs the first `count` passes of an array, lent as a list. It refuses nothing.

@@ -1,100 +1,16 @@
-// Decorrelation and analysis by a lent list of passes.
-//
-// The list stays lent: `run_list` walks it, takes each pass out, runs it over the buffer and stores
-// it back. All tests and all arithmetic stand in functions of plain values.
+// Decorrelation and analysis by a lent list of passes, which stays lent to the tests and to the run.
 ghost use mathlib.Core.Path.{_≡_};
-ghost use Prim.Native.Nat.{_<_};
 ghost use Rattle.answers.specs.Numbers.{outcomeNumber};
-ghost use Rattle.decorrelation.specs.Lists.{validPass, allValid, listNumber, acceptedBy, placeOf, chained, listed, decorrelation, analysis};
+ghost use Rattle.decorrelation.specs.Lists.{listed, decorrelation, analysis};
 use answers::Outcome;
-use answers::Refusal;
-use answers::limits::MAX_ELEMENTS;
-use answers::limits::MAX_PASSES;
+use list_runs::run_list;
+use list_tests::all_valid;
+use list_tests::is_accepted;
+use list_tests::list_outcome;
 use passes::DecorrPass;
 use passes::Direction;
 
-// Whether the term of a pass is valid.
-pub(crate) fn valid_pass(p: DecorrPass) -> bool
-    ensures { λ r. ⌜ r ≡ validPass p ⌝ }
-{
-    passes::is_valid(passes::term_of(p.term))
-}
-
-// What decorrelation and analysis say of a list, by whether its terms are valid, its passes and the
-// buffer's elements.
-pub fn list_outcome(valid: bool, count: usize, elements: usize) -> Outcome
-    ensures { λ r. ⌜ outcomeNumber r ≡ listNumber valid count elements ⌝ }
-{
-    if MAX_ELEMENTS < elements {
-        return Outcome::Refused(Refusal::TooLarge);
-    }
-    if MAX_PASSES < count {
-        return Outcome::Refused(Refusal::TooManyPasses);
-    }
-    if valid {
-        Outcome::Accepted
-    } else {
-        Outcome::Refused(Refusal::InvalidTerm)
-    }
-}
-
-// Whether an outcome is acceptance.
-pub(crate) fn is_accepted(outcome: Outcome) -> bool
-    ensures { λ r. ⌜ r ≡ acceptedBy outcome ⌝ }
-{
-    match outcome {
-        Outcome::Accepted => true,
-        Outcome::Refused(_) => false,
-    }
-}
-
-// The pass that turn i of n works on.
-pub(crate) fn place(direction: Direction, n: usize, i: usize) -> usize
-    requires { ⌜ i < n ⌝ }
-    ensures { λ r. ⌜ r ≡ placeOf direction n i ⌝ }
-{
-    match direction {
-        Direction::Decorrelation => i,
-        Direction::Analysis => n - 1 - i,
-    }
-}
-
-// Whether all terms of a list are valid.
-pub(crate) fn all_valid(passes: &[DecorrPass]) -> bool
-    ensures { λ r. ⌜ r ≡ allValid (now (passes .entry)) ⌝ }
-{
-    let n = passes.len();
-    let mut i: usize = 0;
-    while i < n {
-        let p = passes[i];
-        if !valid_pass(p) {
-            return false;
-        }
-        i += 1;
-    }
-    true
-}
-
-// Runs every pass of a list over the buffer: in decorrelation the first one first, in analysis the
-// last one first. It refuses nothing.
-pub(crate) fn run_list(direction: Direction, passes: &mut [DecorrPass], buffer: &mut [i32])
-    ensures { λ _. ⌜
-        record { passes = now (passes .exit); buffer = now (buffer .exit) }
-        ≡ chained direction (now (passes .entry)) (now (buffer .entry))
-        ⌝ }
-{
-    let n = passes.len();
-    let mut i: usize = 0;
-    while i < n {
-        let j = place(direction, n, i);
-        let p = passes[j];
-        let r = pass_runs::run_pass(direction, p, buffer);
-        passes[j] = r;
-        i += 1;
-    }
-}
-
-// The same where the list is accepted: else nothing changes.
+// Runs every pass of a list that is accepted over the buffer: else nothing changes.
 pub(crate) fn run_checked(
     direction: Direction,
     passes: &mut [DecorrPass],

@@ -15,7 +15,9 @@ use Rattle.answers.proofs.TestLaws.{both}
 use Rattle.passes.specs.Run.{Chain}
 use Rattle.passes.specs.declared.DecorrPass.{DecorrPass}
 use Rattle.passes.specs.declared.Direction.{Direction}
-use Rattle.decorrelation.specs.Lists.{allValid, listNumber, numberBy, done, refuseList, chained, listed}
+use Rattle.list_tests.specs.Tests.{allValid, listNumber}
+use Rattle.list_runs.specs.Chained.{chained}
+use Rattle.decorrelation.specs.Lists.{numberBy, done, refuseList, listed}
 use Rattle.decorrelation.proofs.Answers.{number-by}
 use Rattle.decorrelation.proofs.Theorems.{Accepted, ArrayAccepted, array-accepts}
 use Rattle.joined_lists.proofs.FoldLaws.{valid-joined}

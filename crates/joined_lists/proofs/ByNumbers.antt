@@ -10,7 +10,8 @@ use Rattle.weights.specs.Weights.{predict, sample, residual, source17, atMost10
 use Rattle.passes.specs.Terms.{termOf}
 use Rattle.passes.specs.Step.{step, unstep, advanced}
 use Rattle.passes.specs.Run.{passed}
-use Rattle.decorrelation.specs.Lists.{listNumber, listed}
+use Rattle.list_tests.specs.Tests.{listNumber}
+use Rattle.decorrelation.specs.Lists.{listed}
 use Rattle.joined_lists.specs.Example.{ByNumbers, OrderMatters, Seventeen}
 
 -- two calls and one leave the same numbers

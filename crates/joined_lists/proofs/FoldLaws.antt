@@ -8,7 +8,7 @@ use Rattle.passes.specs.Run.{passed, decorrelated, analysed}
 use Rattle.passes.specs.declared.DecorrPass.{DecorrPass}
 use Rattle.passes.specs.declared.Direction.the-variants.{Decorrelation}
 use Rattle.passes.proofs.ListLaws.{before, behind}
-use Rattle.decorrelation.specs.Lists.{validPass, allValid}
+use Rattle.list_tests.specs.Tests.{validPass, allValid}
 
 -- decorrelation: the first list is run, and the second over what it left
 pub decorrelated-joined : (ps qs : List DecorrPass) (l : List ℤ)

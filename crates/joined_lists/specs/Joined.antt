@@ -12,7 +12,8 @@ use lib.ListN.{length}
 use Rattle.answers.specs.Limits.{maxElements, maxPasses}
 use Rattle.passes.specs.Run.{Chain, decorrelated, analysed}
 use Rattle.passes.specs.declared.DecorrPass.{DecorrPass}
-use Rattle.decorrelation.specs.Lists.{Answer, allValid, refuseList, decorrelation, analysis}
+use Rattle.list_tests.specs.Tests.{allValid}
+use Rattle.decorrelation.specs.Lists.{Answer, refuseList, decorrelation, analysis}
 
 -- ---- two calls
 

@@ -13,7 +13,7 @@ use Rattle.decorrelation.specs.Lists.{Answer, decorrelation, analysis}
 use Rattle.joined_lists.specs.Joined.{TwoCalls, decorrelatedApart, analysedApart, Joinable, Same}
 use Rattle.joined_lists.proofs.AcceptLaws.{zero-accepts}
 use Rattle.joined_lists.proofs.Together.{decorrelation-joined, analysis-joined}
-use Rattle.pass_slots.specs.PassSlots.{listSlots, PassesLeft, passesCall}
+use Rattle.pass_slots.specs.PassSlots.{passSlots, listSlots, PassesLeft, passesCall}
 use Rattle.pass_slots.proofs.PassSlotLaws.{passes-length, slots-append}
 use Rattle.joined_slots.specs.JoinedSlots.{SlotCalls, decorrelateApart, analyseApart, JoinableSlots, SameSlots, DecorrelateJoined, AnalyseJoined}
 use Rattle.joined_slots.proofs.SlotLaws.{passesIn, inSlots, AcceptedCall, call-leaves, call-accepts, passes-in-joined}
@@ -29,7 +29,7 @@ slots-of e = ap (λ (x : PassesLeft). x .passes) e
 buffer-of : {a b : PassesLeft} → a ≡ b → a .buffer ≡ b .buffer
 buffer-of e = ap (λ (x : PassesLeft). x .buffer) e
 
-module _ (entry : List DecorrPass → List ℤ → Answer) (xs ys l : List ℤ) (whole-xs : length xs % 20 ≡ 0) (whole-ys : length ys % 20 ≡ 0) where
+module _ (entry : List DecorrPass → List ℤ → Answer) (xs ys l : List ℤ) (whole-xs : length xs % passSlots ≡ 0) (whole-ys : length ys % passSlots ≡ 0) where
   -- the joined call over slots leaves what the entry leaves by both lists of passes
   joined-leaves : entry (passesIn xs ++ passesIn ys) l .refusal ≡ 0 → passesCall entry (xs ++ ys) l ≡ inSlots (entry (passesIn xs ++ passesIn ys) l)
   joined-leaves z =
@@ -49,8 +49,8 @@ module _ (entry : List DecorrPass → List ℤ → Answer) (xs ys l : List ℤ) 
       }
 
 -- at most 320 slots hold at most 16 passes
-few-passes : (xs ys : List ℤ) → length xs + length ys ≤ maxPasses * 20 → length (passesIn xs) + length (passesIn ys) ≤ maxPasses
-few-passes xs ys h = rw (passes-length (length xs / 20) xs, passes-length (length ys / 20) ys) (omega arith)
+few-passes : (xs ys : List ℤ) → length xs + length ys ≤ maxPasses * passSlots → length (passesIn xs) + length (passesIn ys) ≤ maxPasses
+few-passes xs ys h = rw (passes-length (length xs / passSlots) xs, passes-length (length ys / passSlots) ys) (omega arith)
 
 -- ---- the theorems
 

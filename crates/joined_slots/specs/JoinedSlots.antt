@@ -8,7 +8,7 @@ use lib.IntN.{ℤ}
 use lib.ListN.{length}
 use Rattle.answers.specs.Limits.{maxPasses}
 use Rattle.decorrelation.specs.Lists.{decorrelation, analysis}
-use Rattle.pass_slots.specs.PassSlots.{PassesLeft, passesCall}
+use Rattle.pass_slots.specs.PassSlots.{passSlots, PassesLeft, passesCall}
 
 -- what the first list's call and the second list's call left, and the buffer that both left
 pub record SlotCalls : Type 0 where
@@ -34,7 +34,7 @@ analyseApart first second buffer =
 pub record JoinableSlots (first second : List ℤ) (apart : SlotCalls) : Type 0 where
   pub first-accepted : apart .first .refusal ≡ 0
   pub second-accepted : apart .second .refusal ≡ 0
-  pub at-most-16 : length first + length second ≤ maxPasses * 20
+  pub at-most-16 : length first + length second ≤ maxPasses * passSlots
 
 -- the joined call is accepted, and leaves the buffer that the two left, and the slots that both left
 pub record SameSlots (apart : SlotCalls) (joined : PassesLeft) : Type 0 where

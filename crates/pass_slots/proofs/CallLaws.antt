@@ -19,10 +19,12 @@ use Rattle.answers.proofs.GuardLaws.{guard-refused}
 use Rattle.passes.specs.Run.{Chain}
 use Rattle.passes.specs.declared.DecorrPass.{DecorrPass}
 use Rattle.passes.specs.declared.Direction.{Direction}
-use Rattle.decorrelation.specs.Lists.{allValid, listNumber, numberBy, Answer, done, refuseList, chained, listed, arrayAnswer}
+use Rattle.list_tests.specs.Tests.{allValid, listNumber}
+use Rattle.list_runs.specs.Chained.{chained}
+use Rattle.decorrelation.specs.Lists.{numberBy, Answer, done, refuseList, listed, arrayAnswer}
 use Rattle.decorrelation.proofs.Answers.{number-by, many-number, many-positive}
 use Rattle.decorrelation.proofs.Theorems.{listed-count, extended, array-as-list}
-use Rattle.pass_slots.specs.PassSlots.{passesOf, listSlots, PassesLeft, leavePasses, passesCall}
+use Rattle.pass_slots.specs.PassSlots.{passSlots, passesOf, listSlots, PassesLeft, leavePasses, passesCall}
 use Rattle.pass_slots.proofs.PassSlotLaws.{passes-length}
 
 -- ---- the calls
@@ -35,11 +37,11 @@ refused-left (suc k) c slots qs l h = refl
 
 module _ (dir : Direction) (slots buffer : List ℤ) where
   -- a length that is no multiple of 20
-  pub call-short : (r : ℕ) → r ≡ 6 → eqb (length slots % 20) 0 ≡ false → record { refusal = r; passes = slots; buffer = buffer } ≡ passesCall (listed dir) slots buffer
+  pub call-short : (r : ℕ) → r ≡ 6 → eqb (length slots % passSlots) 0 ≡ false → record { refusal = r; passes = slots; buffer = buffer } ≡ passesCall (listed dir) slots buffer
   unfolding passesCall
   call-short r e h = rw (h, e)
 
-  module _ (n : ℕ) (is : n ≡ length slots / 20) (whole : eqb (length slots % 20) 0 ≡ true) where
+  module _ (n : ℕ) (is : n ≡ length slots / passSlots) (whole : eqb (length slots % passSlots) 0 ≡ true) where
     -- what is told of the passes in the slots
     by-list : passesCall (listed dir) slots buffer ≡ leavePasses slots (listed dir (passesOf n slots) buffer)
     unfolding passesCall

@@ -16,7 +16,7 @@ use Rattle.passes.specs.Making.{makingRefusal, Made, noPass, made}
 use Rattle.passes.specs.declared.DecorrPass.{DecorrPass}
 use Rattle.overlay.specs.Overlay.{overlay}
 use Rattle.slots.specs.Slots.{leaveValues}
-use Rattle.pass_slots.specs.PassSlots.{slotsOf, passAnswer, passValues}
+use Rattle.pass_slots.specs.PassSlots.{passSlots, slotsOf, passAnswer, passValues}
 
 -- pass making tells the number that it is given
 by-refusal : (n : ℕ) (p : DecorrPass) → unlessRefused {A = Made} n (λ k. record { refusal = k; pass = noPass }) (record { refusal = 0; pass = p }) .refusal ≡ n
@@ -34,10 +34,10 @@ module _ (term delta weightA weightB : ℤ) (seedA seedB slots : List ℤ) where
   made-refusal = by-refusal (makingRefusal term seedA seedB) _
 
   -- too few slots
-  pub pass-short : (r : ℕ) → r ≡ 6 → length slots < 20 → Passed r slots
-  pass-short r e h = rw (lt-ltb (length slots) 20 h, e) (refl, refl)
+  pub pass-short : (r : ℕ) → r ≡ 6 → length slots < passSlots → Passed r slots
+  pass-short r e h = rw (lt-ltb (length slots) passSlots h, e) (refl, refl)
 
-  module _ (o : Outcome) (p : DecorrPass) (told : record { refusal = outcomeNumber o; pass = p } ≡ made term delta weightA weightB seedA seedB) (enough : 20 ≤ length slots) where
+  module _ (o : Outcome) (p : DecorrPass) (told : record { refusal = outcomeNumber o; pass = p } ≡ made term delta weightA weightB seedA seedB) (enough : passSlots ≤ length slots) where
     number-is : outcomeNumber o ≡ makingRefusal term seedA seedB
     number-is = ap (λ (m : Made). m .refusal) told ∙ made-refusal
 
@@ -45,11 +45,11 @@ module _ (term delta weightA weightB : ℤ) (seedA seedB slots : List ℤ) where
     pub pass-refused : (r : ℕ) (x : Refusal) → r ≡ outcomeNumber o → o ≡ Outcome.Refused x → Passed r slots
     pass-refused r x e f =
         let h : 0 < r = rw (e, f) (number-positive x) in
-        rw (le-ltb (length slots) 20 enough, guard-refused r (λ _. slots) (overlay slots 0 (passValues term delta weightA weightB seedA seedB)) h) (e ∙ number-is, refl)
+        rw (le-ltb (length slots) passSlots enough, guard-refused r (λ _. slots) (overlay slots 0 (passValues term delta weightA weightB seedA seedB)) h) (e ∙ number-is, refl)
 
     -- one that is made
     pub pass-made : (values after : List ℤ) → o ≡ Outcome.Accepted → values ≡ slotsOf p → after ≡ overlay slots 0 values → Passed 0 after
     pass-made values after f g h =
         let n : 0 ≡ makingRefusal term seedA seedB = rw f at number-is in
         let v : values ≡ passValues term delta weightA weightB seedA seedB = g ∙ ap (λ (m : Made). slotsOf (m .pass)) told in
-        rw (le-ltb (length slots) 20 enough) (n, h ∙ ap (overlay slots 0) v)
+        rw (le-ltb (length slots) passSlots enough) (n, h ∙ ap (overlay slots 0) v)

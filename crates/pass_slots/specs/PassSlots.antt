@@ -13,6 +13,10 @@ use Rattle.passes.specs.Making.{makingRefusal, made}
 use Rattle.decorrelation.specs.Lists.{Answer}
 use Rattle.slots.specs.Slots.{slotRefusal}
 
+-- "20 slots a pass": its term, delta and weights, and two histories of eight
+abbrev pub passSlots : ℕ
+passSlots = 20
+
 -- the term in a slot: a number outside 8 bits is read as 0, which is no valid term either
 abbrev pub slotTerm : ℤ → ℤ
 slotTerm (pos n) = cond (leb n 127) (pos n) (pos 0)
@@ -38,7 +42,7 @@ slotsOf p = p .term ∷ p .delta ∷ p .«weight_a» ∷ p .«weight_b» ∷ (p 
 -- n passes, one behind the other
 abbrev pub passesOf : ℕ → List ℤ → List DecorrPass
 passesOf zero slots = []
-passesOf (suc n) slots = passOf slots ∷ passesOf n (drop 20 slots)
+passesOf (suc n) slots = passOf slots ∷ passesOf n (drop passSlots slots)
 
 -- the slots of a list of passes
 abbrev pub listSlots : List DecorrPass → List ℤ
@@ -49,7 +53,7 @@ listSlots (p ∷ ps) = slotsOf p ++ listSlots ps
 
 -- 6 before what pass making refuses
 abbrev pub passAnswer : ℤ → List ℤ → List ℤ → List ℤ → ℕ
-passAnswer term seedA seedB slots = orElse (slotRefusal 20 slots) (makingRefusal term seedA seedB)
+passAnswer term seedA seedB slots = orElse (slotRefusal passSlots slots) (makingRefusal term seedA seedB)
 
 -- the pass that is made
 abbrev pub passValues : ℤ → ℤ → ℤ → ℤ → List ℤ → List ℤ → List ℤ
@@ -76,6 +80,6 @@ leavePasses slots a =
 -- as they were
 unfoldable pub passesCall : (List DecorrPass → List ℤ → Answer) → List ℤ → List ℤ → PassesLeft
 passesCall entry slots buffer =
-    cond (eqb (length slots % 20) 0)
-    (leavePasses slots (entry (passesOf (length slots / 20) slots) buffer))
+    cond (eqb (length slots % passSlots) 0)
+    (leavePasses slots (entry (passesOf (length slots / passSlots) slots) buffer))
     (record { refusal = 6; passes = slots; buffer = buffer })

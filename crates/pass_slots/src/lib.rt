@@ -17,7 +17,10 @@ ghost use lib.ListN.{length, take};
 ghost use Rattle.answers.specs.Limits.{maxPasses};
 ghost use Rattle.decorrelation.specs.Lists.{listed};
 ghost use Rattle.slots.specs.Slots.{leaveValues};
-ghost use Rattle.pass_slots.specs.PassSlots.{slotTerm, passOf, slotsOf, passesOf, listSlots, passAnswer, passValues, passesCall};
+ghost use Rattle.pass_slots.specs.PassSlots.{passSlots, slotTerm, passOf, slotsOf, passesOf, listSlots, passAnswer, passValues, passesCall};
+
+// Slots of a pass: its term, delta and weights, and two histories of eight.
+pub const PASS_SLOTS: usize = 20;
 
 // The term in a slot; 0, which is no valid one, for a number outside 8 bits.
 fn slot_term(slot: i32) -> i8
@@ -34,14 +37,14 @@ fn slot_term(slot: i32) -> i8
 
 // The pass that the first 20 slots hold.
 fn pass_in(slots: &[i32]) -> DecorrPass
-    requires { ⌜ 20 ≤ length (now slots) ⌝ }
+    requires { ⌜ passSlots ≤ length (now slots) ⌝ }
     ensures { λ r. ⌜ r ≡ passOf (now (slots .entry)) ⌝ }
 {
     let term = slot_term(slots[0]);
     let mut history_a = [0i32; 8];
     let mut history_b = [0i32; 8];
     lay(&slots[4..12], 0, &mut history_a);
-    lay(&slots[12..20], 0, &mut history_b);
+    lay(&slots[12..PASS_SLOTS], 0, &mut history_b);
     DecorrPass {
         term: term,
         delta: slots[1],
@@ -53,14 +56,14 @@ fn pass_in(slots: &[i32]) -> DecorrPass
 }
 
 // A pass as 20 slots hold it.
-fn pass_slots(p: DecorrPass) -> [i32; 20]
+fn pass_slots(p: DecorrPass) -> [i32; PASS_SLOTS]
     ensures { λ r. ⌜ r ≡ slotsOf p ⌝ }
 {
     let term = p.term;
     let a = p.history_a;
     let b = p.history_b;
     let head = [term as i32, p.delta, p.weight_a, p.weight_b];
-    let mut slots = [0i32; 20];
+    let mut slots = [0i32; PASS_SLOTS];
     lay(&head, 0, &mut slots);
     lay(&a, 4, &mut slots);
     lay(&b, 12, &mut slots);
@@ -69,7 +72,7 @@ fn pass_slots(p: DecorrPass) -> [i32; 20]
 
 // The first `count` passes of a list of slots, in an array.
 fn passes_in(slots: &[i32], count: usize) -> [DecorrPass; MAX_PASSES]
-    requires { ⌜ (count ≤ maxPasses) × (count * 20 ≤ length (now slots)) ⌝ }
+    requires { ⌜ (count ≤ maxPasses) × (count * passSlots ≤ length (now slots)) ⌝ }
     ensures { λ r. ⌜ take count r ≡ passesOf count (now (slots .entry)) ⌝ }
 {
     let none = DecorrPass {
@@ -83,7 +86,7 @@ fn passes_in(slots: &[i32], count: usize) -> [DecorrPass; MAX_PASSES]
     let mut passes = [none; MAX_PASSES];
     let mut i: usize = 0;
     while i < count {
-        let at = i * 20;
+        let at = i * PASS_SLOTS;
         let p = pass_in(&slots[at..]);
         passes[i] = p;
         i += 1;
@@ -93,12 +96,12 @@ fn passes_in(slots: &[i32], count: usize) -> [DecorrPass; MAX_PASSES]
 
 // Lays the first `count` passes of an array into as many times 20 slots.
 fn lay_passes(passes: [DecorrPass; MAX_PASSES], count: usize, slots: &mut [i32])
-    requires { ⌜ (count ≤ maxPasses) × (length (now slots) ≡ count * 20) ⌝ }
+    requires { ⌜ (count ≤ maxPasses) × (length (now slots) ≡ count * passSlots) ⌝ }
     ensures { λ _. ⌜ now (slots .exit) ≡ listSlots (take count passes) ⌝ }
 {
     let mut i: usize = 0;
     while i < count {
-        let at = i * 20;
+        let at = i * PASS_SLOTS;
         let p = passes[i];
         let values = pass_slots(p);
         lay(&values, at, slots);
@@ -127,7 +130,7 @@ pub fn make_pass(
         (now (pass .entry))
         ⌝ }
 {
-    if pass.len() < 20 {
+    if pass.len() < PASS_SLOTS {
         return number(Refusal::ListLength);
     }
     let answer = DecorrPass::new(term, delta, weight_a, weight_b, seed_a, seed_b);
@@ -150,10 +153,10 @@ pub fn run_slots(direction: Direction, passes: &mut [i32], buffer: &mut [i32]) -
         ⌝ }
 {
     let slots = passes.len();
-    if slots % 20 != 0 {
+    if slots % PASS_SLOTS != 0 {
         return number(Refusal::ListLength);
     }
-    let count = slots / 20;
+    let count = slots / PASS_SLOTS;
     // the array has no room for more, and they are refused whatever their terms
     if MAX_PASSES < count {
         return outcome_number(list_outcome(true, count, buffer.len()));

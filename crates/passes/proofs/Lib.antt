@@ -8,3 +8,4 @@ pub mod Unique
 pub mod Bounds
 pub mod LoopLaws
 pub mod ListLaws
+pub mod Locals

@@ -21,7 +21,8 @@ use Rattle.passes.specs.declared.DecorrPass.{DecorrPass}
 use Rattle.passes.specs.Run.{Fit, Chain, decorrelated}
 use Rattle.passes.proofs.RunInverse.{analysed-length, decorrelated-analysed}
 use Rattle.passes.specs.declared.Direction.the-variants.{Decorrelation, Analysis}
-use Rattle.decorrelation.specs.Lists.{Answer, allValid, analysisNumber, arrayAnswer}
+use Rattle.list_tests.specs.Tests.{allValid}
+use Rattle.decorrelation.specs.Lists.{Answer, analysisNumber, arrayAnswer}
 use Rattle.decorrelation.proofs.Theorems.{ArrayAccepted, array-accepts, array-runs}
 use Rattle.packing.specs.Entry.{PackTold, viewPacking, refusalBeforeSpan, spanRefusal, packEntry, packedBytes}
 use Rattle.packing.specs.declared.PackAnswer.{PackAnswer}

@@ -12,7 +12,8 @@ use Rattle.entropy.specs.Seed.{acceptsEntropy}
 use Rattle.samples.specs.View.{ReadTold, readEntry}
 use Rattle.passes.specs.declared.DecorrPass.{DecorrPass}
 use Rattle.passes.specs.Run.{Fit}
-use Rattle.decorrelation.specs.Lists.{Answer, allValid, decorrelation, analysis}
+use Rattle.list_tests.specs.Tests.{allValid}
+use Rattle.decorrelation.specs.Lists.{Answer, decorrelation, analysis}
 use Rattle.word_bits.specs.Residuals.{spanned}
 use Rattle.packing.specs.Entry.{PackTold, packedFrom, tellPacking, packEntry, packedBytes}
 

@@ -13,7 +13,8 @@ use Rattle.answers.specs.Numbers.{outcomeNumber}
 use Rattle.answers.specs.declared.Outcome.{Outcome}
 use Rattle.passes.specs.declared.DecorrPass.{DecorrPass}
 use Rattle.passes.specs.Run.{Fit, analysed}
-use Rattle.decorrelation.specs.Lists.{allValid, analysisNumber}
+use Rattle.list_tests.specs.Tests.{allValid}
+use Rattle.decorrelation.specs.Lists.{analysisNumber}
 use Rattle.packing.specs.Entry.{PackTold, refusalBeforeSpan, spanRefusal, packEntry}
 use Rattle.roundtrip.specs.declared.TripAnswer.{TripAnswer}
 

@@ -7,6 +7,7 @@ use native.Mathlib.Omega.{arith}
 use borrow.Author.Needs.{needs}
 use lib.ListN.{length}
 use Rattle.overlay.proofs.OverlayLaws.{overlay-length}
+use Rattle.pass_slots.specs.PassSlots.{passSlots}
 use Rattle.pass_slots.proofs.PassSlotLaws.{Laying, laying-none, laying-more, laying-all}
 use Rattle.pass_slots.proofs.lay_passes.Statement.{statement}
 use Rattle.pass_slots.proofs.lay_passes.Tie as tie
@@ -23,7 +24,7 @@ loop-holds c = (omega arith, refl, laying-none (c .args .t1) (c .args .slots .no
 lay-requires : tie.Need-lay-requires Inv-loop μ-loop
 lay-requires c κs =
     let t = c .before .before .before .before .before .loop in
-    let n : length (c .before .before .pass-slots .result) ≡ 20 = search needs in
+    let n : length (c .before .before .pass-slots .result) ≡ passSlots = search needs in
     omega (arith, n, c .before .before .before .before .before .before .pre .1, t .inv .1)
 
 loop-again : tie.Need-loop-again Inv-loop μ-loop
@@ -31,11 +32,11 @@ loop-again c =
     let s = c .before .before .before .before .before .before .before .before in
     let t = c .before .before .before .before .before .before .before .loop in
     let x = c .before .before .before .before .pass-slots in
-    let n : length (x .result) ≡ 20 = search needs in
+    let n : length (x .result) ≡ passSlots = search needs in
     let few : t .i < length (s .args .t1) = omega (arith, s .pre .0, s .good .0 .1 .0 .1) in
-    let room : t .i * 20 + length (x .result) ≤ length (t .slots) = omega (arith, s .pre .1, t .inv .1) in (
+    let room : t .i * passSlots + length (x .result) ≤ length (t .slots) = omega (arith, s .pre .1, t .inv .1) in (
       omega arith,
-      ap length (c .before .lay .ensures) ∙ overlay-length (t .slots) (t .i * 20) (x .result) room ∙ t .inv .1,
+      ap length (c .before .lay .ensures) ∙ overlay-length (t .slots) (t .i * passSlots) (x .result) room ∙ t .inv .1,
       rw (add-one (t .i)) (laying-more (t .i) (s .args .t1) _ (s .args .slots .now) (t .slots) (x .result) _ few n (x .ensures) (c .before .lay .ensures) (t .inv .2)),
     )
 

@@ -6,7 +6,7 @@ use native.Mathlib.Numerals.{add-one}
 use native.Mathlib.Omega.{arith}
 use borrow.Author.Needs.{needs}
 use lib.ListN.{length, take, length-set, length-drop}
-use Rattle.pass_slots.specs.PassSlots.{passesOf}
+use Rattle.pass_slots.specs.PassSlots.{passSlots, passesOf}
 use Rattle.pass_slots.proofs.PassSlotLaws.{part-is, taken-more}
 use Rattle.pass_slots.proofs.passes_in.Statement.{statement}
 use Rattle.pass_slots.proofs.passes_in.Tie as tie
@@ -23,14 +23,14 @@ loop-holds c = (omega arith, refl, refl)
 pass-in-requires : tie.Need-pass-in-requires Inv-loop μ-loop
 pass-in-requires c κs =
     let s = c .before .before .before .args .slots .now in
-    let at = c .before .before .loop .i * 20 in
+    let at = c .before .before .loop .i * passSlots in
     rw (part-is at s, length-drop at s) (omega arith)
 
 loop-again : tie.Need-loop-again Inv-loop μ-loop
 loop-again c =
     let s = c .before .before .before .before .args .slots .now in
     let t = c .before .before .before .loop in
-    (omega arith, simp length-set (t .inv .1), rw (add-one (t .i)) (taken-more (t .i) (t .passes) (c .pass-in .result) s (omega arith) (t .inv .2) (rw (part-is (t .i * 20) s) at (c .pass-in .ensures))))
+    (omega arith, simp length-set (t .inv .1), rw (add-one (t .i)) (taken-more (t .i) (t .passes) (c .pass-in .result) s (omega arith) (t .inv .2) (rw (part-is (t .i * passSlots) s) at (c .pass-in .ensures))))
 
 returns : tie.Need-returns Inv-loop μ-loop
 returns c =

@@ -7,7 +7,7 @@ use Prim.Native.Nat.{ℕ, _<_}
 use borrow.Author.Needs.{needs}
 use borrow.Author.Tests.{lt-ltb}
 use Rattle.answers.specs.Limits.{maxPasses}
-use Rattle.decorrelation.specs.Lists.{listNumber}
+use Rattle.list_tests.specs.Tests.{listNumber}
 use Rattle.decorrelation.proofs.arrays.analysis_refusal.Statement.{statement}
 use Rattle.decorrelation.proofs.arrays.analysis_refusal.Tie as tie
 

@@ -53,25 +53,28 @@ use Rattle.passes.specs.declared.Direction.{Direction}
 use Rattle.passes.proofs.DecorrPass as R
 use Rattle.passes.proofs.Direction as D
 use Rattle.passes.proofs.Direction.Laws as D′
-use Rattle.decorrelation.specs.Lists.{allValid, acceptedBy, chained, Answer, listed}
+use Rattle.list_tests.specs.Tests.{allValid, acceptedBy}
+use Rattle.list_runs.specs.Chained.{chained}
+use Rattle.decorrelation.specs.Lists.{Answer, listed}
 use Rattle.decorrelation.proofs.Answers.{answer-accepted, answer-refused}
-use Rattle.decorrelation.proofs.Lending.{gives-up}
-use Rattle.decorrelation.proofs.Locals.{word, wayTy, passPtr, lentPasses, lentNumbers, passesTy, bufferTy, way, ways, WayTyped, way-is, way-tells, way-typed}
-use Rattle.decorrelation.proofs.TurnCalls.{buf}
+use Rattle.decorrelation.proofs.ListCall.{RunList, calls-run-list}
+use Rattle.lending.proofs.Lending.{gives-up}
+use Rattle.passes.proofs.Locals.{word, wayTy, passPtr, lentPasses, lentNumbers, passesTy, bufferTy, way, ways, WayTyped, way-is, way-tells, way-typed}
+use Rattle.list_runs.proofs.TurnCalls.{buf}
 use Rattle.decorrelation.proofs.TestCalls.{list-at, AllValid, calls-all-valid, ListOutcome, calls-list-outcome, IsAccepted, calls-is-accepted}
-use Rattle.decorrelation.proofs.lists.all_valid.Symbol as all-valid-def
-use Rattle.decorrelation.proofs.lists.all_valid.Symbol.{name as #decorrelation·all-valid}
-use Rattle.decorrelation.proofs.lists.all_valid.Met as all-valid-thm
-use Rattle.decorrelation.proofs.lists.list_outcome.Symbol as list-outcome-def
-use Rattle.decorrelation.proofs.lists.list_outcome.Symbol.{name as #decorrelation·list-outcome}
-use Rattle.decorrelation.proofs.lists.list_outcome.Met as list-outcome-thm
-use Rattle.decorrelation.proofs.lists.is_accepted.Symbol as is-accepted-def
-use Rattle.decorrelation.proofs.lists.is_accepted.Symbol.{name as #decorrelation·is-accepted}
-use Rattle.decorrelation.proofs.lists.is_accepted.Met as is-accepted-thm
-use Rattle.decorrelation.proofs.lists.run_list as run-list
-use Rattle.decorrelation.proofs.lists.run_list.Symbol as run-list-def
-use Rattle.decorrelation.proofs.lists.run_list.Symbol.{name as #decorrelation·run-list}
-use Rattle.decorrelation.proofs.lists.run_list.Met as run-list-thm
+use Rattle.list_tests.proofs.all_valid.Symbol as all-valid-def
+use Rattle.list_tests.proofs.all_valid.Symbol.{name as #list_tests·all-valid}
+use Rattle.list_tests.proofs.all_valid.Met as all-valid-thm
+use Rattle.list_tests.proofs.list_outcome.Symbol as list-outcome-def
+use Rattle.list_tests.proofs.list_outcome.Symbol.{name as #list_tests·list-outcome}
+use Rattle.list_tests.proofs.list_outcome.Met as list-outcome-thm
+use Rattle.list_tests.proofs.is_accepted.Symbol as is-accepted-def
+use Rattle.list_tests.proofs.is_accepted.Symbol.{name as #list_tests·is-accepted}
+use Rattle.list_tests.proofs.is_accepted.Met as is-accepted-thm
+use Rattle.list_runs.proofs.run_list as run-list
+use Rattle.list_runs.proofs.run_list.Symbol as run-list-def
+use Rattle.list_runs.proofs.run_list.Symbol.{name as #list_runs·run-list}
+use Rattle.list_runs.proofs.run_list.Met as run-list-thm
 use Rattle.decorrelation.proofs.lists.run_checked.Key.{name as #decorrelation·run-checked}
 use Rattle.decorrelation.proofs.lists.run_checked as f
 use Rattle.decorrelation.proofs.lists.run_checked.Statement as stated
@@ -83,9 +86,6 @@ stayed = (stay-none (λ _. D.the-row) yes, (gave-slice (0 ∷ []) tt (plain (λ 
 
 abbrev Arg : Type 0
 Arg = Direction × (RefT (List DecorrPass) × (RefT (List ℤ) × Unit {0}))
-
-abbrev RunList : {M : Type 1} (𝓤 : URA M) (H : Heap 𝓤) (A : Atoms 𝓤) (mem : Memory → SProp 𝓤) (run : Routine → Fun 𝓤) → Contract 𝓤
-RunList 𝓤 H A mem run = tripleOf 𝓤 H A run-list.signature (run-list.spec 𝓤 H A mem run)
 
 module _ {M : Type 1} (𝓤 : URA M) (H : Heap 𝓤) (A : Atoms 𝓤) (W : Given 𝓤 H A) (mem : Memory → SProp 𝓤) (run : Routine → Fun 𝓤)
     (κ κ′ : Lft) (q q′ : Share) (b o : ℕ) (γ : GName) (dir : Direction) (dv : Val) (dv-is : Is D.the-row dir (dv ∷ [])) (dv-typed : WayTyped dv) (P : List DecorrPass) (b′ o′ : ℕ) (γ′ : GName) (B : List ℤ) where
@@ -110,15 +110,6 @@ module _ {M : Type 1} (𝓤 : URA M) (H : Heap 𝓤) (A : Atoms 𝓤) (W : Given
   abbrev Buffer : Item 𝓤
   Buffer = ‵ (MutSlice (named 1) κ′ i32 .own (buf b′ o′ γ′ B) (s′ ∷ []))
 
-  -- both are handed on to `run_list`
-  abbrev to-run-list : RunList 𝓤 H A mem run .Ghost
-  to-run-list = (((κ, (κ′, tt)), (q, (q′, tt)), tt, a, at), tt)
-
-  goes-run-list : ent 𝓤 (⋆ 𝓤 H A ((‵ (flft κ q) ⊛ (‵ (flft κ′ q′) ⊛ ‵ ftrue)) ∷ Passes ∷ Buffer ∷ [])) (RunList 𝓤 H A mem run .pre to-run-list)
-  goes-run-list =
-      qed W ((‵ (flft κ q) ⊛ (‵ (flft κ′ q′) ⊛ ‵ ftrue)) ∷ Passes ∷ Buffer ∷ []) ∵ nothing ! $ move ! (3 ∷ 0 ∷ []) $ fjoin ! $ move ! (2 ∷ 0 ∷ []) $ fjoin ! $
-      owned ! D.the-row (Is D.the-row) ((EL.makes D.the-type D′.the-plain) 𝓤 H A) dir _ dv-is $ fjoin ! $ move ! (1 ∷ 0 ∷ []) $ join ! $ frame ! $ done !
-
   exits : (zs : List DecorrPass) (cs : List ℤ) (r : Outcome) (w : Val) → length zs ≡ length P → length cs ≡ length B → Is S.the-row r (w ∷ [])
       → _≡_ {A = Answer} (record { refusal = outcomeNumber r; passes = zs; buffer = cs }) (listed dir P B)
       → ent 𝓤 (⋆ 𝓤 H A (‵ (finally R.the-row γ zs) ∷ ‵ (finally i32 γ′ cs) ∷ ‵ (flft κ q) ∷ ‵ (flft κ′ q′) ∷ [])) (Ends w)
@@ -129,8 +120,8 @@ module _ {M : Type 1} (𝓤 : URA M) (H : Heap 𝓤) (A : Atoms 𝓤) (W : Given
       nothing ! $ move ! (2 ∷ 0 ∷ []) $ fjoin ! $ move ! (1 ∷ 0 ∷ []) $ fjoin ! $ owned ! D.the-row (Is D.the-row) ((EL.makes D.the-type D′.the-plain) 𝓤 H A) dir _ dv-is $ fjoin ! $ frame ! $
       owned ! S.the-row (Is S.the-row) ((EL.makes S.the-type S′.the-plain) 𝓤 H A) r _ is $ done !
 
-  module _ (𝓣 : Tables 𝓤 H) (known-valid : Triple 𝓤 (𝓣 .C #decorrelation·all-valid) (AllValid 𝓤 H A mem run)) (known-outcome : Triple 𝓤 (𝓣 .C #decorrelation·list-outcome) (ListOutcome 𝓤 H A mem run))
-      (known-accepted : Triple 𝓤 (𝓣 .C #decorrelation·is-accepted) (IsAccepted 𝓤 H A mem run)) (known-list : Triple 𝓤 (𝓣 .C #decorrelation·run-list) (RunList 𝓤 H A mem run)) (gn : Room R.the-row (length P)) (gm : Room i32 (length B)) where
+  module _ (𝓣 : Tables 𝓤 H) (known-valid : Triple 𝓤 (𝓣 .C #list_tests·all-valid) (AllValid 𝓤 H A mem run)) (known-outcome : Triple 𝓤 (𝓣 .C #list_tests·list-outcome) (ListOutcome 𝓤 H A mem run))
+      (known-accepted : Triple 𝓤 (𝓣 .C #list_tests·is-accepted) (IsAccepted 𝓤 H A mem run)) (known-list : Triple 𝓤 (𝓣 .C #list_runs·run-list) (RunList 𝓤 H A mem run)) (gn : Room R.the-row (length P)) (gm : Room i32 (length B)) where
     module _ (l₀ l₁ l₂ l₃ l₄ l₅ l₆ l₇ l₈ l₉ l₁₀ l₁₁ l₁₂ l₁₃ l₁₄ l₁₅ : ℕ) where
       abbrev E : Env 𝓤 H
       E = (S′.mir, l₀) ∷ (wayTy, l₁) ∷ (passesTy, l₂) ∷ (bufferTy, l₃) ∷ (tyBool, l₄) ∷ (S′.mir, l₅) ∷ (tyRef erased imm passPtr, l₆) ∷ (sliceTy (tyRef erased imm passPtr), l₇) ∷ (word, l₈) ∷ (word, l₉) ∷ (tyBool, l₁₀) ∷ (tyUnit, l₁₁) ∷ (lentPasses erased, l₁₂) ∷ (sliceTy (lentPasses erased), l₁₃) ∷ (lentNumbers erased, l₁₄) ∷ (sliceTy (lentNumbers erased), l₁₅) ∷ []
@@ -181,19 +172,13 @@ module _ {M : Type 1} (𝓤 : URA M) (H : Heap 𝓤) (A : Atoms 𝓤) (W : Given
         assigns ! (addr ! (from ! (fld ! refl (hop ! (look-in ! 28 (sub ! 0 refl (whole !))) (stop !))))) (from ! (stop !)) (init ! 6 refl (tt, tt)) $
         assigns ! (agg ! (and-then ! (load ! (from ! (stop !)) (look ! 6 refl)) (and-then ! (load ! (from ! (fld ! refl (stop !))) (look-in ! 28 (sub ! 1 refl (whole !)))) (no-more !)))) (from ! (stop !)) (init ! 4 refl (tt, (tt, (record { fits = gm .0 }, tt)))) $
         -- `run_list`, to which both slices go for good
-        nothing ! $ move ! (4 ∷ 0 ∷ []) $ join ! $ move ! (2 ∷ 0 ∷ []) $ join ! $ use3 W (raw (RunList 𝓤 H A mem run .pre to-run-list)) goes-run-list $
-        calls-at-last ! (fmOf 𝓤 H (W .laws) 𝓣) (RunList 𝓤 H A mem run) known-list to-run-list (and-then ! (load ! (from ! (stop !)) (look ! 29 refl)) (and-then ! (load ! (from ! (stop !)) (look ! 5 refl)) (and-then ! (load ! (from ! (stop !)) (look ! 1 refl)) (no-more !)))) (λ u.
-        use1 W (later (some (λ (x : Unit {0}). ((‵ (flft κ q) ⊛ (‵ (flft κ′ q′) ⊛ ‵ ftrue)) ⊛ ‵ (unit .own x (u ∷ []))) ⊛ raw (ensured 𝓤 H A run-list.ended (run-list.clauses 𝓤 H A mem run) (κ, (κ′, tt)) a tt x)))) (id⊢ 𝓤 _) $ await ! tt $ pick ! (λ x.
-        split ! $ move ! (1 ∷ []) $ use1 W (some (λ (zs : Unit {0} × (List DecorrPass × (List ℤ × Unit {0}))). ‵ (lasts run-list.ended (κ, (κ′, tt)) a zs) ⊛ raw (fact 𝓤 (_≡_ {A = Chain} (record { passes = zs .1 .0; buffer = zs .1 .1 .0 }) (chained dir P B))))) (id⊢ 𝓤 _) $ pick ! (λ zs.
-        split ! $ move ! (1 ∷ []) $ heard ! (_≡_ {A = Chain} (record { passes = zs .1 .0; buffer = zs .1 .1 .0 }) (chained dir P B)) (λ c. fsplit ! $ drop ! $ fsplit ! $ fsplit ! $ move ! (1 ∷ []) $ feqL ! (λ long. move ! (1 ∷ []) $ fsplit ! $ fsplit ! $ move ! (1 ∷ []) $ feqL ! (λ wide.
-        -- [the buffer's last list; true; the passes' last list; the tokens and the result; _15; …]
-        move ! (3 ∷ []) $ split ! $ move ! (1 ∷ []) $ peeks ! unit (Is unit) (shows 𝓤 H A unit) x (u ∷ []) (λ is-unit. drop ! $ split ! $ move ! (1 ∷ []) $ split ! $
-        -- [the buffer's token; true; the list's token; the buffer's last list; true; the passes'
-        -- last list; _15; …]
-        move ! (1 ∷ 4 ∷ []) $ drop ! $ drop ! $ move ! (3 ∷ 2 ∷ 1 ∷ 0 ∷ []) $
+        nothing ! $ move ! (4 ∷ 0 ∷ []) $ join ! $ move ! (2 ∷ 0 ∷ []) $ join ! $
+        calls-run-list 𝓤 H A W mem run κ κ′ q q′ b o γ dir dv dv-is P (length P) b′ o′ γ′ B (fmOf 𝓤 H (W .laws) 𝓣) known-list
+        (and-then ! (load ! (from ! (stop !)) (look ! 29 refl)) (and-then ! (load ! (from ! (stop !)) (look ! 5 refl)) (and-then ! (load ! (from ! (stop !)) (look ! 1 refl)) (no-more !))))
+        (λ u x zs cs is-unit long wide c.
         land-last ! (from ! (stop !)) (init ! 12 refl (nothing-lawful 𝓤 H A W .typed x _ is-unit .0)) $ exec ! (𝓣 .C) (𝓣 .Λ) (E l₀ l₁ l₂ l₃ l₄ l₅ l₆ l₇ l₈ l₉ l₁₀ l₁₁ l₁₂ l₁₃ l₁₄ l₁₅) body.t-9 (atRet (E l₀ l₁ l₂ l₃ l₄ l₅ l₆ l₇ l₈ l₉ l₁₀ l₁₁ l₁₂ l₁₃ l₁₄ l₁₅) Ends) $
         forget ! 4 refl $ forget ! 6 refl $ forget ! 8 refl $ forget ! 10 refl $ forget ! 12 refl $ forget ! 14 refl $ forget ! 16 refl $ forget ! 18 refl $ forget ! 20 refl $ forget ! 22 refl $ forget ! 26 refl $ forget ! 28 refl $ forget ! 30 refl $ forget ! 32 refl $
-        leaves l₀ l₁ l₂ l₃ l₄ l₅ l₆ l₇ l₈ l₉ l₁₀ l₁₁ l₁₂ l₁₃ l₁₄ l₁₅ (zs .1 .0) (zs .1 .1 .0) r w long wide is (answer-accepted dir P B r (zs .1 .0) (zs .1 .1 .0) e (is-true (acceptedBy r) held) c)))))))))
+        leaves l₀ l₁ l₂ l₃ l₄ l₅ l₆ l₇ l₈ l₉ l₁₀ l₁₁ l₁₂ l₁₃ l₁₄ l₁₅ zs cs r w long wide is (answer-accepted dir P B r zs cs e (is-true (acceptedBy r) held) c)))
         (λ failed.
         skips ! $ exec ! (𝓣 .C) (𝓣 .Λ) (E l₀ l₁ l₂ l₃ l₄ l₅ l₆ l₇ l₈ l₉ l₁₀ l₁₁ l₁₂ l₁₃ l₁₄ l₁₅) body.t-9 (atRet (E l₀ l₁ l₂ l₃ l₄ l₅ l₆ l₇ l₈ l₉ l₁₀ l₁₁ l₁₂ l₁₃ l₁₄ l₁₅) Ends) $
         use1 W (‵ (finally R.the-row γ P)) (gives-up R.the-row κ κ q γ b o 𝓤 H A W (named 0) (named 0) P) $ move ! (2 ∷ []) $ use1 W (‵ (finally i32 γ′ B)) (gives-up i32 κ′ κ′ q′ γ′ b′ o′ 𝓤 H A W (named 1) (named 1) B) $ move ! (1 ∷ 0 ∷ []) $
@@ -201,8 +186,8 @@ module _ {M : Type 1} (𝓤 : URA M) (H : Heap 𝓤) (A : Atoms 𝓤) (W : Given
         leaves l₀ l₁ l₂ l₃ l₄ l₅ l₆ l₇ l₈ l₉ l₁₀ l₁₁ l₁₂ l₁₃ l₁₄ l₁₅ P B r w refl refl is (answer-refused dir P B r e (is-false (acceptedBy r) failed))))))))))))))))))))))
 
 module _ {M : Type 1} (𝓤 : URA M) (H : Heap 𝓤) (A : Atoms 𝓤) (W : Given 𝓤 H A) (mem : Memory → SProp 𝓤) (run : Routine → Fun 𝓤) where
-  run-checked-walks : (𝓣 : Tables 𝓤 H) → Triple 𝓤 (𝓣 .C #decorrelation·all-valid) (AllValid 𝓤 H A mem run) → Triple 𝓤 (𝓣 .C #decorrelation·list-outcome) (ListOutcome 𝓤 H A mem run)
-      → Triple 𝓤 (𝓣 .C #decorrelation·is-accepted) (IsAccepted 𝓤 H A mem run) → Triple 𝓤 (𝓣 .C #decorrelation·run-list) (RunList 𝓤 H A mem run)
+  run-checked-walks : (𝓣 : Tables 𝓤 H) → Triple 𝓤 (𝓣 .C #list_tests·all-valid) (AllValid 𝓤 H A mem run) → Triple 𝓤 (𝓣 .C #list_tests·list-outcome) (ListOutcome 𝓤 H A mem run)
+      → Triple 𝓤 (𝓣 .C #list_tests·is-accepted) (IsAccepted 𝓤 H A mem run) → Triple 𝓤 (𝓣 .C #list_runs·run-list) (RunList 𝓤 H A mem run)
       → Walks 𝓤 H A f.ended stayed (WpFn 𝓤 H (𝓣 .C) (𝓣 .Λ) code.function) (f.clauses 𝓤 H A mem run)
   run-checked-walks 𝓣 known-valid known-outcome known-accepted known-list = walked 𝓤 H A f.ended stayed (f.clauses 𝓤 H A mem run) (WpFn 𝓤 H (𝓣 .C) (𝓣 .Λ) code.function)
       (λ κs. (ways, (slice-vals, (slice-vals, tt)))) (λ κs. (way-tells, (mut-slice-tells (named 0) (κs .0) R.the-row, (mut-slice-tells (named 1) (κs .1 .0) i32, tt))))
@@ -213,8 +198,8 @@ module _ {M : Type 1} (𝓤 : URA M) (H : Heap 𝓤) (A : Atoms 𝓤) (W : Given
   goes = (goes-none 𝓤 H A W 2 (λ _. D.the-row) yes (λ κs x f. refl), (goes-gave-slice 𝓤 H A W 2 0 tt (plain (λ _. R.the-row)), (goes-gave-slice 𝓤 H A W 2 1 tt (plain (λ _. i32)), tt)))
 
 run-checked-meets : {M : Type 1} (𝓤 : URA M) (H : Heap 𝓤) (A : Atoms 𝓤) → Given 𝓤 H A → (mem : Memory → SProp 𝓤) (run : Routine → Fun 𝓤) (𝓣 : Tables 𝓤 H)
-    → Triple 𝓤 (𝓣 .C #decorrelation·all-valid) (AllValid 𝓤 H A mem run) → Triple 𝓤 (𝓣 .C #decorrelation·list-outcome) (ListOutcome 𝓤 H A mem run)
-    → Triple 𝓤 (𝓣 .C #decorrelation·is-accepted) (IsAccepted 𝓤 H A mem run) → Triple 𝓤 (𝓣 .C #decorrelation·run-list) (RunList 𝓤 H A mem run)
+    → Triple 𝓤 (𝓣 .C #list_tests·all-valid) (AllValid 𝓤 H A mem run) → Triple 𝓤 (𝓣 .C #list_tests·list-outcome) (ListOutcome 𝓤 H A mem run)
+    → Triple 𝓤 (𝓣 .C #list_tests·is-accepted) (IsAccepted 𝓤 H A mem run) → Triple 𝓤 (𝓣 .C #list_runs·run-list) (RunList 𝓤 H A mem run)
     → Meets 𝓤 H A f.signature (WpFn 𝓤 H (𝓣 .C) (𝓣 .Λ) code.function) (f.spec 𝓤 H A mem run)
 run-checked-meets 𝓤 H A W mem run 𝓣 known-valid known-outcome known-accepted known-list =
     walk-meets 𝓤 H A f.ended stayed W (goes 𝓤 H A W mem run) (f.clauses 𝓤 H A mem run) (WpFn 𝓤 H (𝓣 .C) (𝓣 .Λ) code.function) (WpFn-mono 𝓤 H (W .laws) 𝓣 code.function) (run-checked-walks 𝓤 H A W mem run 𝓣 known-valid known-outcome known-accepted known-list)
@@ -225,7 +210,7 @@ run-checked-spec 𝓤 H 𝓜 𝓖 𝓡 =
     entered 𝓤 H (tripleOf 𝓤 H (𝓖 .A) f.signature (f.spec 𝓤 H (𝓖 .A) (𝓜 .mem) (𝓡 .run)))
     (tables 𝓤 H 𝓜 𝓡 code.env .C) (tables 𝓤 H 𝓜 𝓡 code.env .Λ) #decorrelation·run-checked code.function (code.unfolded 𝓤 H 𝓜 𝓡)
     (run-checked-meets 𝓤 H (𝓖 .A) (givenOf 𝓤 H 𝓜 𝓖) (𝓜 .mem) (𝓡 .run) (tablesOf 𝓤 H 𝓜 (tables 𝓤 H 𝓜 𝓡 code.env))
-    (cited 𝓤 H (AllValid 𝓤 H (𝓖 .A) (𝓜 .mem) (𝓡 .run)) 𝓜 𝓡 code.env #decorrelation·all-valid all-valid-def.routine code.calls-decorrelation·lists·all-valid (all-valid-thm.met 𝓤 H 𝓜 𝓖 𝓡))
-    (cited 𝓤 H (ListOutcome 𝓤 H (𝓖 .A) (𝓜 .mem) (𝓡 .run)) 𝓜 𝓡 code.env #decorrelation·list-outcome list-outcome-def.routine code.calls-decorrelation·lists·list-outcome (list-outcome-thm.met 𝓤 H 𝓜 𝓖 𝓡))
-    (cited 𝓤 H (IsAccepted 𝓤 H (𝓖 .A) (𝓜 .mem) (𝓡 .run)) 𝓜 𝓡 code.env #decorrelation·is-accepted is-accepted-def.routine code.calls-decorrelation·lists·is-accepted (is-accepted-thm.met 𝓤 H 𝓜 𝓖 𝓡))
-    (cited 𝓤 H (RunList 𝓤 H (𝓖 .A) (𝓜 .mem) (𝓡 .run)) 𝓜 𝓡 code.env #decorrelation·run-list run-list-def.routine code.calls-decorrelation·lists·run-list (run-list-thm.met 𝓤 H 𝓜 𝓖 𝓡)))
+    (cited 𝓤 H (AllValid 𝓤 H (𝓖 .A) (𝓜 .mem) (𝓡 .run)) 𝓜 𝓡 code.env #list_tests·all-valid all-valid-def.routine code.calls-list-tests·all-valid (all-valid-thm.met 𝓤 H 𝓜 𝓖 𝓡))
+    (cited 𝓤 H (ListOutcome 𝓤 H (𝓖 .A) (𝓜 .mem) (𝓡 .run)) 𝓜 𝓡 code.env #list_tests·list-outcome list-outcome-def.routine code.calls-list-tests·list-outcome (list-outcome-thm.met 𝓤 H 𝓜 𝓖 𝓡))
+    (cited 𝓤 H (IsAccepted 𝓤 H (𝓖 .A) (𝓜 .mem) (𝓡 .run)) 𝓜 𝓡 code.env #list_tests·is-accepted is-accepted-def.routine code.calls-list-tests·is-accepted (is-accepted-thm.met 𝓤 H 𝓜 𝓖 𝓡))
+    (cited 𝓤 H (RunList 𝓤 H (𝓖 .A) (𝓜 .mem) (𝓡 .run)) 𝓜 𝓡 code.env #list_runs·run-list run-list-def.routine code.calls-list-runs·run-list (run-list-thm.met 𝓤 H 𝓜 𝓖 𝓡)))

@@ -1,7 +1,7 @@
--- `lists::place` meets its contract: by the direction. Assumes nothing.
+-- `place` meets its contract: by the direction. Assumes nothing.
 use borrow.Author.Needs.{needs}
-use Rattle.decorrelation.proofs.lists.place.Statement.{statement}
-use Rattle.decorrelation.proofs.lists.place.Tie as tie
+use Rattle.list_runs.proofs.place.Statement.{statement}
+use Rattle.list_runs.proofs.place.Tie as tie
 
 returns-2 : tie.Need-returns-2
 returns-2 c = rw (c .enum-told2 .given .1)

@@ -1,4 +1,4 @@
--- `decorrelation::arrays::array_valid` meets its contract. The loop finds the first terms valid.
+-- `array_valid` meets its contract. The loop finds the first terms valid.
 -- Assumes nothing.
 use mathlib.Core.Path.{_≡_, refl}
 use Prim.Native.Nat.{_≤_, _-_}
@@ -6,10 +6,11 @@ use native.Mathlib.Omega.{arith}
 use borrow.Author.Needs.{needs}
 use lib.ListN.{length, take, drop}
 use Rattle.passes.proofs.MakingLaws.{not-false, not-true}
-use Rattle.decorrelation.specs.Lists.{allValid}
-use Rattle.decorrelation.proofs.Turns.{none, array-bad, array-step, array-end}
-use Rattle.decorrelation.proofs.arrays.array_valid.Statement.{statement}
-use Rattle.decorrelation.proofs.arrays.array_valid.Tie as tie
+use Rattle.list_tests.specs.Tests.{allValid}
+use Rattle.passes.proofs.Locals.{none}
+use Rattle.list_tests.proofs.Sound.{array-bad, array-step, array-end}
+use Rattle.list_tests.proofs.array_valid.Statement.{statement}
+use Rattle.list_tests.proofs.array_valid.Tie as tie
 
 abbrev Inv-loop : tie.InvT-loop
 Inv-loop count passes i₀ i = (i ≤ count) × (allValid (drop i (take count passes)) ≡ allValid (take count passes))

@@ -1,9 +1,9 @@
--- `decorrelation::lists::valid_pass` meets its contract. Assumes nothing.
+-- `valid_pass` meets its contract. Assumes nothing.
 use borrow.Author.Needs.{needs}
 use mir.Syntax.{w8}
 use mir.ValLaws.{toZ-ofZ}
-use Rattle.decorrelation.proofs.lists.valid_pass.Statement.{statement}
-use Rattle.decorrelation.proofs.lists.valid_pass.Tie as tie
+use Rattle.list_tests.proofs.valid_pass.Statement.{statement}
+use Rattle.list_tests.proofs.valid_pass.Tie as tie
 
 returns : tie.Need-returns
 returns c =

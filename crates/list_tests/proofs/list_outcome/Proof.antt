@@ -1,8 +1,8 @@
--- `lists::list_outcome` meets its contract: each way out by the tests before it. Assumes nothing.
+-- `list_outcome` meets its contract: each way out by the tests before it. Assumes nothing.
 use borrow.Author.Tests.{lt-ltb, le-ltb}
-use Rattle.decorrelation.specs.Lists.{listNumber}
-use Rattle.decorrelation.proofs.lists.list_outcome.Statement.{statement}
-use Rattle.decorrelation.proofs.lists.list_outcome.Tie as tie
+use Rattle.list_tests.specs.Tests.{listNumber}
+use Rattle.list_tests.proofs.list_outcome.Statement.{statement}
+use Rattle.list_tests.proofs.list_outcome.Tie as tie
 
 returns : tie.Need-returns
 unfolding listNumber

@@ -1,8 +1,9 @@
--- The locals of the walks: a direction's machine value, and the types that the code spells. Assumes
--- nothing.
+-- The locals of the walks over passes: the machine values of a pass and of a direction, and the types
+-- that the code spells. Assumes nothing.
 use mathlib.Core.Path.{_≡_, refl}
 use mathlib.Core.List.{List, [], _∷_}
 use Prim.Native.Nat.{ℕ, _^_}
+use lib.IntN.{pos}
 use lib.Dec.{T, ltb, lit<}
 use mir.Syntax.{Ty, Lifetime, named, mut, tyInt, tyRef, tyArray, tyStruct, tyEnum, tnil, tcons, ttnil, ttcons, w8, w32, w64}
 use mir.Val.{Val, WT, hasTy, bits, vint, vstruct, ofList}
@@ -10,11 +11,14 @@ use denote.Laws.{Is, Tells}
 use denote.Memory.{pointee}
 use denote.Slice.{sliceTy}
 use denote.Enum.Laws as EL
+use denote.Struct.Laws as LL
+use Rattle.passes.specs.declared.DecorrPass.{DecorrPass}
 use Rattle.passes.specs.declared.Direction.{Direction}
 use Rattle.passes.specs.declared.Direction.the-variants.{Decorrelation, Analysis}
 use Rattle.passes.proofs.DecorrPass as R
+use Rattle.passes.proofs.DecorrPass.Laws as R′
 use Rattle.passes.proofs.Direction as D
 use Rattle.passes.proofs.Direction.Laws as D′
 
 -- ---- types
 abbrev pub word : Ty
@@ -44,6 +48,15 @@ passesTy = sliceTy (lentPasses (named 0))
 
 abbrev pub bufferTy : Ty
 bufferTy = sliceTy (lentNumbers (named 1))
+
+-- ---- a pass
+-- its machine value
+abbrev pub mach : DecorrPass → Val
+mach p = LL.tuple-val R.the-type R′.the-laws (R.the-type .to p)
+
+-- what stands for a pass where there is none
+abbrev pub none : DecorrPass
+none = record { term = pos 0; delta = pos 0; «weight_a» = pos 0; «weight_b» = pos 0; «history_a» = []; «history_b» = [] }
 
 -- ---- a direction
 -- the machine value: shut, since a walk that sees through it costs the kernel too much

@@ -1,7 +1,6 @@
--- Calls of plain functions in a walk over a list of passes: `valid_pass`, `place` and `run_pass`.
--- Each is a step for any context: what the function is passed is plain data, and for `run_pass` the
--- buffer, which is lent on for the call and comes back. Assumes `Given`, and that the table of
--- calls is monotone under a frame.
+-- Calls in a walk that runs a list of passes: `place` and `run_pass`. Each is a step for any context:
+-- what the function is passed is plain data, and for `run_pass` the buffer, which is lent on for the
+-- call and comes back. Assumes `Given`, and that the table of calls is monotone under a frame.
 use mathlib.Core.Path.{_≡_, refl, sym, _∙_, ap, subst}
 use mathlib.Core.Bool.{Bool}
 use mathlib.Core.List.{List, [], _∷_}
@@ -45,16 +44,11 @@ use Rattle.passes.proofs.Direction as D
 use Rattle.passes.proofs.Direction.Laws as D′
 use Rattle.pass_runs.proofs.run_pass as run-pass
 use Rattle.pass_runs.proofs.run_pass.Symbol.{name as #pass_runs·run-pass}
-use Rattle.decorrelation.specs.Lists.{validPass, placeOf}
-use Rattle.decorrelation.proofs.Lending.{LentMut, lends-mut, mut-back}
-use Rattle.decorrelation.proofs.lists.valid_pass as valid-pass
-use Rattle.decorrelation.proofs.lists.valid_pass.Symbol.{name as #decorrelation·valid-pass}
-use Rattle.decorrelation.proofs.lists.place as place
-use Rattle.decorrelation.proofs.lists.place.Symbol.{name as #decorrelation·place}
-
--- the machine value of a pass
-abbrev pub mach : DecorrPass → Val
-mach h = LL.tuple-val T.the-type T′.the-laws (T.the-type .to h)
+use Rattle.lending.proofs.Lending.{LentMut, lends-mut, mut-back}
+use Rattle.passes.proofs.Locals.{mach}
+use Rattle.list_runs.specs.Chained.{placeOf}
+use Rattle.list_runs.proofs.place as place
+use Rattle.list_runs.proofs.place.Symbol.{name as #list_runs·place}
 
 -- a slice of numbers at (b, o), under a ghost name
 module _ (b o : ℕ) where
@@ -63,35 +57,11 @@ module _ (b o : ℕ) where
 
 module _ {M : Type 1} (𝓤 : URA M) (H : Heap 𝓤) (A : Atoms 𝓤) (mem : Memory → SProp 𝓤) (run : Routine → Fun 𝓤) where
   -- the contracts that the walks cite
-  abbrev pub ValidPass : Contract 𝓤
-  ValidPass = tripleOf 𝓤 H A valid-pass.signature (valid-pass.spec 𝓤 H A mem run)
-
   abbrev pub PlaceOf : Contract 𝓤
   PlaceOf = tripleOf 𝓤 H A place.signature (place.spec 𝓤 H A mem run)
 
   abbrev pub RunPass : Contract 𝓤
   RunPass = tripleOf 𝓤 H A run-pass.signature (run-pass.spec 𝓤 H A mem run)
-
-module _ {M : Type 1} (𝓤 : URA M) (H : Heap 𝓤) (A : Atoms 𝓤) (W : Given 𝓤 H A) (mem : Memory → SProp 𝓤) (run : Routine → Fun 𝓤) (p : DecorrPass) where
-  abbrev to-valid-pass : ValidPass 𝓤 H A mem run .Ghost
-  to-valid-pass = ((tt, tt, tt, (p, tt), (mach p ∷ [], tt)), tt)
-
-  goes-valid-pass : Is T.the-row p (mach p ∷ []) → ent 𝓤 (emp 𝓤) (ValidPass 𝓤 H A mem run .pre to-valid-pass)
-  goes-valid-pass g = qed W [] ∵ nothing ! $ owned ! T.the-row (Is T.the-row) ((LL.makes T.the-type T′.the-plain) 𝓤 H A) p _ g $ fjoin ! $ nothing ! $ join ! $ frame ! $ done !
-
-  -- `valid_pass`: whether a pass's term is valid lands
-  pub calls-valid-pass : {Γ : List (Item 𝓤)} {E : Env 𝓤 H} {C : Calls 𝓤 H} {Λ : Loops 𝓤 H} {Q : Post 𝓤 H} {xs : List Operand} {d : Place} {rest : Body}
-      → FmC 𝓤 H (W .laws) C → Triple 𝓤 (C #decorrelation·valid-pass) (ValidPass 𝓤 H A mem run) → Is T.the-row p (mach p ∷ [])
-      → Opds (Go {0}) W (raw (ValidPass 𝓤 H A mem run .pre to-valid-pass) ∷ Γ) E xs (mach p ∷ [])
-      → Seq (Go {0}) W Γ (lands C Λ E d (vbool (validPass p)) rest Q)
-      → Seq (Go {0}) W Γ (runs C Λ E (seq (call #decorrelation·valid-pass xs d) rest) Q)
-  calls-valid-pass {Γ} {E} {C} {Λ} {Q} {xs} {d} {rest} fm known g ops k =
-      use0 W (raw (ValidPass 𝓤 H A mem run .pre to-valid-pass)) (goes-valid-pass g) $
-      calls-at ! fm (ValidPass 𝓤 H A mem run) known to-valid-pass ops (λ w.
-      use1 W (later (some (λ (r : Bool). (‵ ftrue ⊛ ‵ (bool .own r (w ∷ []))) ⊛ raw (ensured 𝓤 H A valid-pass.ended (valid-pass.clauses 𝓤 H A mem run) tt (p, tt) tt r)))) (id⊢ 𝓤 _) $ await ! tt $ pick ! (λ r.
-      split ! $ move ! (1 ∷ []) $ use1 W (some (λ (zs : Unit {0} × Unit {0}). ‵ (lasts valid-pass.ended tt (p, tt) zs) ⊛ raw (fact 𝓤 (r ≡ validPass p)))) (id⊢ 𝓤 _) $ pick ! (λ zs.
-      split ! $ move ! (1 ∷ []) $ heard ! (r ≡ validPass p) (λ e. drop ! $ split ! $ drop ! $ peeks ! bool (Is bool) (shows 𝓤 H A bool) r (w ∷ []) (λ is. drop ! $
-      subst (λ (u : Val). Seq (Go {0}) W Γ (lands C Λ E d u rest Q)) (sym (ap only (bool-tells r _ is) ∙ ap vbool e)) k)))))
 
 module _ {M : Type 1} (𝓤 : URA M) (H : Heap 𝓤) (A : Atoms 𝓤) (W : Given 𝓤 H A) (mem : Memory → SProp 𝓤) (run : Routine → Fun 𝓤) (dir : Direction) (dv : Val) (dv-is : Is D.the-row dir (dv ∷ [])) (n i : ℕ) where
   abbrev to-place : PlaceOf 𝓤 H A mem run .Ghost
@@ -104,10 +74,10 @@ module _ {M : Type 1} (𝓤 : URA M) (H : Heap 𝓤) (A : Atoms 𝓤) (W : Given
 
   -- `place`: the place of a turn lands
   pub calls-place : {Γ : List (Item 𝓤)} {E : Env 𝓤 H} {C : Calls 𝓤 H} {Λ : Loops 𝓤 H} {Q : Post 𝓤 H} {xs : List Operand} {d : Place} {rest : Body}
-      → FmC 𝓤 H (W .laws) C → Triple 𝓤 (C #decorrelation·place) (PlaceOf 𝓤 H A mem run) → i < n → n < 2 ^ 64 → i < 2 ^ 64
+      → FmC 𝓤 H (W .laws) C → Triple 𝓤 (C #list_runs·place) (PlaceOf 𝓤 H A mem run) → i < n → n < 2 ^ 64 → i < 2 ^ 64
       → Opds (Go {0}) W (raw (PlaceOf 𝓤 H A mem run .pre to-place) ∷ Γ) E xs (dv ∷ vint w64 n ∷ vint w64 i ∷ [])
       → Seq (Go {0}) W Γ (lands C Λ E d (vint w64 (placeOf dir n i)) rest Q)
-      → Seq (Go {0}) W Γ (runs C Λ E (seq (call #decorrelation·place xs d) rest) Q)
+      → Seq (Go {0}) W Γ (runs C Λ E (seq (call #list_runs·place xs d) rest) Q)
   calls-place {Γ} {E} {C} {Λ} {Q} {xs} {d} {rest} fm known small fn fi ops k =
       use0 W (raw (PlaceOf 𝓤 H A mem run .pre to-place)) (goes-place small fn fi) $
       calls-at ! fm (PlaceOf 𝓤 H A mem run) known to-place ops (λ w.

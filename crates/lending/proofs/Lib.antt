@@ -1,0 +1,3 @@
+-- What the walks of other crates cite.
+pub mod Lending
+pub mod Front

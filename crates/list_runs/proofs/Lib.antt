@@ -1,0 +1,3 @@
+-- What the proofs of the functions and other crates cite.
+pub mod Turns
+pub mod TurnCalls
