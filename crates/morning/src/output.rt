@@ -5,10 +5,13 @@ pub fn print(text: &[u8]) {
     io::write_all(STDOUT_FILENO, text);
 }
 
-// The wording of a refusal that a recording can meet, as include/refusals.txt has it.
+// The wording of a refusal that a recording can meet: of 1 its own, since 12 entropy bytes are always cut
+// off, of any other as include/refusals.txt has it.
 fn print_reason(number: u32) {
     match number {
-        1 => print(b"the entropy payload is neither 6 nor 12 bytes long"),
+        1 => print(
+            b"the input is shorter than 16 bytes: 12 entropy bytes and a 4-byte frame count",
+        ),
         2 => print(b"the entropy payload is mono (6 bytes) or holds a negative median"),
         3 => print(b"a bit past the end is needed, or a count or a prefix value is over its cap"),
         4 => print(b"end of stream: the second count of a prefix is 33"),

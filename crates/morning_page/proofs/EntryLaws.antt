@@ -2,10 +2,11 @@
 -- Assumes nothing.
 use mathlib.Core.Path.{_≡_, refl, sym, ap, _∙_}
 use mathlib.Core.List.{List}
-use Prim.Native.Nat.{ℕ, zero, suc}
+use Prim.Native.Nat.{ℕ, zero, suc, _≤_}
 use native.Mathlib.Nat.{zero-add}
+use native.Mathlib.Omega.{arith}
 use lib.IntN.{ℤ}
-use lib.ListN.{length}
+use lib.ListN.{length, drop, length-append}
 use Rattle.answers.specs.declared.Outcome.{Outcome}
 use Rattle.answers.specs.declared.Refusal.{Refusal}
 use Rattle.answers.specs.Guard.{unlessRefused}
@@ -13,8 +14,10 @@ use Rattle.answers.specs.Numbers.{outcomeNumber}
 use Rattle.answers.proofs.GuardLaws.{guard-refused, guard-accepted}
 use Rattle.answers.proofs.NumberLaws.{number-positive}
 use Rattle.decimal.specs.TextPut.{TextPut}
-use Rattle.morning_page.specs.Entry.{pageRefusal, refusePage, tellPage, pageEntry}
-use Rattle.morning_page.specs.Page.{page}
+use Rattle.overlay.proofs.OverlayLaws.{overlay-first}
+use Rattle.page_lines.specs.Page.{page}
+use Rattle.morning_page.specs.Entry.{PageTold, viewPage, pageRefusal, refusePage, tellPage, pageEntry}
+use Rattle.morning_page.specs.declared.PageAnswer.{PageAnswer}
 
 module _ (t : ℕ) (samples : List ℤ) (storage : List ℕ) where
   -- a refusal leaves the storage
@@ -43,3 +46,24 @@ module _ (t : ℕ) (samples : List ℤ) (storage : List ℕ) where
   pub page-put : (after : List ℕ) (w : ℕ) → pageRefusal (length samples) (length storage) ≡ 0 → TextPut storage after 0 w (page t samples)
       → record { refusal = 0; written = w; bytes = after } ≡ pageEntry t samples storage
   page-put after w e p = rw (p .bytes, p .place ∙ zero-add (length (page t samples))) (sym (page-told e))
+
+-- ---- what is written lies within the storage
+
+abbrev pub Within : PageTold → Type 0
+Within told = told .written ≤ length (told .bytes)
+
+-- of every call, so that a caller can print the bytes that were written
+pub page-within : (t : ℕ) (samples : List ℤ) (storage : List ℕ) → Within (pageEntry t samples storage)
+unfolding pageEntry
+page-within t samples storage = go (pageRefusal (length samples) (length storage))
+  where
+    text : List ℕ
+    text = page t samples
+
+    go : (n : ℕ) → Within (unlessRefused n (refusePage storage) (tellPage storage text))
+    go zero = rw (overlay-first storage text) (omega (arith, length-append text (drop (length text) storage)))
+    go (suc n) = omega arith
+
+-- and so of the struct that a call answers
+pub answer-within : (r : PageAnswer) (after : List ℕ) (told : PageTold) → viewPage r after ≡ told → Within told → r .written ≤ length after
+answer-within r after told e w = rw (← e) at w

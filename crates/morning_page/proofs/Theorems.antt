@@ -13,14 +13,16 @@ use Rattle.answers.proofs.ListLaws.{frames-none}
 use Rattle.overlay.proofs.OverlayLaws.{overlay-none, overlay-take}
 use Rattle.decimal.specs.Column.{column, readColumn}
 use Rattle.decimal.proofs.ColumnLaws.{column-back}
-use Rattle.morning_page.specs.Entry.{lineBytes, tellPage, pageEntry}
+use Rattle.page_block.specs.Sound.{lefts, rights, lastDistance}
+use Rattle.page_block.proofs.SoundLaws.{lefts-append, rights-append, lefts-none, rights-none, lefts-few, rights-few}
+use Rattle.page_block.proofs.SoundLaws.{left-peak-small, right-peak-small, clicks-few}
+use Rattle.page_lines.specs.Page.{lineBytes, lineCount, covered, earlier, linePeak, lineClicks, row, line, lines, page}
+use Rattle.page_lines.proofs.CountLaws.{lines-few}
+use Rattle.page_lines.proofs.LineLaws.{Narrow, Widths, narrow-wide, row-widths, row-length}
+use Rattle.morning_page.specs.Entry.{tellPage, pageEntry}
 use Rattle.morning_page.specs.Morning.{Recording, sumOf, ClicksSummed, LinesOf45, lineAt, LinesStand, numberIn, ColumnsHold, pageLeft, ReadBack, PageReadBack, EmptyPage}
-use Rattle.morning_page.specs.Page.{lineCount, covered, ahead, linePeak, lineClicks, row, line, lines, page}
-use Rattle.morning_page.specs.Sound.{lefts, rights, lastDistance}
-use Rattle.morning_page.proofs.CountLaws.{lines-few, sum-all}
 use Rattle.morning_page.proofs.EntryLaws.{page-number, page-told}
-use Rattle.morning_page.proofs.LineLaws.{Narrow, Widths, narrow-wide, row-widths, row-length}
-use Rattle.morning_page.proofs.SoundLaws.{lefts-append, rights-append, lefts-none, rights-none, left-peak-small, right-peak-small, clicks-few, lefts-few, rights-few}
+use Rattle.morning_page.proofs.SumLaws.{sum-all}
 
 -- ---- clicks, summed over the lines
 
@@ -41,8 +43,8 @@ line-narrow t samples r k h =
       number = omega (arith, lines-few (length samples) (r .few));
       left-peak = omega (arith, left-peak-small 2048 rest small);
       right-peak = omega (arith, right-peak-small 2048 rest small);
-      left-clicks = omega (arith, clicks-few t (lastDistance 0 (lefts (ahead k samples))) (lefts part), lefts-few part);
-      right-clicks = omega (arith, clicks-few t (lastDistance 0 (rights (ahead k samples))) (rights part), rights-few part);
+      left-clicks = omega (arith, clicks-few t (lastDistance 0 (lefts (earlier k samples))) (lefts part), lefts-few part);
+      right-clicks = omega (arith, clicks-few t (lastDistance 0 (rights (earlier k samples))) (rights part), rights-few part);
     }
 
 -- so they have their widths
@@ -63,7 +65,7 @@ lines-length t samples r zero h = refl
 lines-length t samples r (suc k) h =
     omega (arith, length-append (lines t samples k) (line t samples k), lines-length t samples r k (omega arith), lines-of-45 t samples r k (omega arith))
 
--- line k stands behind the k before it
+-- line k stands after the k before it
 line-stands : (t : ℕ) (samples : List ℤ) → Recording samples → (n k : ℕ) → n ≤ lineCount (length samples) → k < n → lineAt k (lines t samples n) ≡ line t samples k
 unfolding lines
 line-stands t samples r zero k h l = absurd (omega arith)

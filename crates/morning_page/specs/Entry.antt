@@ -8,12 +8,8 @@ use Rattle.answers.specs.Guard.{unlessRefused}
 use Rattle.answers.specs.Lists.{framesRefusal}
 use Rattle.answers.specs.Numbers.{outcomeNumber}
 use Rattle.overlay.specs.Overlay.{overlay}
-use Rattle.morning_page.specs.Page.{lineCount, page}
+use Rattle.page_lines.specs.Page.{lineBytes, lineCount, page}
 use Rattle.morning_page.specs.declared.PageAnswer.{PageAnswer}
-
--- "45 bytes in all" (Q5.2)
-abbrev pub lineBytes : ℕ
-lineBytes = 45
 
 -- the refusal's number (0: accepted), bytes written; and the bytes of the lent storage
 pub record PageTold : Type 0 where
@@ -33,11 +29,12 @@ pageRefusal elements room = framesRefusal elements (lineBytes * lineCount elemen
 abbrev pub refusePage : List ℕ → ℕ → PageTold
 refusePage storage number = record { refusal = number; written = 0; bytes = storage }
 
--- the page from the first byte on; storage behind it keeps its values
+-- the page from the first byte on; storage after it keeps its values
 abbrev pub tellPage : List ℕ → List ℕ → PageTold
 tellPage storage text = record { refusal = 0; written = length text; bytes = overlay storage 0 text }
 
 -- what the entry answers
 unfoldable pub pageEntry : ℕ → List ℤ → List ℕ → PageTold
 pageEntry threshold samples storage =
-    unlessRefused (pageRefusal (length samples) (length storage)) (refusePage storage) (tellPage storage (page threshold samples))
+    unlessRefused (pageRefusal (length samples) (length storage)) (refusePage storage)
+    (tellPage storage (page threshold samples))

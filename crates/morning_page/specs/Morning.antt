@@ -9,9 +9,9 @@ use lib.ListN.{length, take, drop, getD}
 use lib.Signed.{mag}
 use Rattle.answers.specs.Limits.{maxElements}
 use Rattle.decimal.specs.Column.{readColumn}
-use Rattle.morning_page.specs.Entry.{lineBytes, PageTold, pageEntry}
-use Rattle.morning_page.specs.Page.{lineCount, linePeak, lineClicks, line, page}
-use Rattle.morning_page.specs.Sound.{lefts, rights, clicks}
+use Rattle.page_block.specs.Sound.{lefts, rights, clicks}
+use Rattle.page_lines.specs.Page.{lineBytes, lineCount, linePeak, lineClicks, line, page}
+use Rattle.morning_page.specs.Entry.{PageTold, pageEntry}
 
 -- a recording: whole frames of 32-bit samples, as many as an entry takes
 pub record Recording (samples : List ℤ) : Type 0 where
@@ -41,7 +41,7 @@ LinesOf45 =
 abbrev pub lineAt : ℕ → List ℕ → List ℕ
 lineAt k text = take lineBytes (drop (lineBytes * k) text)
 
--- so the page has 45 bytes a line, and line k stands behind k others
+-- so the page has 45 bytes a line, and line k stands after k others
 abbrev pub LinesStand : Type 0
 LinesStand =
     (threshold : ℕ) (samples : List ℤ) → Recording samples

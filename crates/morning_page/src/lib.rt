@@ -1,19 +1,14 @@
-// Implements document 02 §5: the morning page, which tells of every 1,024 frames of a recording the
-// peaks and the clicks of both stems. `sound` finds them, `lines` lays a line for each block; here the
-// lists are tested.
+// Implements document 02 §5: the morning page, which has for every 1,024 frames of a recording the peaks
+// and the clicks of both stems. `page_block` finds them, `page_lines` lays a line for each block; here
+// the lists are tested.
 ghost use mathlib.Core.Path.{_≡_};
-ghost use Prim.Native.Nat.{_≤_};
-ghost use lib.ListN.{length};
 ghost use Rattle.answers.specs.Numbers.{outcomeNumber};
 ghost use Rattle.morning_page.specs.Entry.{pageRefusal, viewPage, pageEntry};
-use crate::lines::line_count;
-use crate::lines::put_lines;
 use answers::Outcome;
 use answers::Refusal;
 use answers::limits::MAX_ELEMENTS;
-
-mod lines;
-mod sound;
+use page_lines::line_count;
+use page_lines::put_lines;
 
 // Bytes of a line.
 pub const LINE_BYTES: usize = 45;
@@ -43,9 +38,8 @@ pub fn page_refusal(elements: usize, room: usize) -> Outcome
 // Writes the page of samples, left then right, from the first byte of the storage on; answers how
 // many bytes it has. Refuses with 5, 6 and 11; the storage then keeps its bytes.
 pub fn morning_page(samples: &[i32], threshold: u32, page: &mut [u8]) -> PageAnswer
-    ensures told { λ r. ⌜ viewPage r (now (page .exit))
+    ensures { λ r. ⌜ viewPage r (now (page .exit))
         ≡ pageEntry threshold (now (samples .entry)) (now (page .entry)) ⌝ }
-    ensures within { λ r. ⌜ r .written ≤ length (now (page .exit)) ⌝ }
 {
     let outcome = page_refusal(samples.len(), page.len());
     let Outcome::Accepted = outcome else {

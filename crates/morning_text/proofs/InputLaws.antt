@@ -1,10 +1,13 @@
 -- The ways of an input: too short, not read, and read.
 -- Assumes nothing.
 use mathlib.Core.Path.{_≡_, refl, sym, ap, _∙_}
+use mathlib.Core.Bool.{Bool, true, false, cond}
 use mathlib.Core.List.{List}
-use Prim.Native.Nat.{ℕ, _*_, _≤_, _<_}
+use Prim.Native.Nat.{ℕ, zero, suc, _*_, _≤_, _<_}
+use native.Mathlib.Omega.{arith}
 use borrow.Author.Tests.{lt-ltb, le-ltb}
-use lib.IntN.{pos}
+use lib.Dec.{ltb}
+use lib.IntN.{ℤ, pos}
 use lib.ListN.{length, take, drop, replicate}
 use Rattle.answers.specs.declared.Outcome.{Outcome}
 use Rattle.answers.specs.declared.Refusal.{Refusal}
@@ -14,6 +17,7 @@ use Rattle.answers.specs.Numbers.{outcomeNumber}
 use Rattle.answers.proofs.GuardLaws.{guard-refused, guard-accepted}
 use Rattle.answers.proofs.NumberLaws.{number-positive}
 use Rattle.morning_page.specs.Entry.{PageTold, refusePage, pageEntry}
+use Rattle.morning_page.proofs.EntryLaws.{Within, page-within}
 use Rattle.morning_text.specs.Input.{headBytes, frameCount, readingOf, inputEntry}
 use Rattle.samples.specs.View.{ReadTold, refuseReading}
 use Rattle.samples.proofs.EntryLaws.{refused-frames, not-read}
@@ -53,3 +57,19 @@ module _ (t : ℕ) (input storage : List ℕ) where
   pub input-read : (told : ReadTold) → headBytes ≤ length input → told ≡ readingOf input → told .refusal ≡ 0 → pageEntry t (told .list) storage ≡ inputEntry t input storage
   input-read told h e z =
       sym (guard-accepted (told .refusal) (refusePage storage) (pageEntry t (told .list) storage) z) ∙ ap paged e ∙ sym (input-long h)
+
+  -- of every call: what is written lies within the storage
+  pub input-within : Within (inputEntry t input storage)
+  unfolding inputEntry
+  input-within = short (ltb (length input) headBytes)
+    where
+      list : List ℤ
+      list = readingOf input .list
+
+      read : (n : ℕ) → Within (unlessRefused n (refusePage storage) (pageEntry t list storage))
+      read zero = page-within t list storage
+      read (suc n) = omega arith
+
+      short : (b : Bool) → Within (cond b (refusePage storage 1) (paged (readingOf input)))
+      short true = omega arith
+      short false = read (readingOf input .refusal)

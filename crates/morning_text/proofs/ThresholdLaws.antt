@@ -1,7 +1,7 @@
 -- A threshold, read digit by digit, and that every number of 32 bits reads back as itself.
 -- Assumes nothing.
 use mathlib.Core.Path.{_≡_, refl, sym, ap, _∙_}
-use mathlib.Core.Bool.{Bool, true, false, _&&_, and-true, and-false, and-assoc}
+use mathlib.Core.Bool.{Bool, true, false, cond, _&&_, and-true, and-false, and-assoc}
 use mathlib.Core.List.{List, [], _∷_, _++_}
 use Prim.Native.Nat.{ℕ, _+_, _*_, _-_, _/_, _%_, _≤_, _<_}
 use native.Mathlib.Numerals.{add-one}
@@ -10,10 +10,11 @@ use borrow.Author.Tests.{lt-ltb, le-ltb, le-leb, lt-leb, leb-true}
 use lib.Dec.{ltb, leb}
 use lib.ListN.{length, drop, getD, drop-of-length-le}
 use lib.Seq.{drop-cons}
-use Rattle.answers.proofs.TestLaws.{clash, both}
+use Rattle.answers.proofs.TestLaws.{both}
 use Rattle.decimal.specs.Decimal.{decimal, readDigits}
 use Rattle.decimal.proofs.DecimalLaws.{by-tenths, decimal-one, decimal-more, decimal-some, decimal-back}
-use Rattle.morning_text.specs.Threshold.{isDigit, allDigits, isThreshold, ThresholdIs}
+use Rattle.morning_text.specs.declared.threshold.Threshold.{Threshold}
+use Rattle.morning_text.specs.Threshold.{isDigit, allDigits, isThreshold, thresholdIn}
 
 -- ---- one digit
 
@@ -32,24 +33,31 @@ digit-low c e = let b = both (leb 48 c) (leb c 57) e in (leb-true 48 c (b .0), l
 
 -- ---- the digits of a text
 
--- the digits from i on are left, behind those of a number
+-- the digits from i on are left, after those of a number
 pub record Typed (text : List ℕ) (value i : ℕ) : Type 0 where
   pub left : readDigits value (drop i text) ≡ readDigits 0 text
   pub digits : allDigits (drop i text) ≡ allDigits text
   pub small : value < 4294967296
   pub here : i ≤ length text
 
--- digits behind a number never make it smaller
+-- digits after a number never make it smaller
 read-grows : (n : ℕ) (text : List ℕ) → n ≤ readDigits n text
 unfolding readDigits
 read-grows n [] = omega arith
 read-grows n (c ∷ text) = omega (arith, read-grows (10 * n + (c - 48)) text)
 
+-- a text's number, but for the empty one, whose number is 0
+or-empty : (s : List ℕ) → _≡_ {A = Threshold} (record { valid = ltb 0 (length s); value = readDigits 0 s })
+    (record { valid = ltb 0 (length s); value = cond (ltb 0 (length s)) (readDigits 0 s) 0 })
+unfolding readDigits
+or-empty [] = refl
+or-empty (c ∷ s) = rw (lt-ltb 0 (length (c ∷ s)) (omega arith))
+
 module _ (text : List ℕ) where
   pub typed-none : Typed text 0 0
   typed-none = record { left = refl; digits = refl; small = omega arith; here = omega arith }
 
-  -- the byte at i, and those behind it
+  -- the byte at i, and those after it
   text-on : (i : ℕ) → i < length text → drop i text ≡ getD text i 0 ∷ drop (i + 1) text
   text-on i h = drop-cons text i 0 h ∙ ap (λ (n : ℕ). getD text i 0 ∷ drop n text) (sym (add-one i))
 
@@ -65,11 +73,12 @@ module _ (text : List ℕ) where
   }
 
   -- a text that is no threshold
-  none-is : isThreshold text ≡ false → ThresholdIs text (record { valid = false; value = 0 })
-  none-is e = record { valid = sym e; value = λ q. clash q e }
+  none-is : isThreshold text ≡ false → record { valid = false; value = 0 } ≡ thresholdIn text
+  none-is e = rw e
 
   -- a byte that is no digit
-  pub typed-other : (value i : ℕ) → i < length text → Typed text value i → isDigit (getD text i 0) ≡ false → ThresholdIs text (record { valid = false; value = 0 })
+  pub typed-other : (value i : ℕ) → i < length text → Typed text value i → isDigit (getD text i 0) ≡ false
+      → record { valid = false; value = 0 } ≡ thresholdIn text
   unfolding allDigits isThreshold
   typed-other value i h t d =
       let e : allDigits text ≡ false =
@@ -77,7 +86,8 @@ module _ (text : List ℕ) where
       none-is (rw (e, and-false (ltb 0 (length text))))
 
   -- a number that is too large
-  pub typed-large : (value i : ℕ) → i < length text → Typed text value i → 4294967296 ≤ 10 * value + (getD text i 0 - 48) → ThresholdIs text (record { valid = false; value = 0 })
+  pub typed-large : (value i : ℕ) → i < length text → Typed text value i
+      → 4294967296 ≤ 10 * value + (getD text i 0 - 48) → record { valid = false; value = 0 } ≡ thresholdIn text
   unfolding readDigits isThreshold
   typed-large value i h t l =
       let next = 10 * value + (getD text i 0 - 48) in
@@ -85,15 +95,21 @@ module _ (text : List ℕ) where
       let large : 4294967296 ≤ readDigits 0 text = omega (arith, read-grows next (drop (i + 1) text)) in
       none-is (rw (le-ltb (readDigits 0 text) 4294967296 large, and-false (allDigits text), and-false (ltb 0 (length text))))
 
-  -- all bytes are digits, and the number is small
-  pub typed-all : (value i : ℕ) → length text ≤ i → Typed text value i → ThresholdIs text (record { valid = ltb 0 (length text); value = value })
-  unfolding readDigits allDigits isThreshold
+  -- a text of digits and a small number is a threshold, but for the empty one, whose number is 0
+  all-digits : (value : ℕ) → allDigits text ≡ true → value ≡ readDigits 0 text → value < 4294967296
+      → record { valid = ltb 0 (length text); value = value } ≡ thresholdIn text
+  unfolding isThreshold
+  all-digits value d e h =
+      let small : readDigits 0 text < 4294967296 = omega arith in
+      rw (d, lt-ltb (readDigits 0 text) 4294967296 small, and-true (ltb 0 (length text)), e) (or-empty text)
+
+  -- all bytes are digits
+  pub typed-all : (value i : ℕ) → length text ≤ i → Typed text value i
+      → record { valid = ltb 0 (length text); value = value } ≡ thresholdIn text
+  unfolding readDigits allDigits
   typed-all value i h t =
       let none = drop-of-length-le text {i = i} h in
-      let e : value ≡ readDigits 0 text = sym (ap (readDigits value) none) ∙ t .left in
-      let d : allDigits text ≡ true = sym (t .digits) ∙ ap allDigits none in
-      let small : readDigits 0 text < 4294967296 = omega (arith, t .small) in
-      record { valid = rw (d, lt-ltb (readDigits 0 text) 4294967296 small, and-true (ltb 0 (length text))); value = λ q. e }
+      all-digits value (sym (t .digits) ∙ ap allDigits none) (sym (ap (readDigits value) none) ∙ t .left) (t .small)
 
 -- ---- what is typed is what was meant
 

@@ -1,4 +1,4 @@
--- What `morning` reads, and what it then tells: "`wvpair`'s input with a 4-byte frame count" (Q5.6).
+-- What `morning` reads, and what it then answers: "`wvpair`'s input with a 4-byte frame count" (Q5.6).
 -- Assumes nothing.
 use mathlib.Core.Bool.{cond}
 use mathlib.Core.List.{List}
@@ -15,11 +15,11 @@ use Rattle.samples.specs.View.{ReadTold, readEntry}
 abbrev pub headBytes : ℕ
 headBytes = 16
 
--- the frame count, the low byte first, behind the entropy bytes
+-- the frame count, the low byte first, after the entropy bytes
 abbrev pub frameCount : List ℕ → ℕ
 frameCount input = numberOf (take 4 (drop 12 input))
 
--- the reading of the payload behind both; a list of zeros, two for each frame, is lent
+-- the reading of the payload after both; a list of zeros, two for each frame, is lent
 abbrev pub readingOf : List ℕ → ReadTold
 readingOf input = readEntry (take 12 input) (drop headBytes input) (frameCount input) (replicate (2 * frameCount input) (pos 0))
 

@@ -1,7 +1,6 @@
 -- The threshold as it is typed: decimal digits, and a number of 32 bits (Q5.4).
 -- Assumes nothing.
-use mathlib.Core.Path.{_≡_}
-use mathlib.Core.Bool.{Bool, true, _&&_}
+use mathlib.Core.Bool.{Bool, true, cond, _&&_}
 use mathlib.Core.List.{List, [], _∷_}
 use Prim.Native.Nat.{ℕ}
 use lib.Dec.{ltb, leb}
@@ -22,7 +21,6 @@ allDigits (c ∷ cs) = isDigit c && allDigits cs
 unfoldable pub isThreshold : List ℕ → Bool
 isThreshold text = ltb 0 (length text) && (allDigits text && ltb (readDigits 0 text) 4294967296)
 
--- what was found in a text: whether it is a threshold, and which
-pub record ThresholdIs (text : List ℕ) (r : Threshold) : Type 0 where
-  pub valid : r .valid ≡ isThreshold text
-  pub value : isThreshold text ≡ true → r .value ≡ readDigits 0 text
+-- what a text has: whether it is a threshold, and which; 0 where it is none
+abbrev pub thresholdIn : List ℕ → Threshold
+thresholdIn text = record { valid = isThreshold text; value = cond (isThreshold text) (readDigits 0 text) 0 }

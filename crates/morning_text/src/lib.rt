@@ -50,9 +50,8 @@ fn silence() -> [i32; MAX_ELEMENTS]
 fn read_page(input: &[u8], frames: usize, threshold: u32, page: &mut [u8]) -> PageAnswer
     requires head { ⌜ headBytes ≤ length (now input) ⌝ }
     requires frames { ⌜ (frames ≡ frameCount (now input)) × (frames ≤ maxFrames) ⌝ }
-    ensures told { λ r. ⌜ viewPage r (now (page .exit))
+    ensures { λ r. ⌜ viewPage r (now (page .exit))
         ≡ inputEntry threshold (now (input .entry)) (now (page .entry)) ⌝ }
-    ensures within { λ r. ⌜ r .written ≤ length (now (page .exit)) ⌝ }
 {
     let mut samples = silence();
     let n = 2 * frames;
@@ -76,9 +75,8 @@ fn read_page(input: &[u8], frames: usize, threshold: u32, page: &mut [u8]) -> Pa
 // answers how many bytes it has. Refuses an input under 16 bytes with 1, then what reading refuses,
 // then short storage with 11; the storage then keeps its bytes.
 pub fn input_page(input: &[u8], threshold: u32, page: &mut [u8]) -> PageAnswer
-    ensures told { λ r. ⌜ viewPage r (now (page .exit))
+    ensures { λ r. ⌜ viewPage r (now (page .exit))
         ≡ inputEntry threshold (now (input .entry)) (now (page .entry)) ⌝ }
-    ensures within { λ r. ⌜ r .written ≤ length (now (page .exit)) ⌝ }
 {
     if input.len() < HEAD_BYTES {
         return PageAnswer {

@@ -1,6 +1,6 @@
 // The threshold as it is typed.
 ghost use mathlib.Core.Path.{_≡_};
-ghost use Rattle.morning_text.specs.Threshold.{isDigit, ThresholdIs};
+ghost use Rattle.morning_text.specs.Threshold.{isDigit, thresholdIn};
 
 // Whether a text is a threshold, and which; 0 where it is none.
 pub struct Threshold {
@@ -18,9 +18,9 @@ fn is_digit(byte: u8) -> bool
     byte <= 57
 }
 
-// Reads a threshold: decimal digits alone, of a number below 2 to the 32.
+// Reads a threshold: decimal digits alone, of a number below 2 to the 32. Any other text has none.
 pub fn threshold_of(text: &[u8]) -> Threshold
-    ensures { λ r. ⌜ ThresholdIs (now (text .entry)) r ⌝ }
+    ensures { λ r. ⌜ r ≡ thresholdIn (now (text .entry)) ⌝ }
 {
     let mut value: u64 = 0;
     let mut i: usize = 0;

@@ -1,17 +1,20 @@
--- No text is longer than the largest text.
+-- No text is longer than the largest text, and no answer has more bytes.
 -- Assumes nothing.
 use mathlib.Core.Path.{refl}
+use mathlib.Core.Bool.{Bool, true, false, cond}
 use mathlib.Core.List.{List, [], _∷_, _++_}
 use Prim.Native.Nat.{ℕ, suc, _*_, _≤_, _<_}
 use native.Mathlib.Decide.{decLt}
 use native.Mathlib.Omega.{arith}
+use lib.Dec.{ltb}
 use lib.IntN.{ℤ, pos}
 use lib.ListN.{length, take, getD, length-append, length-take, length-drop}
 use lib.Signed.{mag}
 use Rattle.wvpair_text.specs.Signed.{signedDecimal}
 use Rattle.wvpair_text.specs.Limits.{headBytes, mostFrames, largestInput, largestText}
 use Rattle.wvpair_text.specs.Lines.{frameLine, frameLines, endLine, report}
-use Rattle.wvpair_text.specs.Text.{frameCount, readingOf, printed, wvpairText}
+use Rattle.wvpair_text.specs.Text.{frameCount, readingOf, printed, wvpairText, TextIs}
+use Rattle.wvpair_text.specs.declared.TextAnswer.{TextAnswer}
 use Rattle.wvpair_text.proofs.SignLaws.{signed-short}
 use Rattle.wvpair_text.proofs.LineLaws.{end-short}
 use Rattle.wvpair_text.proofs.ReadingLaws.{reading-small}
@@ -66,3 +69,11 @@ text-short input = go (decLt (length input) headBytes) (decLt mostFrames (frameC
     go (no a) (yes b) c = rw (text-frames input (omega arith) b) (omega (arith, end-short 5 0 (omega arith) (λ h. refl) (omega arith)))
     go (no a) (no b) (yes c) = rw (text-payload input (omega arith) c) (omega (arith, end-short 5 0 (omega arith) (λ h. refl) (omega arith)))
     go (no a) (no b) (no c) = rw (text-reading input (omega arith) (omega arith) (omega arith)) (printed-short input (omega arith) (omega arith))
+
+-- so no call answers more bytes, and a buffer of that size holds what it prints
+pub answer-short : (input before after : List ℕ) (r : TextAnswer) → TextIs input before after r → r .length ≤ largestText
+answer-short input before after r t = rw (t .size) (go (ltb (length before) largestText))
+  where
+    go : (b : Bool) → cond b 0 (length (wvpairText input)) ≤ largestText
+    go true = omega arith
+    go false = text-short input

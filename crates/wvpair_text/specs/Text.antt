@@ -4,7 +4,7 @@
 use mathlib.Core.Path.{_≡_}
 use mathlib.Core.Bool.{Bool, cond, _||_}
 use mathlib.Core.List.{List}
-use Prim.Native.Nat.{ℕ, _+_, _*_, _≤_}
+use Prim.Native.Nat.{ℕ, _+_, _*_}
 use lib.Dec.{ltb}
 use lib.IntN.{pos}
 use lib.ListN.{length, take, drop, getD, replicate}
@@ -15,7 +15,7 @@ use Rattle.wvpair_text.specs.Lines.{endLine, report}
 use Rattle.wvpair_text.specs.Limits.{headBytes, mostFrames, mostPayloadBytes, largestText}
 use Rattle.wvpair_text.specs.declared.TextAnswer.{TextAnswer}
 
--- document 01 (C6): "a 2-byte little-endian frame count", behind the 12 entropy bytes
+-- document 01 (C6): "a 2-byte little-endian frame count", after the 12 entropy bytes
 unfoldable pub frameCount : List ℕ → ℕ
 frameCount input = getD input 12 0 + 256 * getD input 13 0
 
@@ -40,9 +40,8 @@ unfoldable pub wvpairText : List ℕ → List ℕ
 wvpairText input = cond (ltb (length input) headBytes) (endLine 1 0) (cond (overLimits input) (endLine 5 0) (printed (readingOf input)))
 
 -- a buffer shorter than that is refused with 11 and keeps its bytes; any other holds the text
--- first, and behind it what it held
+-- first, and after it what it held
 pub record TextIs (input before after : List ℕ) (r : TextAnswer) : Type 0 where
   pub outcome : outcomeNumber (r .outcome) ≡ cond (ltb (length before) largestText) 11 0
   pub size : r .length ≡ cond (ltb (length before) largestText) 0 (length (wvpairText input))
   pub bytes : after ≡ cond (ltb (length before) largestText) before (overlay before 0 (wvpairText input))
-  pub short : r .length ≤ largestText

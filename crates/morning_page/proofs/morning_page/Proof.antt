@@ -8,7 +8,7 @@ use lib.ListN.{length}
 use Rattle.answers.specs.Numbers.{outcomeNumber}
 use Rattle.answers.proofs.ListLaws.{frames-fit}
 use Rattle.morning_page.specs.Entry.{pageRefusal}
-use Rattle.morning_page.proofs.CountLaws.{lines-few}
+use Rattle.page_lines.proofs.CountLaws.{lines-few}
 use Rattle.morning_page.proofs.EntryLaws.{page-refused, page-put}
 use Rattle.morning_page.proofs.morning_page.Statement.{statement}
 use Rattle.morning_page.proofs.morning_page.Tie as tie
@@ -16,7 +16,7 @@ use Rattle.morning_page.proofs.morning_page.Tie as tie
 returns : tie.Need-returns
 returns c =
     let tested : tie.After-page-refusal = search needs in
-    (page-refused _ _ _ _ _ (c .enum-told2 .given .1) (tested .page-refusal .ensures), omega arith)
+    page-refused _ _ _ _ _ (c .enum-told2 .given .1) (tested .page-refusal .ensures)
 
 abbrev start : tie.After-enum-told → tie.Start
 start t = t .before .before .before .before
@@ -41,8 +41,7 @@ returns-2 : tie.Need-returns-2
 returns-2 c =
     let t : tie.After-enum-told = search needs in
     let laid : tie.After-put-lines = search needs in
-    let f = frames-fit _ _ _ (accepted t) in
-    (page-put _ _ _ _ _ (accepted t) (laid .put-lines .ensures .0), omega (arith, laid .put-lines .ensures .1, laid .put-lines .kept .1 .1 .0, f .enough))
+    page-put _ _ _ _ _ (accepted t) (laid .put-lines .ensures .0)
 
 pub morning-page-spec : {M : Type 1} → statement M
 morning-page-spec =

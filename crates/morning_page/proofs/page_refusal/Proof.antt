@@ -5,9 +5,8 @@ use Prim.Native.Nat.{_*_, _<_, _≤_}
 use native.Mathlib.Omega.{arith}
 use borrow.Author.Needs.{needs}
 use Rattle.answers.proofs.ListLaws.{frames-long, frames-odd, frames-room, frames-none}
-use Rattle.morning_page.specs.Entry.{lineBytes}
-use Rattle.morning_page.specs.Page.{lineCount}
-use Rattle.morning_page.proofs.CountLaws.{lines-few}
+use Rattle.page_lines.specs.Page.{lineBytes, lineCount}
+use Rattle.page_lines.proofs.CountLaws.{lines-few}
 use Rattle.morning_page.proofs.page_refusal.Statement.{statement}
 use Rattle.morning_page.proofs.page_refusal.Tie as tie
 

@@ -68,7 +68,7 @@ lent-length k =
 returns : tie.Need-returns
 returns c =
     let k : Read = search needs in
-    (input-refused _ _ _ _ _ (start k .pre .0) (c .enum-told2 .given .1) (sym (ap (λ (t : ReadTold). t .refusal) (known k))), search needs)
+    input-refused _ _ _ _ _ (start k .pre .0) (c .enum-told2 .given .1) (sym (ap (λ (t : ReadTold). t .refusal) (known k)))
 
 array-share-prefix-samples : tie.Need-array-share-prefix-samples
 array-share-prefix-samples c = let k : Read = search needs in let e = lent-length k in simp length-append (omega arith)
@@ -84,11 +84,10 @@ returns-2 c =
     let k : Read = search needs in
     let told : tie.After-enum-told = search needs in
     let n = 2 * start k .args .frames in
-    let part = take-at (list k) (drop n (k .before .before .before .before .silence .result)) n (lent-length k) in (
-      rw part at (c .before .before .morning-page .ensures .0)
-          ∙ input-read _ _ _ (viewReading (answer k) (list k)) (start k .pre .0) (known k) (ap outcomeNumber (told .enum-told .given .1)),
-      c .before .before .morning-page .ensures .1,
-    )
+    let part = take-at (list k) (drop n (k .before .before .before .before .silence .result)) n (lent-length k) in
+    rw part at (c .before .before .morning-page .ensures)
+    ∙ input-read _ _ _ (viewReading (answer k) (list k)) (start k .pre .0) (known k)
+    (ap outcomeNumber (told .enum-told .given .1))
 
 pub read-page-spec : {M : Type 1} → statement M
 read-page-spec =

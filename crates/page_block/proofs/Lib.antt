@@ -1,0 +1,5 @@
+-- What other crates and the proofs of this one cite.
+pub mod Cases
+pub mod HearLaws
+pub mod RiseLaws
+pub mod SoundLaws
