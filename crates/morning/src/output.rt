@@ -15,7 +15,7 @@ fn print_reason(number: u32) {
         2 => print(b"the entropy payload is mono (6 bytes) or holds a negative median"),
         3 => print(b"a bit past the end is needed, or a count or a prefix value is over its cap"),
         4 => print(b"end of stream: the second count of a prefix is 33"),
-        17 => print(b"a log word of 8192 or more, or of -8192 or less"),
+        17 => print(b"a log word outside -8,191 to 8,191"),
         _ => print(
             b"over 131,072 frames, 262,144 elements, 4,194,304 payload bytes or 524,332 bytes of a sound file",
         ),
