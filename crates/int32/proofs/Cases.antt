@@ -39,6 +39,12 @@ no-image : deconstructEntry fields (pos 55 ∷ pos 54 ∷ []) (9 ∷ 9 ∷ 9 ∷
 unfolding deconstructEntry deconstructRefusal infoRefusal fieldsTaken allReinsertable lowBits low32
 no-image = refl
 
+-- short storage comes before it
+short-storage : deconstructEntry fields (pos 55 ∷ pos 54 ∷ []) (9 ∷ [])
+    ≡ record { refusal = 11; bits = 0; samples = pos 55 ∷ pos 54 ∷ []; literal = 9 ∷ [] }
+unfolding deconstructEntry deconstructRefusal infoRefusal fieldsTaken allReinsertable lowBits low32
+short-storage = refl
+
 -- a field above 31 comes before everything
 above-31 : reassembleEntry (record { «sent_bits» = 31; zeros = 0; ones = 32; dups = 0 }) (pos 1 ∷ []) [] ≡ record { refusal = 15; bits = 0; samples = pos 1 ∷ [] }
 unfolding reassembleEntry reassembleRefusal infoRefusal fieldsTaken

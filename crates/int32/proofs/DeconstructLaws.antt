@@ -77,7 +77,7 @@ module _ (info : Int32Info) (samples : List ℤ) (literal : List ℕ) where
 
   pub deconstruct-accepted : deconstructRefusal info samples (length literal) ≡ 0 → deconstructEntry info samples literal ≡ tellDeconstruct info samples literal
   unfolding deconstructEntry
-  deconstruct-accepted e = guard-accepted _ (refuseDeconstruct samples literal) _ e
+  deconstruct-accepted e = guard-accepted _ _ _ e
 
   -- what the code leaves, by how many redundant bits it found
   pub deconstruct-told : (k : ℕ) (xs : List ℤ) (stored : List ℕ) → deconstructRefusal info samples (length literal) ≡ 0 → k ≡ width (settingOf info)

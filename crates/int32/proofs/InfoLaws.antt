@@ -15,7 +15,13 @@ use Rattle.int32.specs.Info.{Fields, fieldsTaken, infoRefusal, settingOf
 
 pub fields-true : (info : Int32Info) → Fields info → fieldsTaken info ≡ true
 unfolding fieldsTaken
-fields-true info f = rw (le-leb (info .«sent_bits») 31 (f .sent), le-leb (info .zeros) 31 (f .zeros), le-leb (info .ones) 31 (f .ones), le-leb (info .dups) 31 (f .dups))
+fields-true info f =
+    rw (
+      le-leb (info .«sent_bits») 31 (f .sent),
+      le-leb (info .zeros) 31 (f .zeros),
+      le-leb (info .ones) 31 (f .ones),
+      le-leb (info .dups) 31 (f .dups),
+    )
 
 pub fields-fit : (info : Int32Info) → fieldsTaken info ≡ true → Fields info
 unfolding fieldsTaken
@@ -25,23 +31,33 @@ fields-fit info e =
     let c = both (leb (info .«sent_bits») 31) (leb (info .zeros) 31) (b .0) in
     record { sent = leb-true _ _ (c .0); zeros = leb-true _ _ (c .1); ones = leb-true _ _ (b .1); dups = leb-true _ _ (a .1) }
 
+-- a test that fails makes the whole fail
+and-fails : (b : Bool) → (b && false) ≡ false
+and-fails true = refl
+and-fails false = refl
+
 module _ (info : Int32Info) (n : ℕ) where
-  -- 15: each field in its turn
+  -- 15: whichever field it is
   pub sent-above : 31 < info .«sent_bits» → 15 ≡ infoRefusal info n
   unfolding infoRefusal fieldsTaken
   sent-above h = rw (lt-leb (info .«sent_bits») 31 h)
 
-  pub zeros-above : info .«sent_bits» ≤ 31 → 31 < info .zeros → 15 ≡ infoRefusal info n
+  pub zeros-above : 31 < info .zeros → 15 ≡ infoRefusal info n
   unfolding infoRefusal fieldsTaken
-  zeros-above s h = rw (le-leb (info .«sent_bits») 31 s, lt-leb (info .zeros) 31 h)
+  zeros-above h = rw (lt-leb (info .zeros) 31 h, and-fails (leb (info .«sent_bits») 31))
 
-  pub ones-above : info .«sent_bits» ≤ 31 → info .zeros ≤ 31 → 31 < info .ones → 15 ≡ infoRefusal info n
+  pub ones-above : 31 < info .ones → 15 ≡ infoRefusal info n
   unfolding infoRefusal fieldsTaken
-  ones-above s z h = rw (le-leb (info .«sent_bits») 31 s, le-leb (info .zeros) 31 z, lt-leb (info .ones) 31 h)
+  ones-above h =
+      rw (lt-leb (info .ones) 31 h, and-fails (leb (info .«sent_bits») 31 && leb (info .zeros) 31))
 
-  pub dups-above : info .«sent_bits» ≤ 31 → info .zeros ≤ 31 → info .ones ≤ 31 → 31 < info .dups → 15 ≡ infoRefusal info n
+  pub dups-above : 31 < info .dups → 15 ≡ infoRefusal info n
   unfolding infoRefusal fieldsTaken
-  dups-above s z o h = rw (le-leb (info .«sent_bits») 31 s, le-leb (info .zeros) 31 z, le-leb (info .ones) 31 o, lt-leb (info .dups) 31 h)
+  dups-above h =
+      rw (
+        lt-leb (info .dups) 31 h,
+        and-fails (leb (info .«sent_bits») 31 && leb (info .zeros) 31 && leb (info .ones) 31),
+      )
 
   -- 5: over 262,144 samples
   pub many-samples : Fields info → maxElements < n → 5 ≡ infoRefusal info n

@@ -62,7 +62,7 @@ module _ (info : Int32Info) (samples : List ℤ) (literal : List ℕ) where
   pub reassemble-accepted : reassembleRefusal info (length samples) (length literal) ≡ 0
       → reassembleEntry info samples literal ≡ record { refusal = 0; bits = length samples * info .«sent_bits»; samples = reassembled info (bitsOf literal) samples }
   unfolding reassembleEntry
-  reassemble-accepted e = guard-accepted _ (refuseReassemble samples) _ e
+  reassemble-accepted e = guard-accepted _ _ _ e
 
   -- the number that is answered
   pub reassemble-number : reassembleEntry info samples literal .refusal ≡ reassembleRefusal info (length samples) (length literal)

@@ -24,15 +24,7 @@ use Rattle.int32.specs.Info.{Samples32}
 use Rattle.int32.specs.Reassemble.{appended}
 use Rattle.int32.specs.Deconstruct.{allReinsertable, literalOf}
 
--- ---- lengths
-
-pub literal-length : (sent : ℕ) (ys : List ℤ) → length (literalOf sent ys) ≡ length ys * sent
-unfolding literalOf
-literal-length sent [] = sym (zero-mul sent)
-literal-length sent (y ∷ ys) =
-    length-append (low sent (lowBits sent y)) (literalOf sent ys) ∙ ap₂ (λ (a b : ℕ). a + b) (length-low sent (lowBits sent y)) (literal-length sent ys)
-    ∙ omega (arith, suc-mul (length ys) sent)
-
+-- samples with bits put in are as many
 pub appended-length : (sent : ℕ) (bits : List Bool) (xs : List ℤ) → length (appended sent bits xs) ≡ length xs
 unfolding appended
 appended-length sent bits [] = refl
@@ -78,6 +70,14 @@ appended-back sent (z ∷ zs) rest w h =
     let d : drop sent (f ++ (l ++ rest)) ≡ l ++ rest = drop-at f (l ++ rest) sent (length-low sent n) in
     let v : num f ≡ n = num-low sent n ∙ mod-eq-of-lt (low-lt (31 - sent + 1) sent e z) in
     rw (a, t, d, v, put-back (31 - sent + 1) sent e z (h 0)) (ap (λ (x : List ℤ). z ∷ x) (appended-back sent zs rest w (λ i. h (suc i))))
+
+-- each sample has as many
+pub literal-length : (sent : ℕ) (ys : List ℤ) → length (literalOf sent ys) ≡ length ys * sent
+unfolding literalOf
+literal-length sent [] = sym (zero-mul sent)
+literal-length sent (y ∷ ys) =
+    length-append (low sent (lowBits sent y)) (literalOf sent ys)
+    ∙ omega (arith, length-low sent (lowBits sent y), literal-length sent ys, suc-mul (length ys) sent)
 
 -- the redundant bits, where the test holds of every sample
 pub reinserted-back : (s : Setting) (ys : List ℤ) → width s ≤ 31 → Samples32 ys → allReinsertable s ys ≡ true → map (reinsert s) (map (above (width s)) ys) ≡ ys

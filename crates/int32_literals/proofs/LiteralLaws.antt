@@ -5,11 +5,14 @@ use mathlib.Core.Path.{_≡_, refl, sym, ap, _∙_}
 use mathlib.Core.Bool.{Bool}
 use mathlib.Core.List.{List, [], _∷_}
 use Prim.Native.Nat.{ℕ, zero, suc, _+_, _-_, _*_, _/_, _%_, _^_, _≤_, _<_, min}
-use native.Mathlib.Nat.{mod-one, suc-mul, mul-le-mul-right, le-trans}
+use native.Mathlib.Nat.{mod-one, mod-lt, suc-mul, mul-le-mul-right, le-trans}
 use native.Mathlib.Omega.{arith}
 use lib.IntN.{ℤ}
 use lib.ListN.{length, take, drop, length-drop}
+use lib.Pow.{pow-pos}
 use lib.Seq.{drop-drop}
+use mir.Syntax.{w32}
+use mir.Val.{Fits}
 use Rattle.bits.specs.Bits.{num, bitsOf}
 use Rattle.bits.specs.Fields.{getBits}
 use Rattle.bits.specs.declared.Field.{Field}
@@ -18,6 +21,7 @@ use Rattle.bits.proofs.BitLaws.{length-bits}
 use Rattle.bits.proofs.ReadLaws.{bits-yes}
 use Rattle.bits.proofs.Window.{tail-window, window-bits}
 use Rattle.int32_sample.specs.Sample.{below}
+use Rattle.int32_sample.proofs.MachineLaws.{small}
 use Rattle.int32.specs.Reassemble.{appended}
 use Rattle.int32.proofs.InPlace.{mapFrom}
 
@@ -28,6 +32,10 @@ none = refl
 abbrev valueOf : Field → ℕ
 valueOf (Value v q) = v
 valueOf Truncated = 0
+
+-- a few bits of any number are a number of 32 bits
+pub cut-fits : (x k : ℕ) → k ≤ 31 → Fits w32 (x % 2 ^ k)
+cut-fits x k h = let l = small k (x % 2 ^ k) h (mod-lt x (pow-pos k)) in record { fits = omega (arith, l) }
 
 -- the bits at a place, from a window that begins with its byte
 pub literal-bits : (s : List ℕ) (at k w : ℕ) → k ≤ 31 → at + k ≤ 8 * length s → w ≡ num (bitsOf (take 8 (drop (at / 8) s)))

@@ -1,19 +1,14 @@
-// Redundant bits put in below all samples, and the test of whether they are there (document 02 §6).
-// Bits that are the same below every sample have a loop of their own, which the machine does several
-// at once.
+// Redundant bits put in below all samples (document 02 §6). Bits that are the same below every sample
+// have a loop of their own, which the machine does several at once.
 use int32_sample::bits_below;
-use int32_sample::low_bits;
 use int32_sample::low_bits_mask;
 use int32_sample::put_below;
-use int32_sample::redundancy_of;
-use int32_sample::shifted;
 ghost use mathlib.Core.Path.{_≡_};
 ghost use mathlib.Core.List.{map};
 ghost use Prim.Native.Nat.{_^_, _≤_, _<_};
 ghost use Rattle.int32_sample.specs.Sample.{below};
 ghost use Rattle.int32_sample.specs.Setting.{setting, dups, reinsert};
 ghost use Rattle.int32.specs.Info.{Samples32};
-ghost use Rattle.int32.specs.Deconstruct.{allReinsertable};
 
 // Puts the same bits below each sample, those of n; each was a number of 32 bits.
 fn put_each(samples: &mut [i32], count: u32, n: u32)
@@ -61,25 +56,4 @@ pub fn reinsert_redundancy(samples: &mut [i32], zeros: u32, ones: u32, dups: u32
         return;
     }
     put_copies(samples, dups);
-}
-
-// Whether every sample is the image of a sample: its low bits are those that belong below the rest.
-pub fn is_reinsertable(samples: &[i32], zeros: u32, ones: u32, dups: u32) -> bool
-    requires { ⌜ (zeros ≤ 31) × (ones ≤ 31) × (dups ≤ 31) ⌝ }
-    ensures { λ r. ⌜ r ≡ allReinsertable (setting zeros ones dups) (now (samples .entry)) ⌝ }
-{
-    let put = redundancy_of(zeros, ones, dups);
-    let count = put.count;
-    let even = put.even;
-    let odd = put.odd;
-    let mut all = true;
-    let mut i: usize = 0;
-    while i < samples.len() {
-        let sample = samples[i];
-        i = i + 1;
-        if low_bits(sample, count) != bits_below(shifted(sample, count), even, odd) {
-            all = false;
-        }
-    }
-    all
 }

@@ -44,16 +44,11 @@ keep-count k h = omega arith
 
 pub below-fits : (k n : ℕ) (x : ℤ) → SFits w32 (below k n x)
 unfolding below
-below-fits k n x = wrap-fits (x *ℤ pos (2 ^ k) +ℤ pos n)
+below-fits k n x = wrap-fits _
 
 pub above-fits : (k : ℕ) (y : ℤ) → SFits w32 y → SFits w32 (above k y)
 unfolding above
 above-fits k y h = floor-fits w32 y (2 ^ k) h
-
--- no bits below a sample leave it as it is
-pub below-nothing : (x : ℤ) → SFits w32 x → below 0 0 x ≡ x
-unfolding below lib.IntN.one
-below-nothing x h = ap wrap32 (+ℤ-idr (x *ℤ pos 1) ∙ *ℤ-one x) ∙ wrap-id x h
 
 module _ (j k : ℕ) (e : j + k ≡ 32) where
   -- 2 to the 32
@@ -133,3 +128,8 @@ module _ (j k : ℕ) (e : j + k ≡ 32) where
   pub above-pattern : (y : ℤ) → SFits w32 y → low32 y / 2 ^ k ≡ low32 (above k y) % 2 ^ j
   above-pattern y h =
       ap (λ (p : ℕ). p / 2 ^ k) (sym (ap low32 (put-back y h)) ∙ below-pattern (lowBits k y) (above k y) (low-lt y)) ∙ high (low32 (above k y) % 2 ^ j) k (low-lt y)
+
+-- no bits below a sample leave it as it is
+pub below-nothing : (x : ℤ) → SFits w32 x → below 0 0 x ≡ x
+unfolding below lib.IntN.one
+below-nothing x h = ap wrap32 (+ℤ-idr (x *ℤ pos 1) ∙ *ℤ-one x) ∙ wrap-id x h

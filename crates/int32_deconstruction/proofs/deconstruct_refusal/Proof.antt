@@ -29,7 +29,7 @@ mul-if1 : tie.Need-mul-if1
 mul-if1 c = let f = info-fit _ _ (fine c) in record { fits = omega (arith, f .1) }
 
 returns-2 : tie.Need-returns-2
-returns-2 c = deconstruct-short _ _ _ (fine (c .before)) (c .if1 .taken)
+returns-2 c = deconstruct-short _ _ _ (fine (c .before)) (omega (arith, c .if1 .taken))
 
 is-reinsertable-requires : tie.Need-is-reinsertable-requires
 is-reinsertable-requires c κs = let f = info-fit _ _ (fine (c .before)) .0 in (f .zeros, f .ones, f .dups)
@@ -37,12 +37,14 @@ is-reinsertable-requires c κs = let f = info-fit _ _ (fine (c .before)) .0 in (
 returns-3 : tie.Need-returns-3
 returns-3 c =
     let room : tie.Else1 = search needs in
-    deconstruct-tested _ _ _ false (fine (room .before)) (room .if1 .left) (sym (not-true _ (c .if2 .taken)) ∙ c .before .is-reinsertable .ensures)
+    deconstruct-tested _ _ _ false (fine (room .before)) (omega (arith, room .if1 .left))
+    (sym (not-true _ (c .if2 .taken)) ∙ c .before .is-reinsertable .ensures)
 
 returns-4 : tie.Need-returns-4
 returns-4 c =
     let room : tie.Else1 = search needs in
-    deconstruct-tested _ _ _ true (fine (room .before)) (room .if1 .left) (sym (not-false _ (c .if2 .left)) ∙ c .before .is-reinsertable .ensures)
+    deconstruct-tested _ _ _ true (fine (room .before)) (omega (arith, room .if1 .left))
+    (sym (not-false _ (c .if2 .left)) ∙ c .before .is-reinsertable .ensures)
 
 pub deconstruct-refusal-spec : {M : Type 1} → statement M
 deconstruct-refusal-spec =

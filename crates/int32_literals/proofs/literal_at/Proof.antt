@@ -1,18 +1,15 @@
 -- `int32_literals::literal_at` meets its contract: the bits come out of the window at the place.
 -- Assumes nothing.
-use mathlib.Core.Path.{_≡_, sym, ap, subst, _∙_}
+use mathlib.Core.Path.{_≡_, ap, _∙_}
 use Prim.Native.Nat.{ℕ, _*_, _/_, _%_, _^_}
 use native.Mathlib.Omega.{arith}
 use denote.Ref.{now}
 use lib.ListN.{take, drop}
 use lib.Pow.{pow-pos}
-use mir.Syntax.{w32}
-use mir.Val.{Fits}
 use borrow.Author.Needs.{needs}
 use Rattle.bits.specs.Bits.{num, bitsOf}
-use Rattle.bits.proofs.BitLaws.{shl-one, num-take-lt}
-use Rattle.int32_sample.proofs.MachineLaws.{small}
-use Rattle.int32_literals.proofs.LiteralLaws.{literal-bits}
+use Rattle.bits.proofs.BitLaws.{shl-one}
+use Rattle.int32_literals.proofs.LiteralLaws.{cut-fits, literal-bits}
 use Rattle.int32_literals.proofs.literal_at.Statement.{statement}
 use Rattle.int32_literals.proofs.literal_at.Tie as tie
 
@@ -32,12 +29,12 @@ rem-result c =
     let start : tie.Start = search needs in
     rw (shl-one k 64 (omega (arith, start .pre .1))) (pow-pos k)
 
+-- whatever is cut out has few bits
 cast-result : tie.Need-cast-result
 cast-result c =
+    let k = c .before .before .args .count in
     let start : tie.Start = search needs in
-    let k = start .args .count in
-    let lt = small k _ (start .pre .1) (num-take-lt k (drop (start .args .at) (bitsOf (now (start .args .literal))))) in
-    subst (Fits w32) (sym (cut c)) (record { fits = omega (arith, lt) })
+    rw (shl-one k 64 (omega (arith, start .pre .1))) (cut-fits _ k (start .pre .1))
 
 returns : tie.Need-returns
 returns c = cut c

@@ -1,4 +1,4 @@
--- `int32_redundancy::is_reinsertable` meets its contract. The loop's invariant: what was found of
+-- `int32_images::is_reinsertable` meets its contract. The loop's invariant: what was found of
 -- the first i samples, joined to the test of the others, is that of all. The measure is what is left
 -- of them.
 -- Assumes nothing.
@@ -18,9 +18,9 @@ use Rattle.int32_sample.specs.Sample.{lowBits, above}
 use Rattle.int32_sample.specs.Setting.{setting, reinsertable}
 use Rattle.int32_sample.proofs.ShiftLaws.{above-fits}
 use Rattle.int32.proofs.InfoLaws.{width-le}
-use Rattle.int32_redundancy.proofs.TestLaws.{Tested, tested-none, tested-passed, tested-failed, tested-all, passes, fails-test}
-use Rattle.int32_redundancy.proofs.is_reinsertable.Statement.{statement}
-use Rattle.int32_redundancy.proofs.is_reinsertable.Tie as tie
+use Rattle.int32_images.proofs.TestLaws.{Tested, tested-none, tested-passed, tested-failed, tested-all, passes, fails-test}
+use Rattle.int32_images.proofs.is_reinsertable.Statement.{statement}
+use Rattle.int32_images.proofs.is_reinsertable.Tie as tie
 
 abbrev Inv-loop : tie.InvT-loop
 Inv-loop samples zeros ones dups count even odd all₀ i₀ all i = Tested (setting zeros ones dups) samples all i
