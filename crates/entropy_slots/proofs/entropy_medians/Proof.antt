@@ -11,7 +11,7 @@ use Rattle.entropy_slots.proofs.entropy_medians.Statement.{statement}
 use Rattle.entropy_slots.proofs.entropy_medians.Tie as tie
 
 returns : tie.Need-returns
-returns c = call-short _ _ _ _ _ (c .number .ensures) (c .before .if1 .taken)
+returns c = call-short 6 _ _ _ _ (c .number .ensures) (omega (arith, c .before .if1 .taken))
 
 returns-2 : tie.Need-returns-2
 returns-2 c =

@@ -1,6 +1,7 @@
 -- `value_slots::term_byte` meets its contract.
 -- Assumes nothing.
 use mathlib.Core.List.{[], _∷_}
+use native.Mathlib.Omega.{arith}
 use mir.Val.{toZ, ofZ}
 use mir.Syntax.{w8, w32}
 use mir.ValLaws.{toZ-ofZ}
@@ -12,7 +13,9 @@ use Rattle.value_slots.proofs.term_byte.Statement.{statement}
 use Rattle.value_slots.proofs.term_byte.Tie as tie
 
 returns : tie.Need-returns
-returns c = short 2 (termByteValues (c .before .before .args .byte)) _ _ (c .number .ensures) (c .before .if1 .taken)
+returns c =
+    short 2 (termByteValues (c .before .before .args .byte)) _ _ (c .number .ensures)
+    (omega (arith, c .before .if1 .taken))
 
 cast-t10 : tie.Need-cast-t10
 cast-t10 c = rw (toZ-ofZ w8 (c .before .before .decode-term-byte .result .term) (search needs)) (wider (search needs))

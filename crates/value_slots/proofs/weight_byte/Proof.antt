@@ -1,6 +1,7 @@
 -- `value_slots::weight_byte` meets its contract.
 -- Assumes nothing.
 use mathlib.Core.List.{[], _∷_}
+use native.Mathlib.Omega.{arith}
 use mir.Syntax.{w32}
 use mir.ValLaws.{toZ-ofZ}
 use Rattle.value_slots.specs.Values.{weightByteValues}
@@ -11,7 +12,9 @@ use Rattle.value_slots.proofs.weight_byte.Statement.{statement}
 use Rattle.value_slots.proofs.weight_byte.Tie as tie
 
 returns : tie.Need-returns
-returns c = short 1 (weightByteValues (c .before .before .args .byte)) _ _ (c .number .ensures) (c .before .if1 .taken)
+returns c =
+    short 1 (weightByteValues (c .before .before .args .byte)) _ _ (c .number .ensures)
+    (omega (arith, c .before .if1 .taken))
 
 returns-2 : tie.Need-returns-2
 returns-2 c =
