@@ -54,13 +54,15 @@ take-low (suc i) j n = rw suc-add (ap (λ (l : List Bool). bitOf (n % 2) ∷ l) 
 pub low-add : (i j n : ℕ) → low (i + j) n ≡ low i n ++ low j (n / 2 ^ i)
 unfolding low
 low-add zero j n = rw (zero-add, div-one)
-low-add (suc i) j n = rw suc-add (ap (λ (l : List Bool). bitOf (n % 2) ∷ l) (low-add i j (n / 2) ∙ rw (shr-shr n 1 i, one-add)))
+low-add (suc i) j n =
+    rw suc-add (ap (λ (l : List Bool). bitOf (n % 2) ∷ l) (low-add i j (n / 2) ∙ rw (shr-shr n 1 i, one-add)))
 
 -- a number of j bits has zeros above them
 pub low-shifted : (j i x : ℕ) → x < 2 ^ j → low (j + i) x ≡ low j x ++ low i 0
 unfolding low
 low-shifted zero i x h = rw (zero-add, lt-one h)
-low-shifted (suc j) i x h = rw suc-add (ap (λ (l : List Bool). bitOf (x % 2) ∷ l) (low-shifted j i (x / 2) (omega arith)))
+low-shifted (suc j) i x h =
+    rw suc-add (ap (λ (l : List Bool). bitOf (x % 2) ∷ l) (low-shifted j i (x / 2) (omega arith)))
 
 -- the low bits of a number whose w bits are all ones
 pub low-ones : (c w : ℕ) → c ≤ w → low c (2 ^ w - 1) ≡ replicate c true
@@ -100,7 +102,8 @@ num-take-lt k a = lt-of-lt-of-le (num-lt (take k a)) (pow-mono (omega (arith, le
 pub num-low : (k n : ℕ) → num (low k n) ≡ n % 2 ^ k
 unfolding num low
 num-low zero n = sym (mod-one n)
-num-low (suc k) n = rw (val-mod, num-low k (n / 2), pow-suc 2 k, mod-mul n (pow-pos k) (lit< tt)) (omega arith)
+num-low (suc k) n =
+    rw (val-mod, num-low k (n / 2), pow-suc 2 k, mod-mul n (pow-pos k) (lit< tt)) (omega arith)
 
 -- the low bits of the number are the bits again
 pub low-num : (a : List Bool) → low (length a) (num a) ≡ a
@@ -117,7 +120,9 @@ low-num (true ∷ a) =
 
 -- low bits depend on no others
 pub low-mod : (k n : ℕ) → low k (n % 2 ^ k) ≡ low k n
-low-mod k n = ap (low k) (sym (num-low k n)) ∙ ap (λ (m : ℕ). low m (num (low k n))) (sym (length-low k n)) ∙ low-num (low k n)
+low-mod k n =
+    ap (low k) (sym (num-low k n)) ∙ ap (λ (m : ℕ). low m (num (low k n))) (sym (length-low k n))
+    ∙ low-num (low k n)
 
 -- a one shifted left by m loses nothing in w bits
 pub shl-one : (m w : ℕ) → m < w → 1 * 2 ^ m % 2 ^ w ≡ 2 ^ m
@@ -127,9 +132,12 @@ shl-one m w h = shl-exact 1 m w (lit< tt) (omega arith) ∙ one-mul (2 ^ m)
 pub join-lt : (k m c v w : ℕ) → k + m ≤ w → c % 2 ^ k + v % 2 ^ m * 2 ^ k < 2 ^ w
 join-lt k m c v w h =
     let l = low k c ++ low m v in
-    let e : length l ≡ k + m = length-append (low k c) (low m v) ∙ ap₂ (λ (x y : ℕ). x + y) (length-low k c) (length-low m v) in
+    let e : length l ≡ k + m =
+    length-append (low k c) (low m v) ∙ ap₂ (λ (x y : ℕ). x + y) (length-low k c) (length-low m v) in
     let n : num l ≡ c % 2 ^ k + v % 2 ^ m * 2 ^ k =
-    num-append (low k c) (low m v) ∙ ap₂ (λ (x y : ℕ). x + y) (num-low k c) (ap₂ (λ (x y : ℕ). x * 2 ^ y) (num-low m v) (length-low k c)) in
+    num-append (low k c) (low m v)
+    ∙ ap₂ (λ (x y : ℕ). x + y) (num-low k c)
+    (ap₂ (λ (x y : ℕ). x * 2 ^ y) (num-low m v) (length-low k c)) in
     rw n at (lt-of-lt-of-le (num-lt l) (pow-mono {i = length l} {j = w} (omega arith)))
 
 -- ---- the bits of a payload

@@ -91,18 +91,24 @@ pub record Counted (bits : List Bool) (p j n : ℕ) : Type 0 where
   pub on : (n < j → ⊥) → ones (drop p bits) ≡ j + ones (drop (p + j) bits)
 
 -- so it is where the language counts them, in w bits
-pub counted : (bits : List Bool) (p j w x : ℕ) → Window bits p j x → j ≤ w → Counted bits p j (trailingZeros w (2 ^ w - 1 - x))
+pub counted : (bits : List Bool) (p j w x : ℕ) → Window bits p j x → j ≤ w
+    → Counted bits p j (trailingZeros w (2 ^ w - 1 - x))
 counted bits p j w x v h =
     let a = low j x in
     let l = length-low j x in
     let e : w ≡ j + (w - j) = omega arith in
     let n : trailingZeros w (2 ^ w - 1 - x) ≡ ones a =
-    trailing-ones w x (lt-of-lt-of-le (v .small) (pow-mono h)) ∙ ap (λ (m : ℕ). ones (low m x)) e ∙ ap ones (low-shifted j (w - j) x (v .small)) ∙ ones-zeros a (w - j) in
+    trailing-ones w x (lt-of-lt-of-le (v .small) (pow-mono h)) ∙ ap (λ (m : ℕ). ones (low m x)) e
+    ∙ ap ones (low-shifted j (w - j) x (v .small)) ∙ ones-zeros a (w - j) in
     rw n (record {
       within = omega (arith, ones-le a);
-      left = ap length (v .stands) ∙ length-append a (drop (p + j) bits) ∙ ap (λ (m : ℕ). m + length (drop (p + j) bits)) l;
+      left =
+          ap length (v .stands) ∙ length-append a (drop (p + j) bits)
+          ∙ ap (λ (m : ℕ). m + length (drop (p + j) bits)) l;
       stop = λ s. ap ones (v .stands) ∙ ones-first a (drop (p + j) bits) (omega arith);
-      on = λ s. ap ones (v .stands) ∙ ones-on a (drop (p + j) bits) (omega (arith, s)) ∙ ap (λ (m : ℕ). m + ones (drop (p + j) bits)) l;
+      on =
+          λ s. ap ones (v .stands) ∙ ones-on a (drop (p + j) bits) (omega (arith, s))
+          ∙ ap (λ (m : ℕ). m + ones (drop (p + j) bits)) l;
     })
 
 -- ---- counting on
@@ -118,7 +124,8 @@ pub passed-none : (bits : List Bool) (at : ℕ) → Passed bits at at
 passed-none bits at = record { since = omega arith; left = refl; ones-are = refl }
 
 -- a window of ones is passed
-pub passed-on : {bits : List Bool} {at p j n : ℕ} (q : ℕ) → Passed bits at p → Counted bits p j n → (n < j → ⊥) → q ≡ p + j → Passed bits at q
+pub passed-on : {bits : List Bool} {at p j n : ℕ} (q : ℕ) → Passed bits at p → Counted bits p j n
+    → (n < j → ⊥) → q ≡ p + j → Passed bits at q
 passed-on {bits} {at} {p} {j} {n} q d c h e = rw e (record {
   since = omega (arith, d .since);
   left = omega (arith, d .left, c .left);
@@ -126,13 +133,16 @@ passed-on {bits} {at} {p} {j} {n} q d c h e = rw e (record {
 })
 
 -- a window with a zero ends the count
-pub passed-stop : {bits : List Bool} {at p j n : ℕ} → Passed bits at p → Counted bits p j n → n < j → unary bits at ≡ Value (p + n - at) (p + n + 1)
+pub passed-stop : {bits : List Bool} {at p j n : ℕ} → Passed bits at p → Counted bits p j n → n < j
+    → unary bits at ≡ Value (p + n - at) (p + n + 1)
 passed-stop {bits} {at} {p} {j} {n} d c h =
     let z = c .stop h in
-    unary-yes bits at (omega (arith, d .since, d .left, d .ones-are, c .left)) ∙ ap₂ Value (omega (arith, d .since, d .ones-are)) (omega (arith, d .since, d .ones-are))
+    unary-yes bits at (omega (arith, d .since, d .left, d .ones-are, c .left))
+    ∙ ap₂ Value (omega (arith, d .since, d .ones-are)) (omega (arith, d .since, d .ones-are))
 
 -- at the payload's end no zero was found
-pub passed-end : {bits : List Bool} {at p : ℕ} → Passed bits at p → length (drop p bits) ≡ 0 → unary bits at ≡ Truncated
+pub passed-end : {bits : List Bool} {at p : ℕ} → Passed bits at p → length (drop p bits) ≡ 0
+    → unary bits at ≡ Truncated
 passed-end {bits} {at} {p} d h = unary-no bits at (omega (arith, d .since, d .left, d .ones-are))
 
 -- a count from p on and the ones passed before it are the count from at on, which ends inside the
@@ -141,30 +151,37 @@ pub record Whole (bits : List Bool) (at p n q : ℕ) : Type 0 where
   pub inside : at + (p - at + n) < length bits
   pub same : unary bits at ≡ Value (p - at + n) q
 
-pub passed-whole : {bits : List Bool} {at p n q : ℕ} → Passed bits at p → unary bits p ≡ Value n q → Whole bits at p n q
+pub passed-whole : {bits : List Bool} {at p n q : ℕ} → Passed bits at p → unary bits p ≡ Value n q
+    → Whole bits at p n q
 passed-whole {bits} {at} {p} {n} {q} d e = go (decLt (ones (drop p bits)) (length (drop p bits)))
   where
     go : Dec (ones (drop p bits) < length (drop p bits)) → Whole bits at p n q
     go (yes h) =
-        let f : Value (ones (drop p bits)) (p + ones (drop p bits) + 1) ≡ Value n q = sym (unary-yes bits p h) ∙ e in
+        let f : Value (ones (drop p bits)) (p + ones (drop p bits) + 1) ≡ Value n q =
+        sym (unary-yes bits p h) ∙ e in
         let a : ones (drop p bits) ≡ n = cc in
         let b : p + ones (drop p bits) + 1 ≡ q = cc in
         record {
           inside = omega (arith, d .since, length-drop p bits);
-          same = unary-yes bits at (omega (arith, d .left, d .ones-are)) ∙ ap₂ Value (omega (arith, d .since, d .ones-are)) (omega (arith, d .ones-are));
+          same =
+              unary-yes bits at (omega (arith, d .left, d .ones-are))
+              ∙ ap₂ Value (omega (arith, d .since, d .ones-are)) (omega (arith, d .ones-are));
         }
     go (no h) =
         let f : Truncated ≡ Value n q = sym (unary-no bits p (omega arith)) ∙ e in
         let z : _≡_ {A = ℕ} 0 1 = cc in absurd (omega arith)
 
 -- where none is found from p on, none is from at on
-pub passed-missing : {bits : List Bool} {at p : ℕ} → Passed bits at p → unary bits p ≡ Truncated → unary bits at ≡ Truncated
-passed-missing {bits} {at} {p} d e = unary-no bits at (omega (arith, d .since, d .left, d .ones-are, unary-missing bits p e))
+pub passed-missing : {bits : List Bool} {at p : ℕ} → Passed bits at p → unary bits p ≡ Truncated
+    → unary bits at ≡ Truncated
+passed-missing {bits} {at} {p} d e =
+    unary-no bits at (omega (arith, d .since, d .left, d .ones-are, unary-missing bits p e))
 
 -- ---- bit by bit
 
 -- where a one stands at p, the count is one more than from the next place on
-one-more : (bits : List Bool) (p : ℕ) (t : List Bool) → drop p bits ≡ true ∷ t → unary bits p ≡ oneMore (unary bits (p + 1))
+one-more : (bits : List Bool) (p : ℕ) (t : List Bool) → drop p bits ≡ true ∷ t
+    → unary bits p ≡ oneMore (unary bits (p + 1))
 unfolding ones
 one-more bits p t e = go (decLt (ones (drop (p + 1) bits)) (length (drop (p + 1) bits)))
   where
@@ -177,8 +194,11 @@ one-more bits p t e = go (decLt (ones (drop (p + 1) bits)) (length (drop (p + 1)
     l : length (drop p bits) ≡ 1 + length (drop (p + 1) bits)
     l = ap length e ∙ omega (arith, ap length d)
 
-    go : Dec (ones (drop (p + 1) bits) < length (drop (p + 1) bits)) → unary bits p ≡ oneMore (unary bits (p + 1))
-    go (yes h) = rw (unary-yes bits (p + 1) h, unary-yes bits p (omega (arith, o, l))) (ap₂ Value (omega (arith, o)) (omega (arith, o)))
+    go : Dec (ones (drop (p + 1) bits) < length (drop (p + 1) bits))
+        → unary bits p ≡ oneMore (unary bits (p + 1))
+    go (yes h) =
+        rw (unary-yes bits (p + 1) h, unary-yes bits p (omega (arith, o, l)))
+        (ap₂ Value (omega (arith, o)) (omega (arith, o)))
     go (no h) = rw (unary-no bits (p + 1) (omega arith), unary-no bits p (omega (arith, o, l)))
 
 -- Q3.1: every count is that of counting bit by bit
@@ -186,12 +206,15 @@ pub bit-by-bit : BitByBit
 unfolding ones num
 bit-by-bit bits p = go (drop p bits) refl
   where
-    go : (l : List Bool) → drop p bits ≡ l → unary bits p ≡ andThen (getBits bits p 1) (λ bit next. cond (eqb bit 0) (Value 0 next) (oneMore (unary bits next)))
+    go : (l : List Bool) → drop p bits ≡ l
+        → unary bits p ≡ andThen (getBits bits p 1)
+        (λ bit next. cond (eqb bit 0) (Value 0 next) (oneMore (unary bits next)))
     go [] e = rw (unary-no bits p (omega (arith, ap length e)), bits-no bits p 1 (omega (arith, ap length e)))
     go (false ∷ t) e =
         let v : num (take 1 (drop p bits)) ≡ 0 = ap (λ (x : List Bool). num (take 1 x)) e in
         rw (bits-yes bits p 1 (omega (arith, ap length e)), v)
-        (unary-yes bits p (omega (arith, ap length e, ap ones e)) ∙ ap₂ Value (ap ones e) (omega (arith, ap ones e)))
+        (unary-yes bits p (omega (arith, ap length e, ap ones e))
+        ∙ ap₂ Value (ap ones e) (omega (arith, ap ones e)))
     go (true ∷ t) e =
         let v : num (take 1 (drop p bits)) ≡ 1 = ap (λ (x : List Bool). num (take 1 x)) e in
         rw (bits-yes bits p 1 (omega (arith, ap length e)), v) (one-more bits p t e)

@@ -45,7 +45,9 @@ run-parts n b h l e =
       some = g .some;
       most = long-le n b 32 g l;
       parts = p;
-      size = ap length p ∙ length-append (unaryField b) (low (b - 1) n) ∙ ap (λ (k : ℕ). length (unaryField b) + k) (length-low (b - 1) n);
+      size =
+          ap length p ∙ length-append (unaryField b) (low (b - 1) n)
+          ∙ ap (λ (k : ℕ). length (unaryField b) + k) (length-low (b - 1) n);
     }
 
 -- below 16 a prefix is that many ones
@@ -67,12 +69,14 @@ pub record Joined (f g : List Bool) (x n y : ℕ) : Type 0 where
   pub size : n + length g ≡ length (f ++ g)
 
 -- their sum gathers both
-pub joined : (f g : List Bool) (x n y : ℕ) → x ≡ num f → n ≡ length f → y ≡ num g → length f + length g ≤ 64 → Joined f g x n y
+pub joined : (f g : List Bool) (x n y : ℕ) → x ≡ num f → n ≡ length f → y ≡ num g → length f + length g ≤ 64
+    → Joined f g x n y
 joined f g x n y a b c h =
     let l = length-append f g in
     let s : y * 2 ^ n % 2 ^ 64 ≡ y * 2 ^ n = shl-exact (length g) n 64 (rw c (num-lt g)) (omega arith) in
     let e : x + y * 2 ^ n ≡ num (f ++ g) = rw (a, b, c) (sym (num-append f g)) in
-    let t : num (f ++ g) < 2 ^ 64 = lt-of-lt-of-le (num-lt (f ++ g)) (pow-mono {i = length (f ++ g)} {j = 64} (omega arith)) in
+    let t : num (f ++ g) < 2 ^ 64 =
+    lt-of-lt-of-le (num-lt (f ++ g)) (pow-mono {i = length (f ++ g)} {j = 64} (omega arith)) in
     record { number = rw s e; fits = rw s (omega arith); size = omega arith }
 
 -- what is gathered is below its power of 2, and its bits are those
@@ -82,7 +86,11 @@ pub record Known (f : List Bool) (value count : ℕ) : Type 0 where
 
 -- so it is for all that is gathered
 pub known : (f : List Bool) (r : Gathered) → Gathers f r → Known f (r .value) (r .count)
-known f r g = record { below = rw (g .value-is, g .count-is) (num-lt f); bits = rw (g .value-is, g .count-is) (low-num f) }
+known f r g =
+    record {
+      below = rw (g .value-is, g .count-is) (num-lt f);
+      bits = rw (g .value-is, g .count-is) (low-num f);
+    }
 
 -- ones and a zero are a power of 2 less 1
 pub unary-num : (c : ℕ) → 2 ^ c - 1 ≡ num (unaryField c)
@@ -121,7 +129,9 @@ module _ (d x c : ℕ) where
 
   -- and how many they are
   pub long-size : x ≤ c → d + 1 ≡ length (codeBits (d + 1) x c)
-  long-size h = rw (code-long h) (sym (length-append (low d ((c + x) / 2)) (low 1 (c + x)) ∙ ap₂ (λ (a b : ℕ). a + b) (length-low d ((c + x) / 2)) (length-low 1 (c + x))))
+  long-size h =
+      rw (code-long h) (sym (length-append (low d ((c + x) / 2)) (low 1 (c + x))
+      ∙ ap₂ (λ (a b : ℕ). a + b) (length-low d ((c + x) / 2)) (length-low 1 (c + x))))
 
 -- a code inside an interval whose last code is M, by the bit length of M with its low bit set: one
 -- rule for M = 0 too
@@ -144,12 +154,22 @@ unfolding codeField
 uniform M c b h l e =
     let g : Long (M / 2 * 2 + 1) b = rw e (long (M / 2 * 2 + 1) (omega arith) (omega arith)) in
     let w : b ≤ 28 = long-le (M / 2 * 2 + 1) b 28 g (omega arith) in
-    record { some = g .some; most = w; twice = g .twice; above = omega arith; extras = omega arith; sum = omega arith; is = go (decLt 0 M) g }
+    record {
+      some = g .some;
+      most = w;
+      twice = g .twice;
+      above = omega arith;
+      extras = omega arith;
+      sum = omega arith;
+      is = go (decLt 0 M) g;
+    }
   where
     go : Dec (0 < M) → Long (M / 2 * 2 + 1) b → codeField M c ≡ codeBits b (2 ^ b - M - 1) c
     go (yes p) g =
         let m = long M p (omega arith) in
-        let k : bitLength M ≡ b = long-same (M / 2 * 2 + 1) (bitLength M) b (record { some = m .some; twice = m .twice; above = omega arith; below = omega arith }) g in
+        let k : bitLength M ≡ b =
+        long-same (M / 2 * 2 + 1) (bitLength M) b
+        (record { some = m .some; twice = m .twice; above = omega arith; below = omega arith }) g in
         rw (ne-eqb M 0 (λ z. omega arith), k)
     go (no p) g =
         let z : M ≡ 0 = omega arith in

@@ -30,6 +30,7 @@ truncatedBinary bits p M = cond (eqb M 0) (Value 0 p) (codeOf bits p (bitLength 
 -- the code that stands at the start of a window of at least 31 bits, wherever that is, and the bits
 -- that it takes: no more than hold the last code
 pub record CodeIn (v M code used : ℕ) : Type 0 where
-  pub is : (bits : List Bool) (p j : ℕ) → Window bits p j v → 31 ≤ j → truncatedBinary bits p M ≡ Value code (p + used)
+  pub is : (bits : List Bool) (p j : ℕ) → Window bits p j v → 31 ≤ j
+      → truncatedBinary bits p M ≡ Value code (p + used)
   pub within : code ≤ M
   pub most : (w : ℕ) → M < 2 ^ w → used ≤ w

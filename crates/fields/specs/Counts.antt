@@ -13,7 +13,8 @@ use Rattle.fields.specs.declared.Prefix.{Prefix}
 
 -- document 01 (N1): "0 and 1 stand for themselves; else c - 1 bits under an implied top bit"
 unfoldable pub counted : List Bool → ℕ → ℕ → Field
-counted bits q c = cond (ltb c 2) (Value c q) (andThen (getBits bits q (c - 1)) λ v n. Value (2 ^ (c - 1) + v) n)
+counted bits q c =
+    cond (ltb c 2) (Value c q) (andThen (getBits bits q (c - 1)) λ v n. Value (2 ^ (c - 1) + v) n)
 
 -- document 01 (N1): "c ones up to a zero. c of 33 or more: Truncated"
 unfoldable pub runLength : List Bool → ℕ → Field
@@ -31,9 +32,12 @@ unfoldable pub escaped : List Bool → ℕ → ℕ → Prefix
 escaped bits c q =
     cond (eqb c 33) Prefix.EndOfStream (
     cond (ltb 33 c) Prefix.Truncated (
-    thenPrefix (counted bits q c) λ v n. cond (leb (16 + v) 4294967295) (Prefix.Value (16 + v) n) Prefix.Truncated))
+    thenPrefix (counted bits q c) λ v n.
+    cond (leb (16 + v) 4294967295) (Prefix.Value (16 + v) n) Prefix.Truncated))
 
 -- document 01 (N2): "fewer than 16 ones mean their count; 16 or more are followed by a second
 -- count"
 unfoldable pub prefix : List Bool → ℕ → Prefix
-prefix bits p = thenPrefix (unary bits p) λ r q. cond (ltb r 16) (Prefix.Value r q) (thenPrefix (unary bits q) (escaped bits))
+prefix bits p =
+    thenPrefix (unary bits p) λ r q.
+    cond (ltb r 16) (Prefix.Value r q) (thenPrefix (unary bits q) (escaped bits))

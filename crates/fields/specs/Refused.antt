@@ -42,7 +42,8 @@ pub data NoPrefix (bits : List Bool) (p : ℕ) : Type 0 where
   no-second-zero : (r q : ℕ) → unary bits p ≡ Value r q → 16 ≤ r → NoZero bits q → NoPrefix bits p
   over : (c n : ℕ) → Second bits p c n → 33 < c → NoPrefix bits p
   missing : (c n : ℕ) → Second bits p c n → Missing bits n (c - 1) → NoPrefix bits p
-  value-over : (c n v m : ℕ) → Second bits p c n → counted bits n c ≡ Value v m → 4294967295 < 16 + v → NoPrefix bits p
+  value-over : (c n v m : ℕ) → Second bits p c n → counted bits n c ≡ Value v m → 4294967295 < 16 + v
+      → NoPrefix bits p
 
 -- the stream ends at p: the second count is 33
 pub record Ends (bits : List Bool) (p : ℕ) : Type 0 where

@@ -34,7 +34,11 @@ pub record Fits (r : Located) : Type 0 where
 pub located-fits : (m : Medians) (x : ℕ) (r : Located) → Small m → x < residualSpan → LocatedIs m x r → Fits r
 located-fits m x r s h l =
     let k = smallest m x s h in
-    record { within = omega (arith, l .code-is, l .last-is, k .plain); wide = rw (l .last-is) (k .plain .wide); few = omega (arith, l .count-is, k .within) }
+    record {
+      within = omega (arith, l .code-is, l .last-is, k .plain);
+      wide = rw (l .last-is) (k .plain .wide);
+      few = omega (arith, l .count-is, k .within);
+    }
 
 -- a sign bit is below 2
 pub sign-lt : (v : ℤ) → sign v < 2
@@ -59,16 +63,19 @@ coded M x s c h g =
     }
 
 -- the parts, put together
-pub word-put : (before after : List ℕ) (at : ℕ) (m : Medians) (v : ℤ) (lz lo more : Bool) (x s p place : ℕ) (r : Located) (c : Gathered) → x ≡ mag v → LocatedIs m x r
+pub word-put : (before after : List ℕ) (at : ℕ) (m : Medians) (v : ℤ) (lz lo more : Bool) (x s p place : ℕ)
+    (r : Located) (c : Gathered) → x ≡ mag v → LocatedIs m x r
     → s ≡ sign v → Gathers (codeField (r .last) (r .code) ++ low 1 s) c → p ≡ prefixOf (r .count) lo more
-    → PutIs before after at (cond lz (low (c .count) (c .value)) (prefixField p ++ low (c .count) (c .value))) place
+    → PutIs before after at
+    (cond lz (low (c .count) (c .value)) (prefixField p ++ low (c .count) (c .value))) place
     → WordIs before after at m v lz lo more (record { place = place; m0 = r .m0; m1 = r .m1; m2 = r .m2 })
 unfolding valueField
 word-put before after at m v lz lo more x s p place r c xe l se g pe h =
     let k : x ≡ mag v = xe in
     let f : low (c .count) (c .value) ≡ valueField m (count m (mag v)) v =
     known (codeField (r .last) (r .code) ++ low 1 s) c g .bits ∙ rw (l .last-is, l .code-is, xe, se) in
-    let q : p ≡ prefixOf (count m (mag v)) lo more = pe ∙ ap (λ (n : ℕ). prefixOf n lo more) (l .count-is ∙ ap (count m) xe) in
+    let q : p ≡ prefixOf (count m (mag v)) lo more =
+    pe ∙ ap (λ (n : ℕ). prefixOf n lo more) (l .count-is ∙ ap (count m) xe) in
     record {
       put-is = rw (f, q) at h;
       medians-are = rw xe at (l .medians-are);

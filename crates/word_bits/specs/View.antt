@@ -47,7 +47,8 @@ pub record PutIs (before after : List ℕ) (at : ℕ) (f : List Bool) (r : ℕ) 
   pub place : r ≡ at + length f
 
 -- such a word written, and the medians after it
-pub record WordIs (before after : List ℕ) (at : ℕ) (m : Medians) (v : ℤ) (lastZero lastOne more : Bool) (r : Word) : Type 0 where
+pub record WordIs (before after : List ℕ) (at : ℕ) (m : Medians) (v : ℤ) (lastZero lastOne more : Bool)
+    (r : Word) : Type 0 where
   pub put-is : PutIs before after at (wordField lastZero lastOne more m v) (r .place)
   pub medians-are : record { m0 = r .m0; m1 = r .m1; m2 = r .m2 } ≡ adapt m (count m (mag v))
 

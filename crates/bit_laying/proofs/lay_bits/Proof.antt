@@ -15,7 +15,9 @@ returns c =
     let after-slice-known : tie.After-slice-known = search needs in
     let a = start .args in
     let r = c .before .before .put-bits in (
-      put-lent (now (a .out)) (r .last .0) (a .at) _ (low (a .count) (a .v)) (λ i. omega (arith, after-slice-known .slice-known .given i)) (omega arith) refl (r .ensures) (r .kept .0),
+      put-lent (now (a .out)) (r .last .0) (a .at) _ (low (a .count) (a .v))
+          (λ i. omega (arith, after-slice-known .slice-known .given i)) (omega arith) refl (r .ensures)
+          (r .kept .0),
       refl,
     )
 

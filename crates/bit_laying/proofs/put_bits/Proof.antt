@@ -14,7 +14,8 @@ use Rattle.bit_laying.proofs.put_bits.Statement.{statement}
 use Rattle.bit_laying.proofs.put_bits.Tie as tie
 
 abbrev Inv-loop : tie.InvT-loop
-Inv-loop out₀ at v count i₀ p₀ out i p = (i ≤ count) × (p ≡ at + i) × (length out ≡ length out₀) × (out ≡ put out₀ at (low i v))
+Inv-loop out₀ at v count i₀ p₀ out i p =
+    (i ≤ count) × (p ≡ at + i) × (length out ≡ length out₀) × (out ≡ put out₀ at (low i v))
 
 abbrev μ-loop : tie.MeasureT-loop
 μ-loop out₀ at v count i₀ p₀ out i p = count - i
@@ -33,7 +34,8 @@ loop-again c =
       omega arith,
       omega arith,
       omega arith,
-      k .ensures ∙ rw (l .inv .3, l .inv .1) (put-low (now (a .out)) (a .at) (l .i) (after-least .least .result) (a .v) (omega arith)),
+      k .ensures ∙ rw (l .inv .3, l .inv .1)
+          (put-low (now (a .out)) (a .at) (l .i) (after-least .least .result) (a .v) (omega arith)),
     )
 
 returns : tie.Need-returns Inv-loop μ-loop

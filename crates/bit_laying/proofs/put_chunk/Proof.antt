@@ -16,10 +16,12 @@ returns c =
     let a = start .args in
     let f = low (a .m) (a .v) in
     rw (c .join .ensures, ← num-low (a .m) (a .v))
-    (put-byte (now (a .out)) (a .at) f (λ i. omega (arith, c .before .slice-known2 .given i)) (omega arith) (omega (arith, length-low (a .m) (a .v)))
+    (put-byte (now (a .out)) (a .at) f (λ i. omega (arith, c .before .slice-known2 .given i)) (omega arith)
+    (omega (arith, length-low (a .m) (a .v)))
     (omega (arith, length-low (a .m) (a .v))))
 
 pub put-chunk-spec : {M : Type 1} → statement M
 put-chunk-spec =
     tie.close
-    (tie.spec (λ c. search needs) (λ c. search needs) (λ c κs. search needs) (λ c. search needs) (λ c. search needs) returns)
+    (tie.spec (λ c. search needs) (λ c. search needs) (λ c κs. search needs) (λ c. search needs)
+    (λ c. search needs) returns)

@@ -29,7 +29,8 @@ returns c =
     let a = start .args in
     let n = length-unary (a .c) in (
       c .before .before .put-bits2 .ensures
-          ∙ put-two (now (a .out)) _ (a .at) _ (low (a .c) 4294967295) (low 1 0) (after-put-bits .put-bits .ensures)
+          ∙ put-two (now (a .out)) _ (a .at) _ (low (a .c) 4294967295) (low 1 0)
+          (after-put-bits .put-bits .ensures)
           (ap (λ (k : ℕ). a .at + k) (sym (length-low (a .c) 4294967295))) (omega arith)
           ∙ ap (put (now (a .out)) (a .at)) (sym (unary-parts (a .c) (omega arith))),
       omega arith,
@@ -37,4 +38,5 @@ returns c =
 
 pub put-unary-spec : {M : Type 1} → statement M
 put-unary-spec =
-    tie.close (tie.spec put-bits-requires (λ c. search needs) put-bits-requires-2 (λ c. search needs) (λ c. search needs) returns)
+    tie.close (tie.spec put-bits-requires (λ c. search needs) put-bits-requires-2 (λ c. search needs)
+    (λ c. search needs) returns)

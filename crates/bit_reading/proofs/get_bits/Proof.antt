@@ -38,12 +38,14 @@ returns-3 c =
 
 read : (c : tie.After-window) →
     let a = c .before .before .before .before .args in
-    getBits (bitsOf (now (a .s))) (a .at) (a .count) ≡ Value (c .window .result / 2 ^ (a .at % 8) % 2 ^ a .count) (a .at + a .count)
+    getBits (bitsOf (now (a .s))) (a .at) (a .count)
+    ≡ Value (c .window .result / 2 ^ (a .at % 8) % 2 ^ a .count) (a .at + a .count)
 read c =
     let start : tie.Start = search needs in
     let a = start .args in
     let s = now (a .s) in
-    window-bits _ _ (8 * min 8 (length s - a .at / 8) - a .at % 8) _ (a .count) (tail-window s (a .at) _ (omega arith) (c .window .ensures)) (omega arith)
+    window-bits _ _ (8 * min 8 (length s - a .at / 8) - a .at % 8) _ (a .count)
+    (tail-window s (a .at) _ (omega arith) (c .window .ensures)) (omega arith)
 
 rem-x : tie.Need-rem-x
 rem-x c =
@@ -53,7 +55,8 @@ rem-x c =
 cast-t19 : tie.Need-cast-t19
 cast-t19 c =
     let start : tie.Start = search needs in
-    let k = start .args .count in rw (shl-one k 64 (omega arith)) (record { fits = bits-lt _ _ k _ _ 32 (read c) (omega arith) })
+    let k = start .args .count in
+    rw (shl-one k 64 (omega arith)) (record { fits = bits-lt _ _ k _ _ 32 (read c) (omega arith) })
 
 returns-4 : tie.Need-returns-4
 returns-4 c =

@@ -21,7 +21,11 @@ unfolding bitsRead
 returns-3 c =
     let else1 : tie.Else1 = search needs in
     let else2 : tie.Else2 = search needs in
-    rw (le-ltb _ _ (else1 .if1 .left), le-ltb _ _ (else2 .if2 .left), sym (c .before .before .get-bits .ensures) ∙ c .enum-told .given .1)
+    rw (
+      le-ltb _ _ (else1 .if1 .left),
+      le-ltb _ _ (else2 .if2 .left),
+      sym (c .before .before .get-bits .ensures) ∙ c .enum-told .given .1,
+    )
 
 returns-4 : tie.Need-returns-4
 unfolding bitsRead
@@ -29,9 +33,14 @@ returns-4 c =
     let else1 : tie.Else1 = search needs in
     let else2 : tie.Else2 = search needs in
     let after-get-bits : tie.After-get-bits = search needs in
-    rw (le-ltb _ _ (else1 .if1 .left), le-ltb _ _ (else2 .if2 .left), sym (after-get-bits .get-bits .ensures) ∙ c .before .v .given .1)
+    rw (
+      le-ltb _ _ (else1 .if1 .left),
+      le-ltb _ _ (else2 .if2 .left),
+      sym (after-get-bits .get-bits .ensures) ∙ c .before .v .given .1,
+    )
 
 pub checked-get-bits-spec : {M : Type 1} → statement M
 checked-get-bits-spec =
     tie.close
-    (tie.spec returns returns-2 (λ c κs. search needs) (λ c. search needs) (λ c. search needs) returns-3 returns-4)
+    (tie.spec returns returns-2 (λ c κs. search needs) (λ c. search needs) (λ c. search needs) returns-3
+    returns-4)

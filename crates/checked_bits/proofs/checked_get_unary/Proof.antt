@@ -27,4 +27,5 @@ returns-3 c =
 
 pub checked-get-unary-spec : {M : Type 1} → statement M
 checked-get-unary-spec =
-    tie.close (tie.spec returns (λ c κs. search needs) (λ c. search needs) (λ c. search needs) returns-2 returns-3)
+    tie.close (tie.spec returns (λ c κs. search needs) (λ c. search needs) (λ c. search needs) returns-2
+    returns-3)

@@ -28,14 +28,16 @@ returns-3 : tie.Need-returns-3
 returns-3 c =
     let start : tie.Start = search needs in
     let a = start .args in
-    let e = written-short (now (a .out)) (a .at) (a .v) (a .count) (omega arith) (omega arith) (omega arith) in
+    let e =
+    written-short (now (a .out)) (a .at) (a .v) (a .count) (omega arith) (omega arith) (omega arith) in
     (rw e, rw e)
 
 returns-4 : tie.Need-returns-4
 returns-4 c =
     let start : tie.Start = search needs in
     let a = start .args in
-    let e = written-short (now (a .out)) (a .at) (a .v) (a .count) (omega arith) (omega arith) (omega arith) in
+    let e =
+    written-short (now (a .out)) (a .at) (a .v) (a .count) (omega arith) (omega arith) (omega arith) in
     (rw e, rw e)
 
 returns-5 : tie.Need-returns-5
@@ -43,7 +45,8 @@ returns-5 c =
     let start : tie.Start = search needs in
     let a = start .args in
     let l = c .before .before .lay-bits in
-    let e = written-accepted (now (a .out)) (a .at) (a .v) (a .count) (omega arith) (omega arith) (omega arith) in
+    let e =
+    written-accepted (now (a .out)) (a .at) (a .v) (a .count) (omega arith) (omega arith) (omega arith) in
     (rw e (ap (λ (n : ℕ). 0 ∷ n ∷ []) (l .ensures .1)), rw e (l .ensures .0))
 
 pub checked-put-bits-spec : {M : Type 1} → statement M

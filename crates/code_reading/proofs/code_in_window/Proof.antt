@@ -35,7 +35,10 @@ parts v M b w =
     }
 
 len : (c : tie.After-bit-length) → let a = c .before .args in Parts (a .v) (a .last) (c .bit-length .result)
-len c = let a = c .before .args in parts (a .v) (a .last) (c .bit-length .result) (wide (a .last) (c .bit-length .result) (omega arith) (c .bit-length .ensures))
+len c =
+    let a = c .before .args in
+    parts (a .v) (a .last) (c .bit-length .result)
+    (wide (a .last) (c .bit-length .result) (omega arith) (c .bit-length .ensures))
 
 sub-short-width : tie.Need-sub-short-width
 sub-short-width c = omega (arith, len c .wide-is .some)
@@ -67,12 +70,14 @@ chosen-requires c κs = let l = len c in rw (l .one) (omega arith, omega arith)
 -- the code is what the choices give
 is : (c : tie.After-reached) →
     let d = c .before .before in
-    CodeIn (d .before .args .v) (d .before .args .last) (c .before .chosen .result) (d .bit-length .result - 1 + c .reached .result)
+    CodeIn (d .before .args .v) (d .before .args .last) (c .before .chosen .result)
+    (d .bit-length .result - 1 + c .reached .result)
 is c =
     let d = c .before .before in
     let a = d .before .args in
     let l = len d in
-    rw (c .before .chosen .ensures, c .reached .ensures, l .one, l .two) (code-in (a .v) (a .last) (d .bit-length .result) (omega arith) (l .wide-is))
+    rw (c .before .chosen .ensures, c .reached .ensures, l .one, l .two)
+    (code-in (a .v) (a .last) (d .bit-length .result) (omega arith) (l .wide-is))
 
 add-t9 : tie.Need-add-t9
 add-t9 c = omega (arith, is c .most 31 (omega arith))

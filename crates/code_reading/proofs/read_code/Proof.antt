@@ -36,12 +36,17 @@ unfolding codeOf
 returns-3 c =
     let after-known-told : tie.After-known-told = search needs in
     let else1 : tie.Else1 = search needs in
-    rw (first after-known-told, le-ltb _ _ (else1 .if1 .left), sym (c .before .before .get-bit .ensures) ∙ c .enum-told2 .given .1)
+    rw (
+      first after-known-told,
+      le-ltb _ _ (else1 .if1 .left),
+      sym (c .before .before .get-bit .ensures) ∙ c .enum-told2 .given .1,
+    )
 
 second : (c : tie.After-known-told2) →
     let a = c .before .before .before .before .before .before .before .before .before .before .args in
     let t = c .before .extra .given .0 in
-    getBits (bitsOf (now (a .payload))) (c .before .before .before .before .before .before .short .given .0 .1 .0) 1 ≡ Value (t .0) (t .1 .0)
+    getBits (bitsOf (now (a .payload)))
+    (c .before .before .before .before .before .before .short .given .0 .1 .0) 1 ≡ Value (t .0) (t .1 .0)
 second c =
     let after-get-bit : tie.After-get-bit = search needs in
     sym (after-get-bit .get-bit .ensures) ∙ c .before .extra .given .1
@@ -50,14 +55,19 @@ mul-t10 : tie.Need-mul-t10
 mul-t10 c =
     let start : tie.Start = search needs in
     let after-known-told : tie.After-known-told = search needs in
-    let b = start .args .width in omega (arith, bits-lt _ _ (b - 1) _ _ 30 (first after-known-told) (omega arith))
+    let b = start .args .width in
+    omega (arith, bits-lt _ _ (b - 1) _ _ 30 (first after-known-told) (omega arith))
 
 add-t14 : tie.Need-add-t14
 add-t14 c =
     let start : tie.Start = search needs in
     let after-known-told : tie.After-known-told = search needs in
     let b = start .args .width in
-    omega (arith, bits-lt _ _ (b - 1) _ _ 30 (first after-known-told) (omega arith), bits-lt _ _ 1 _ _ 1 (second c) (omega arith))
+    omega (
+      arith,
+      bits-lt _ _ (b - 1) _ _ 30 (first after-known-told) (omega arith),
+      bits-lt _ _ 1 _ _ 1 (second c) (omega arith),
+    )
 
 returns-4 : tie.Need-returns-4
 unfolding codeOf

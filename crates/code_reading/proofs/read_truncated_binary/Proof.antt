@@ -47,7 +47,8 @@ returns-2 : tie.Need-returns-2
 unfolding truncatedBinary
 returns-2 c =
     let l = len (c .before) in
-    rw (ne-eqb _ _ (c .before .before .if1 .left), ← c .before .bit-length .ensures, ← l .2) (c .read-code .ensures)
+    rw (ne-eqb _ _ (c .before .before .if1 .left), ← c .before .bit-length .ensures, ← l .2)
+    (c .read-code .ensures)
 
 pub read-truncated-binary-spec : {M : Type 1} → statement M
 read-truncated-binary-spec =

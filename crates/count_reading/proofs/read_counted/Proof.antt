@@ -29,7 +29,8 @@ returns-2 c =
 
 read : (c : tie.After-known-told) →
     let a = c .before .before .before .before .before .before .args in
-    getBits (bitsOf (now (a .payload))) (a .place) (a .ones - 1) ≡ Value (c .before .low .given .0 .0) (c .before .low .given .0 .1 .0)
+    getBits (bitsOf (now (a .payload))) (a .place) (a .ones - 1)
+    ≡ Value (c .before .low .given .0 .0) (c .before .low .given .0 .1 .0)
 read c =
     let after-get-bits : tie.After-get-bits = search needs in
     sym (after-get-bits .get-bits .ensures) ∙ c .before .low .given .1
@@ -38,7 +39,12 @@ add-t10 : tie.Need-add-t10
 add-t10 c =
     let start : tie.Start = search needs in
     let m = start .args .ones - 1 in
-    omega (arith, shl-one m 32 (omega arith), bits-lt _ _ m _ _ m (read c) (omega arith), pow-mono {i = suc m} {j = 32} (omega arith))
+    omega (
+      arith,
+      shl-one m 32 (omega arith),
+      bits-lt _ _ m _ _ m (read c) (omega arith),
+      pow-mono {i = suc m} {j = 32} (omega arith),
+    )
 
 returns-3 : tie.Need-returns-3
 unfolding counted

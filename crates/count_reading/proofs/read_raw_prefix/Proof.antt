@@ -23,7 +23,9 @@ returns c = rw (sym (c .before .before .get-unary .ensures) ∙ c .enum-told .gi
 
 -- what each part gave, on the way past it
 first : (c : tie.After-known-told) →
-    unary (bitsOf (now (c .before .before .before .before .before .args .payload))) (c .before .before .before .before .before .args .place) ≡ Value (c .before .first .given .0 .0) (c .before .first .given .0 .1 .0)
+    unary (bitsOf (now (c .before .before .before .before .before .args .payload)))
+    (c .before .before .before .before .before .args .place)
+    ≡ Value (c .before .first .given .0 .0) (c .before .first .given .0 .1 .0)
 first c =
     let after-get-unary : tie.After-get-unary = search needs in
     sym (after-get-unary .get-unary .ensures) ∙ c .before .first .given .1
@@ -37,7 +39,11 @@ unfolding prefix
 returns-3 c =
     let after-known-told : tie.After-known-told = search needs in
     let else1 : tie.Else1 = search needs in
-    rw (first after-known-told, le-ltb _ _ (else1 .if1 .left), sym (c .before .before .get-unary2 .ensures) ∙ c .enum-told2 .given .1)
+    rw (
+      first after-known-told,
+      le-ltb _ _ (else1 .if1 .left),
+      sym (c .before .before .get-unary2 .ensures) ∙ c .enum-told2 .given .1,
+    )
 
 past : (c : tie.After-known-told2) →
     let a = c .before .before .before .before .before .before .before .before .before .before .args in
@@ -48,7 +54,11 @@ past c =
     let after-known-told : tie.After-known-told = search needs in
     let else1 : tie.Else1 = search needs in
     let after-get-unary2 : tie.After-get-unary2 = search needs in
-    rw (first after-known-told, le-ltb _ _ (else1 .if1 .left), sym (after-get-unary2 .get-unary2 .ensures) ∙ c .before .second .given .1)
+    rw (
+      first after-known-told,
+      le-ltb _ _ (else1 .if1 .left),
+      sym (after-get-unary2 .get-unary2 .ensures) ∙ c .before .second .given .1,
+    )
 
 returns-4 : tie.Need-returns-4
 unfolding escaped
@@ -73,9 +83,12 @@ returns-6 c =
     )
 
 third : (c : tie.After-known-told3) →
-    let a = c .before .before .before .before .before .before .before .before .before .before .before .before .before .before .before .before .args in
+    let a =
+    c .before .before .before .before .before .before .before .before .before .before .before .before
+    .before .before .before .before .args in
     let v = c .before .rest .given .0 in
-    prefix (bitsOf (now (a .payload))) (a .place) ≡ cond (leb (16 + v .0) 4294967295) (Prefix.Value (16 + v .0) (v .1 .0)) Prefix.Truncated
+    prefix (bitsOf (now (a .payload))) (a .place)
+    ≡ cond (leb (16 + v .0) 4294967295) (Prefix.Value (16 + v .0) (v .1 .0)) Prefix.Truncated
 unfolding escaped
 third c =
     let after-known-told2 : tie.After-known-told2 = search needs in
@@ -89,10 +102,12 @@ third c =
     )
 
 returns-7 : tie.Need-returns-7
-returns-7 c = rw (third (c .before), lt-leb (16 + c .before .before .rest .given .0 .0) 4294967295 (omega arith))
+returns-7 c =
+    rw (third (c .before), lt-leb (16 + c .before .before .rest .given .0 .0) 4294967295 (omega arith))
 
 returns-8 : tie.Need-returns-8
-returns-8 c = rw (third (c .before), le-leb (16 + c .before .before .rest .given .0 .0) 4294967295 (omega arith))
+returns-8 c =
+    rw (third (c .before), le-leb (16 + c .before .before .rest .given .0 .0) 4294967295 (omega arith))
 
 pub read-raw-prefix-spec : {M : Type 1} → statement M
 read-raw-prefix-spec =

@@ -26,7 +26,8 @@ returns-3 c =
     let after-get-unary : tie.After-get-unary = search needs in
     let after-ones : tie.After-ones = search needs in
     let n = after-ones .ones .given in
-    rw (sym (after-get-unary .get-unary .ensures) ∙ n .1, lt-ltb (n .0 .0) 33 (omega arith)) (c .read-counted .ensures)
+    rw (sym (after-get-unary .get-unary .ensures) ∙ n .1, lt-ltb (n .0 .0) 33 (omega arith))
+    (c .read-counted .ensures)
 
 pub read-zero-run-length-spec : {M : Type 1} → statement M
 read-zero-run-length-spec =

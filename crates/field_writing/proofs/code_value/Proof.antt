@@ -15,7 +15,9 @@ power : (c : tie.Else1) → 2 ^ c .before .args .digits ≤ 2 ^ 27
 power c = pow-mono {i = c .before .args .digits} {j = 27} (c .before .pre .0)
 
 -- so the odd bit stays within the word
-parity : (c : tie.Else1) → let a = c .before .args in (a .code + a .extras) % 2 * 2 ^ a .digits % 2 ^ 32 ≡ (a .code + a .extras) % 2 * 2 ^ a .digits
+parity : (c : tie.Else1) →
+    let a = c .before .args in
+    (a .code + a .extras) % 2 * 2 ^ a .digits % 2 ^ 32 ≡ (a .code + a .extras) % 2 * 2 ^ a .digits
 parity c = let a = c .before .args in shl-exact 1 (a .digits) 32 (omega arith) (omega arith)
 
 add-result : tie.Need-add-result
@@ -32,10 +34,14 @@ add-result-3 c =
     omega (arith, parity c)
 
 returns : tie.Need-returns
-returns c = let a = c .before .args in short-num (a .digits) (a .extras) (a .code) (c .if1 .taken) (c .before .pre .1 .0)
+returns c =
+    let a = c .before .args in
+    short-num (a .digits) (a .extras) (a .code) (c .if1 .taken) (c .before .pre .1 .0)
 
 returns-2 : tie.Need-returns-2
-returns-2 c = let a = c .before .args in rw (parity c) (long-num (a .digits) (a .extras) (a .code) (c .if1 .left) (c .before .pre .1 .1))
+returns-2 c =
+    let a = c .before .args in
+    rw (parity c) (long-num (a .digits) (a .extras) (a .code) (c .if1 .left) (c .before .pre .1 .1))
 
 pub code-value-spec : {M : Type 1} → statement M
 code-value-spec =

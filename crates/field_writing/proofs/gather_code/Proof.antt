@@ -16,10 +16,14 @@ use Rattle.field_writing.proofs.gather_code.Statement.{statement}
 use Rattle.field_writing.proofs.gather_code.Tie as tie
 
 -- what is known of the interval's bit length
-parts : (c : tie.After-bit-length) → Uniform (c .before .args .last) (c .before .args .code) (c .bit-length .result)
-parts c = uniform (c .before .args .last) (c .before .args .code) (c .bit-length .result) (omega arith) (omega arith) (c .bit-length .ensures)
+parts : (c : tie.After-bit-length)
+    → Uniform (c .before .args .last) (c .before .args .code) (c .bit-length .result)
+parts c =
+    uniform (c .before .args .last) (c .before .args .code) (c .bit-length .result) (omega arith)
+    (omega arith) (c .bit-length .ensures)
 
-shifted : (c : tie.After-bit-length) → 2 * 2 ^ (c .bit-length .result - 1) % 2 ^ 32 ≡ 2 ^ c .bit-length .result
+shifted : (c : tie.After-bit-length)
+    → 2 * 2 ^ (c .bit-length .result - 1) % 2 ^ 32 ≡ 2 ^ c .bit-length .result
 shifted c = let u = parts c in omega (arith, pow-mono {i = c .bit-length .result} {j = 28} (u .most))
 
 sub-digits : tie.Need-sub-digits
@@ -41,7 +45,9 @@ code-count-requires : tie.Need-code-count-requires
 code-count-requires c κs = let u = parts (c .before) in omega arith
 
 -- the code's bits are those of the definition
-is-code : (c : tie.After-u32-to-u642) → let a = c .before .before .before .before .before .args in let b = c .before .before .before .before .bit-length .result in
+is-code : (c : tie.After-u32-to-u642) →
+    let a = c .before .before .before .before .before .args in
+    let b = c .before .before .before .before .bit-length .result in
     codeBits (b - 1 + 1) (2 * 2 ^ (b - 1) % 2 ^ 32 - a .last - 1) (a .code) ≡ codeField (a .last) (a .code)
 is-code c =
     let start : tie.Start = search needs in
@@ -56,16 +62,23 @@ few : (c : tie.After-u32-to-u642) → c .before .before .code-count .result ≤ 
 few c =
     let start : tie.Start = search needs in
     let a = start .args in
-    omega (arith, c .before .before .code-count .ensures, ap length (is-code c), code-long (a .last) (a .code) 28 (omega arith) (omega arith))
+    omega (
+      arith,
+      c .before .before .code-count .ensures,
+      ap length (is-code c),
+      code-long (a .last) (a .code) 28 (omega arith) (omega arith),
+    )
 
 whole : (c : tie.After-u32-to-u642) → let a = c .before .before .before .before .before .args in
-    Joined (codeField (a .last) (a .code)) (low 1 (a .sign)) (c .before .u32-to-u64 .result) (c .before .before .code-count .result) (c .u32-to-u642 .result)
+    Joined (codeField (a .last) (a .code)) (low 1 (a .sign)) (c .before .u32-to-u64 .result)
+    (c .before .before .code-count .result) (c .u32-to-u642 .result)
 whole c =
     let start : tie.Start = search needs in
     let after-code-value : tie.After-code-value = search needs in
     let a = start .args in
     let l : a .sign < 2 ^ 1 = omega arith in
-    joined (codeField (a .last) (a .code)) (low 1 (a .sign)) (c .before .u32-to-u64 .result) (c .before .before .code-count .result) (c .u32-to-u642 .result)
+    joined (codeField (a .last) (a .code)) (low 1 (a .sign)) (c .before .u32-to-u64 .result)
+    (c .before .before .code-count .result) (c .u32-to-u642 .result)
     (c .before .u32-to-u64 .ensures ∙ after-code-value .code-value .ensures ∙ ap num (is-code c))
     (c .before .before .code-count .ensures ∙ ap length (is-code c))
     (c .u32-to-u642 .ensures ∙ sym (num-low 1 (a .sign) ∙ mod-eq-of-lt l))
@@ -83,7 +96,12 @@ add-t18 c = omega (arith, few c)
 returns : tie.Need-returns
 returns c =
     let start : tie.Start = search needs in
-    record { value-is = whole c .number; count-is = ap (λ (n : ℕ). c .before .before .code-count .result + n) (sym (length-low 1 (start .args .sign))) ∙ whole c .size }
+    record {
+      value-is = whole c .number;
+      count-is =
+          ap (λ (n : ℕ). c .before .before .code-count .result + n) (sym (length-low 1 (start .args .sign)))
+          ∙ whole c .size;
+    }
 
 pub gather-code-spec : {M : Type 1} → statement M
 gather-code-spec =

@@ -19,10 +19,12 @@ one n h = shl-one n 64 (omega arith)
 
 -- ones and a zero below, the word's other bits above
 whole : (c : tie.Start) → let a = c .args in
-    Joined (unaryField (a .ones)) (low (a .rest .count) (a .rest .value)) (1 * 2 ^ a .ones % 2 ^ 64 - 1) (a .ones + 1) (a .rest .value)
+    Joined (unaryField (a .ones)) (low (a .rest .count) (a .rest .value)) (1 * 2 ^ a .ones % 2 ^ 64 - 1)
+    (a .ones + 1) (a .rest .value)
 whole c =
     let a = c .args in
-    joined (unaryField (a .ones)) (low (a .rest .count) (a .rest .value)) (1 * 2 ^ a .ones % 2 ^ 64 - 1) (a .ones + 1) (a .rest .value)
+    joined (unaryField (a .ones)) (low (a .rest .count) (a .rest .value)) (1 * 2 ^ a .ones % 2 ^ 64 - 1)
+    (a .ones + 1) (a .rest .value)
     (rw (one (a .ones) (omega arith)) (unary-num (a .ones)))
     (sym (length-unary (a .ones)))
     (sym (num-low (a .rest .count) (a .rest .value) ∙ mod-eq-of-lt (c .pre .1 .1)))
@@ -38,7 +40,13 @@ returns : tie.Need-returns
 returns c =
     let a = c .before .before .args in
     let w = whole (c .before .before) in
-    record { value-is = w .number; count-is = ap (λ (n : ℕ). a .ones + 1 + n) (sym (length-low (a .rest .count) (a .rest .value))) ∙ w .size }
+    record {
+      value-is = w .number;
+      count-is =
+          ap (λ (n : ℕ). a .ones + 1 + n) (sym (length-low (a .rest .count) (a .rest .value))) ∙ w .size;
+    }
 
 pub gather-ones-spec : {M : Type 1} → statement M
-gather-ones-spec = tie.close (tie.spec (λ c. search needs) (λ c. search needs) sub-t7 (λ c. search needs) add-t10 (λ c. search needs) returns)
+gather-ones-spec =
+    tie.close (tie.spec (λ c. search needs) (λ c. search needs) sub-t7 (λ c. search needs) add-t10
+    (λ c. search needs) returns)

@@ -25,7 +25,13 @@ put-run-requires c κs =
     let after-put-unary : tie.After-put-unary = search needs in
     let v = start .args .prefix in
     let u = after-put-unary .put-unary in
-    omega (arith, u .ensures .1, u .kept .0, length-unary 16, length-two (unaryField 16) (runField (v - 16)) _ (prefix-escaped v (omega arith)))
+    omega (
+      arith,
+      u .ensures .1,
+      u .kept .0,
+      length-unary 16,
+      length-two (unaryField 16) (runField (v - 16)) _ (prefix-escaped v (omega arith)),
+    )
 
 returns : tie.Need-returns
 returns c =
@@ -35,7 +41,8 @@ returns c =
     let u = after-put-unary .put-unary in
     let r = c .before .before .put-run in
     let e = prefix-escaped (a .prefix) (omega arith) in (
-      r .ensures .0 ∙ put-two (now (a .out)) _ (a .at) _ (unaryField 16) (runField (a .prefix - 16)) (u .ensures .0) (u .ensures .1) (omega arith) ∙ ap (put (now (a .out)) (a .at)) (sym e),
+      r .ensures .0 ∙ put-two (now (a .out)) _ (a .at) _ (unaryField 16) (runField (a .prefix - 16))
+          (u .ensures .0) (u .ensures .1) (omega arith) ∙ ap (put (now (a .out)) (a .at)) (sym e),
       omega (arith, u .ensures .1, r .ensures .1, length-two (unaryField 16) (runField (a .prefix - 16)) _ e),
     )
 

@@ -29,7 +29,8 @@ parts : (c : tie.After-bit-length) → RunParts (c .before .before .before .args
 parts c = run-parts _ _ (c .before .if1 .left) (omega arith) (c .bit-length .ensures)
 
 put-unary-requires-2 : tie.Need-put-unary-requires-2
-put-unary-requires-2 c κs = let r = parts (c .before) in omega (arith, length-unary (c .before .bit-length .result))
+put-unary-requires-2 c κs =
+    let r = parts (c .before) in omega (arith, length-unary (c .before .bit-length .result))
 
 sub-put-bits : tie.Need-sub-put-bits
 sub-put-bits c =
@@ -40,7 +41,13 @@ put-bits-requires : tie.Need-put-bits-requires
 put-bits-requires c κs =
     let after-bit-length : tie.After-bit-length = search needs in
     let after-put-unary2 : tie.After-put-unary2 = search needs in
-    let r = parts after-bit-length in omega (arith, after-put-unary2 .put-unary2 .ensures .1, after-put-unary2 .put-unary2 .kept .0, length-unary (after-bit-length .bit-length .result))
+    let r = parts after-bit-length in
+    omega (
+      arith,
+      after-put-unary2 .put-unary2 .ensures .1,
+      after-put-unary2 .put-unary2 .kept .0,
+      length-unary (after-bit-length .bit-length .result),
+    )
 
 sub-result : tie.Need-sub-result
 sub-result c =
@@ -51,7 +58,12 @@ add-result : tie.Need-add-result
 add-result c =
     let after-bit-length : tie.After-bit-length = search needs in
     let after-put-unary2 : tie.After-put-unary2 = search needs in
-    let r = parts after-bit-length in omega (arith, after-put-unary2 .put-unary2 .ensures .1, length-unary (after-bit-length .bit-length .result))
+    let r = parts after-bit-length in
+    omega (
+      arith,
+      after-put-unary2 .put-unary2 .ensures .1,
+      length-unary (after-bit-length .bit-length .result),
+    )
 
 returns-2 : tie.Need-returns-2
 returns-2 c =
@@ -63,7 +75,8 @@ returns-2 c =
     let r = parts after-bit-length in
     let u = after-put-unary2 .put-unary2 in (
       c .before .before .put-bits .ensures
-          ∙ put-two (now (a .out)) _ (a .at) _ (unaryField b) (low (b - 1) (a .run)) (u .ensures .0) (u .ensures .1) (omega arith)
+          ∙ put-two (now (a .out)) _ (a .at) _ (unaryField b) (low (b - 1) (a .run)) (u .ensures .0)
+          (u .ensures .1) (omega arith)
           ∙ ap (put (now (a .out)) (a .at)) (sym (r .parts)),
       omega (arith, u .ensures .1),
     )

@@ -12,18 +12,21 @@ use Rattle.gathered_laying.proofs.put_gathered.Statement.{statement}
 use Rattle.gathered_laying.proofs.put_gathered.Tie as tie
 
 abbrev Inv-loop : tie.InvT-loop
-Inv-loop out₀ at value count end left₀ i₀ out left i = (i ≤ (end + 7) / 8) × Laying out₀ (held out₀ at count value) out left i
+Inv-loop out₀ at value count end left₀ i₀ out left i =
+    (i ≤ (end + 7) / 8) × Laying out₀ (held out₀ at count value) out left i
 
 abbrev μ-loop : tie.MeasureT-loop
 μ-loop out₀ at value count end left₀ i₀ out left i = end - 8 * i
 
 -- what the code joins before the loop
 joins : (c : tie.After-u8-to-u64 Inv-loop μ-loop) → let a = c .before .before .before .args in
-    Begun (now (a .out)) (a .at) (a .count) (a .value) (c .u8-to-u64 .result % (1 * 2 ^ a .at % 2 ^ 64) + a .value * 2 ^ a .at % 2 ^ 64)
+    Begun (now (a .out)) (a .at) (a .count) (a .value)
+    (c .u8-to-u64 .result % (1 * 2 ^ a .at % 2 ^ 64) + a .value * 2 ^ a .at % 2 ^ 64)
 joins c =
     let start : tie.Start Inv-loop μ-loop = search needs in
     let a = start .args in
-    rw (c .u8-to-u64 .ensures) (begun (now (a .out)) (a .at) (a .count) (a .value) (omega arith) (omega arith) (start .pre .1) (omega arith) (omega arith))
+    rw (c .u8-to-u64 .ensures) (begun (now (a .out)) (a .at) (a .count) (a .value) (omega arith) (omega arith)
+    (start .pre .1) (omega arith) (omega arith))
 
 rem-left : tie.Need-rem-left Inv-loop μ-loop
 rem-left c =
@@ -47,7 +50,8 @@ returns c =
     let start : tie.Start Inv-loop μ-loop = search needs in
     let a = start .args in
     let l = c .before .loop in
-    laying-end (now (a .out)) (a .at) (a .count) (a .value) (l .out) (l .left) (l .i) (omega arith) (omega arith) (omega arith) (omega arith) (l .inv .1)
+    laying-end (now (a .out)) (a .at) (a .count) (a .value) (l .out) (l .left) (l .i) (omega arith)
+    (omega arith) (omega arith) (omega arith) (l .inv .1)
 
 pub put-gathered-spec : {M : Type 1} → statement M
 put-gathered-spec =

@@ -18,10 +18,12 @@ returns c =
     let start : tie.Start = search needs in
     let a = start .args in
     let f : SFits w32 (getD (now (a .residuals)) (a .next) (pos 0)) = search needs in
-    rw (c .magnitude .ensures, toZ-ofZ f) (ahead-some (mediansOf (a .medians)) (now (a .residuals)) (a .next) (start .pre) (omega arith))
+    rw (c .magnitude .ensures, toZ-ofZ f)
+    (ahead-some (mediansOf (a .medians)) (now (a .residuals)) (a .next) (start .pre) (omega arith))
 
 returns-2 : tie.Need-returns-2
-returns-2 c = let a = c .before .args in ahead-end (mediansOf (a .medians)) (now (a .residuals)) (a .next) (omega arith)
+returns-2 c =
+    let a = c .before .args in ahead-end (mediansOf (a .medians)) (now (a .residuals)) (a .next) (omega arith)
 
 pub is-ahead-spec : {M : Type 1} → statement M
 is-ahead-spec =

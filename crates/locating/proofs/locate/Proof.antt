@@ -11,12 +11,15 @@ use Rattle.locating.proofs.locate.Tie as tie
 returns : tie.Need-returns
 returns c =
     let s : tie.Start = search needs in
-    located-first (mediansOf (s .args .medians)) (s .args .magnitude) _ (s .pre .0) (omega arith) (omega arith) refl refl refl (c .dec-median .ensures) refl refl
+    located-first (mediansOf (s .args .medians)) (s .args .magnitude) _ (s .pre .0) (omega arith)
+    (omega arith) refl refl refl (c .dec-median .ensures) refl refl
 
 returns-2 : tie.Need-returns-2
 returns-2 c =
     let s : tie.Start = search needs in
-    located-second (mediansOf (s .args .medians)) (s .args .magnitude) _ (s .pre .0) (omega arith) (omega arith) (omega arith) refl refl refl (c .before .before .inc-median .ensures) (c .dec-median2 .ensures) refl
+    located-second (mediansOf (s .args .medians)) (s .args .magnitude) _ (s .pre .0) (omega arith)
+    (omega arith) (omega arith) refl refl refl (c .before .before .inc-median .ensures)
+    (c .dec-median2 .ensures) refl
 
 returns-3 : tie.Need-returns-3
 returns-3 c =

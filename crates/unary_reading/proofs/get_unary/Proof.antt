@@ -10,7 +10,8 @@ use lib.Count.{trailingZeros}
 use lib.ListN.{length, length-drop}
 use Rattle.bits.specs.Bits.{bitsOf}
 use Rattle.bits.proofs.BitLaws.{length-bits}
-use Rattle.bits.proofs.OnesLaws.{Counted, counted, Passed, passed-none, passed-on, passed-stop, Whole, passed-whole, passed-missing}
+use Rattle.bits.proofs.OnesLaws.{Counted, counted, Passed, passed-none, passed-on, passed-stop}
+use Rattle.bits.proofs.OnesLaws.{Whole, passed-whole, passed-missing}
 use Rattle.bits.proofs.Window.{place-window}
 use Rattle.unary_reading.proofs.get_unary.Statement.{statement}
 use Rattle.unary_reading.proofs.get_unary.Tie as tie
@@ -32,13 +33,15 @@ add-loop c =
 -- what the count of the window at p says
 here : (c : tie.After-eight Inv-loop μ-loop) →
     let p = c .before .before .loop .p in
-    Counted (bitsOf (now (c .before .before .before .before .args .s))) p (8 * 8 - p % 8) (trailingZeros 64 (2 ^ 64 - 1 - c .eight .result / 2 ^ (p % 8)))
+    Counted (bitsOf (now (c .before .before .before .before .args .s))) p (8 * 8 - p % 8)
+    (trailingZeros 64 (2 ^ 64 - 1 - c .eight .result / 2 ^ (p % 8)))
 here c =
     let start : tie.Start Inv-loop μ-loop = search needs in
     let at-loop : tie.At-loop Inv-loop μ-loop = search needs in
     let s = now (start .args .s) in
     let p = at-loop .loop .p in
-    counted (bitsOf s) p (8 * 8 - p % 8) 64 _ (place-window s p 8 _ (omega arith) (omega arith) (c .eight .ensures)) (omega arith)
+    counted (bitsOf s) p (8 * 8 - p % 8) 64 _
+    (place-window s p 8 _ (omega arith) (omega arith) (c .eight .ensures)) (omega arith)
 
 returns : tie.Need-returns Inv-loop μ-loop
 returns c =
@@ -56,19 +59,22 @@ returns-2 : tie.Need-returns-2 Inv-loop μ-loop
 returns-2 c =
     let after-get-unary-in-bytes : tie.After-get-unary-in-bytes Inv-loop μ-loop = search needs in
     let after-loop : tie.After-loop Inv-loop μ-loop = search needs in
-    sym (passed-missing (after-loop .before .loop .inv) (sym (after-get-unary-in-bytes .get-unary-in-bytes .ensures) ∙ c .enum-told .given .1))
+    sym (passed-missing (after-loop .before .loop .inv)
+    (sym (after-get-unary-in-bytes .get-unary-in-bytes .ensures) ∙ c .enum-told .given .1))
 
 -- the whole count, where the last bytes have a zero, and how many bits there are
 whole : (c : tie.After-known-told Inv-loop μ-loop) →
     let a = c .before .before .before .before .before .before .before .args in
     let found = c .before .n .given .0 in
-    Whole (bitsOf (now (a .s))) (a .at) (c .before .before .before .before .before .loop .p) (found .0) (found .1 .0)
+    Whole (bitsOf (now (a .s))) (a .at) (c .before .before .before .before .before .loop .p) (found .0)
+    (found .1 .0)
     × (length (bitsOf (now (a .s))) ≡ 8 * length (now (a .s)))
 whole c =
     let start : tie.Start Inv-loop μ-loop = search needs in
     let after-get-unary-in-bytes : tie.After-get-unary-in-bytes Inv-loop μ-loop = search needs in
     let after-loop : tie.After-loop Inv-loop μ-loop = search needs in (
-      passed-whole (after-loop .before .loop .inv) (sym (after-get-unary-in-bytes .get-unary-in-bytes .ensures) ∙ c .before .n .given .1),
+      passed-whole (after-loop .before .loop .inv)
+          (sym (after-get-unary-in-bytes .get-unary-in-bytes .ensures) ∙ c .before .n .given .1),
       length-bits (now (start .args .s)),
     )
 

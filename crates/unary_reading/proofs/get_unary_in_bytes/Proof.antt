@@ -30,7 +30,8 @@ here c =
     let start : tie.Start Inv-loop μ-loop = search needs in
     let s = now (start .args .s) in
     let p = c .before .before .loop .p in
-    counted (bitsOf s) p (8 * 1 - p % 8) 8 _ (byte-window s p (omega arith) (omega (arith, c .shared-slice-known .given (p / 8)))) (omega arith)
+    counted (bitsOf s) p (8 * 1 - p % 8) 8 _
+    (byte-window s p (omega arith) (omega (arith, c .shared-slice-known .given (p / 8)))) (omega arith)
 
 returns : tie.Need-returns Inv-loop μ-loop
 returns c =

@@ -12,4 +12,5 @@ returns-2 : tie.Need-returns-2
 returns-2 c = let e = c .if1 .left in rw e (omega (arith, c .before .less .ensures))
 
 pub prefix-of-spec : {M : Type 1} → statement M
-prefix-of-spec = tie.close (tie.spec (λ c κs. search needs) (λ c. search needs) (λ c. search needs) returns returns-2)
+prefix-of-spec =
+    tie.close (tie.spec (λ c κs. search needs) (λ c. search needs) (λ c. search needs) returns returns-2)

@@ -16,7 +16,8 @@ returns c =
     let start : tie.Start = search needs in
     let then1 : tie.Then1 = search needs in
     let a = start .args in
-    rw (then1 .if1 .taken) (put-low-is (now (a .out)) _ (a .at) (a .coded .count) (a .coded .value) (c .before .before .put-gathered .ensures))
+    rw (then1 .if1 .taken) (put-low-is (now (a .out)) _ (a .at) (a .coded .count) (a .coded .value)
+    (c .before .before .put-gathered .ensures))
 
 put-gathered-requires-2 : tie.Need-put-gathered-requires-2
 put-gathered-requires-2 c κs =
@@ -35,7 +36,9 @@ returns-2 c =
     let x : tie.Start = search needs in
     let g : tie.After-gather-ones = search needs in
     let a = x .args in
-    rw (g .before .before .if1 .left) (put-short (now (a .out)) _ (a .at) (a .prefix) (a .coded .count) (a .coded .value) _ (g .before .if2 .taken) (g .gather-ones .ensures) (c .before .before .put-gathered2 .ensures))
+    rw (g .before .before .if1 .left)
+    (put-short (now (a .out)) _ (a .at) (a .prefix) (a .coded .count) (a .coded .value) _
+    (g .before .if2 .taken) (g .gather-ones .ensures) (c .before .before .put-gathered2 .ensures))
 
 put-escaped-requires : tie.Need-put-escaped-requires
 put-escaped-requires c κs =
@@ -44,7 +47,9 @@ put-escaped-requires c κs =
 
 -- 29 bits are a u32
 small : (x : tie.Start) → x .args .coded .value < 2 ^ 32
-small x = let p = pow-mono {i = x .args .coded .count} {j = 29} (omega (arith, x .pre .0)) in omega (arith, x .pre .1)
+small x =
+    let p = pow-mono {i = x .args .coded .count} {j = 29} (omega (arith, x .pre .0)) in
+    omega (arith, x .pre .1)
 
 cast-put-bits : tie.Need-cast-put-bits
 cast-put-bits c =
@@ -70,7 +75,9 @@ returns-3 c =
     let x : tie.Start = search needs in
     let e : tie.After-put-escaped = search needs in
     let a = x .args in
-    rw (e .before .before .before .if1 .left) (put-long (now (a .out)) _ _ (a .at) (a .prefix) (e .put-escaped .result) (a .coded .count) (a .coded .value) (omega arith) (e .put-escaped .ensures) (c .before .before .put-bits .ensures))
+    rw (e .before .before .before .if1 .left)
+    (put-long (now (a .out)) _ _ (a .at) (a .prefix) (e .put-escaped .result) (a .coded .count)
+    (a .coded .value) (omega arith) (e .put-escaped .ensures) (c .before .before .put-bits .ensures))
 
 pub put-coded-spec : {M : Type 1} → statement M
 put-coded-spec =

@@ -17,12 +17,16 @@ use Rattle.word_laying.proofs.put_word.Tie as tie
 
 -- magnitude and sign of the residual itself
 mag-is : (c : tie.After-magnitude) → c .magnitude .result ≡ mag (c .before .before .args .residual)
-mag-is c = let f : SFits w32 (c .before .before .args .residual) = search needs in c .magnitude .ensures ∙ ap mag (toZ-ofZ f)
+mag-is c =
+    let f : SFits w32 (c .before .before .args .residual) = search needs in
+    c .magnitude .ensures ∙ ap mag (toZ-ofZ f)
 
-sign-is : (c : tie.After-sign-bit) → c .sign-bit .result ≡ sign (c .before .before .before .before .args .residual)
+sign-is : (c : tie.After-sign-bit)
+    → c .sign-bit .result ≡ sign (c .before .before .before .before .args .residual)
 sign-is c =
     let start : tie.Start = search needs in
-    let f : SFits w32 (start .args .residual) = search needs in c .sign-bit .ensures ∙ ap (λ (v : ℤ). sign v) (toZ-ofZ f)
+    let f : SFits w32 (start .args .residual) = search needs in
+    c .sign-bit .ensures ∙ ap (λ (v : ℤ). sign v) (toZ-ofZ f)
 
 locate-requires : tie.Need-locate-requires
 locate-requires c κs = let x = c .before .before in (x .pre .1 .0, rw (mag-is c) (x .pre .1 .1))
@@ -30,7 +34,8 @@ locate-requires c κs = let x = c .before .before in (x .pre .1 .0, rw (mag-is c
 fits : (c : tie.After-locate) → Fits (c .locate .result)
 fits c =
     let x : tie.Start = search needs in
-    located-fits (mediansOf (x .args .medians)) (c .before .magnitude .result) (c .locate .result) (x .pre .1 .0) (rw (mag-is (c .before)) (x .pre .1 .1)) (c .locate .ensures)
+    located-fits (mediansOf (x .args .medians)) (c .before .magnitude .result) (c .locate .result)
+    (x .pre .1 .0) (rw (mag-is (c .before)) (x .pre .1 .1)) (c .locate .ensures)
 
 gather-code-requires : tie.Need-gather-code-requires
 gather-code-requires c κs =
@@ -57,7 +62,10 @@ returns c =
     let after-prefix-of : tie.After-prefix-of = search needs in
     let l = b .before in
     let a = l .before .before .before .args in
-    word-put (now (a .out)) _ (a .at) (mediansOf (a .medians)) (a .residual) (a .last-zero) (a .last-one) (a .more) (l .before .magnitude .result) (b .sign-bit .result) _ _ (l .locate .result) _ (mag-is (l .before)) (l .locate .ensures) (sign-is b) (after-gather-code .gather-code .ensures) (after-prefix-of .prefix-of .ensures) (c .before .before .put-coded .ensures)
+    word-put (now (a .out)) _ (a .at) (mediansOf (a .medians)) (a .residual) (a .last-zero) (a .last-one)
+    (a .more) (l .before .magnitude .result) (b .sign-bit .result) _ _ (l .locate .result) _
+    (mag-is (l .before)) (l .locate .ensures) (sign-is b) (after-gather-code .gather-code .ensures)
+    (after-prefix-of .prefix-of .ensures) (c .before .before .put-coded .ensures)
 
 pub put-word-spec : {M : Type 1} → statement M
 put-word-spec =

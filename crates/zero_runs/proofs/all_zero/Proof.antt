@@ -24,17 +24,26 @@ loop-holds : tie.Need-loop-holds Inv-loop μ-loop
 loop-holds c = (omega arith, block-start _ _)
 
 -- the residual that was looked at
-next : (c : tie.After-other Inv-loop μ-loop) → c .other .result ≡ otherOf (getD (c .before .before .before .before .args .residuals .now) (c .before .before .before .before .args .from + c .before .before .before .loop .i) (pos 0))
+next : (c : tie.After-other Inv-loop μ-loop)
+    → c .other .result ≡ otherOf (getD (c .before .before .before .before .args .residuals .now)
+    (c .before .before .before .before .args .from + c .before .before .before .loop .i) (pos 0))
 next c =
     let start : tie.Start Inv-loop μ-loop = search needs in
     let at-loop : tie.At-loop Inv-loop μ-loop = search needs in
-    let f : SFits w32 (getD (start .args .residuals .now) (start .args .from + at-loop .loop .i) (pos 0)) = search needs in rw (toZ-ofZ f) at (c .other .ensures)
+    let f : SFits w32 (getD (start .args .residuals .now) (start .args .from + at-loop .loop .i) (pos 0)) =
+    search needs in
+    rw (toZ-ofZ f) at (c .other .ensures)
 
 add-others : tie.Need-add-others Inv-loop μ-loop
 add-others c =
     let start : tie.Start Inv-loop μ-loop = search needs in
     let at-loop : tie.At-loop Inv-loop μ-loop = search needs in
-    omega (arith, at-loop .loop .inv .1, next c, other-le (getD (start .args .residuals .now) (start .args .from + at-loop .loop .i) (pos 0)))
+    omega (
+      arith,
+      at-loop .loop .inv .1,
+      next c,
+      other-le (getD (start .args .residuals .now) (start .args .from + at-loop .loop .i) (pos 0)),
+    )
 
 loop-again : tie.Need-loop-again Inv-loop μ-loop
 loop-again c =

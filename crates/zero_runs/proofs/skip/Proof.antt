@@ -45,7 +45,8 @@ loop-again : tie.Need-loop-again Inv-loop μ-loop
 loop-again c =
     let at-loop : tie.At-loop Inv-loop μ-loop = search needs in
     let l = at-loop .loop in
-    skip-step _ _ _ (omega (arith, l .inv)) (leb-true 32 _ (sym (c .before .all-zero .ensures) ∙ not-false _ (c .if1 .left))) (l .inv)
+    skip-step _ _ _ (omega (arith, l .inv))
+    (leb-true 32 _ (sym (c .before .all-zero .ensures) ∙ not-false _ (c .if1 .left))) (l .inv)
 
 returns-2 : tie.Need-returns-2 Inv-loop μ-loop
 returns-2 c = c .before .loop .inv

@@ -18,7 +18,8 @@ use Rattle.zero_runs.proofs.zeros_from.Tie as tie
 
 abbrev Inv-loop : tie.InvT-loop
 Inv-loop residuals first end i₀ i =
-    (first ≤ i) × (i ≤ length residuals) × (end ≡ length residuals) × (zeros (drop first residuals) ≡ i - first + zeros (drop i residuals))
+    (first ≤ i) × (i ≤ length residuals) × (end ≡ length residuals)
+    × (zeros (drop first residuals) ≡ i - first + zeros (drop i residuals))
 
 abbrev μ-loop : tie.MeasureT-loop
 μ-loop residuals first end i₀ i = length residuals - i
@@ -42,13 +43,18 @@ loop-again c =
     let vs = start .args .residuals .now in
     let f : SFits w32 (getD vs (l .i) (pos 0)) = search needs in
     let e : getD vs (l .i) (pos 0) ≡ pos 0 = sym (toZ-ofZ f) ∙ ap (toZ w32) (c .if1 .left) in
-    let m : zeros (drop (l .i + 1) vs) ≡ zeros (drop (suc (l .i)) vs) = ap (λ (n : ℕ). zeros (drop n vs)) (add-one (l .i)) in
+    let m : zeros (drop (l .i + 1) vs) ≡ zeros (drop (suc (l .i)) vs) =
+    ap (λ (n : ℕ). zeros (drop n vs)) (add-one (l .i)) in
     omega (arith, l .inv, zeros-more vs (l .i) (omega arith) e)
 
 returns-2 : tie.Need-returns-2 Inv-loop μ-loop
 returns-2 c =
     let start : tie.Start Inv-loop μ-loop = search needs in
-    omega (arith, c .before .loop .inv, zeros-past (start .args .residuals .now) (c .before .loop .i) (omega arith))
+    omega (
+      arith,
+      c .before .loop .inv,
+      zeros-past (start .args .residuals .now) (c .before .loop .i) (omega arith),
+    )
 
 pub zeros-from-spec : {M : Type 1} → statement M
 zeros-from-spec =

@@ -7,10 +7,13 @@ use Rattle.bits.proofs.Window.{Joined, joined}
 use Rattle.bit_windows.proofs.load.four.Statement.{statement}
 use Rattle.bit_windows.proofs.load.four.Tie as tie
 
-both : (c : tie.After-two2) → let a = c .before .before .before .args in Joined (now (a .s)) (a .i) 2 (c .before .two .result) (c .two2 .result)
+both : (c : tie.After-two2) →
+    let a = c .before .before .before .args in
+    Joined (now (a .s)) (a .i) 2 (c .before .two .result) (c .two2 .result)
 both c =
     let start : tie.Start = search needs in
-    let a = start .args in joined (now (a .s)) (a .i) 2 _ _ (omega arith) (omega arith) (c .before .two .ensures) (c .two2 .ensures)
+    let a = start .args in
+    joined (now (a .s)) (a .i) 2 _ _ (omega arith) (omega arith) (c .before .two .ensures) (c .two2 .ensures)
 
 add-result : tie.Need-add-result
 add-result c = let j = both c in omega arith
@@ -19,4 +22,5 @@ returns : tie.Need-returns
 returns c = let j = both c in rw (j .exact) (j .same)
 
 pub four-spec : {M : Type 1} → statement M
-four-spec = tie.close (tie.spec (λ c κs. search needs) (λ c. search needs) (λ c κs. search needs) add-result returns)
+four-spec =
+    tie.close (tie.spec (λ c κs. search needs) (λ c. search needs) (λ c κs. search needs) add-result returns)

@@ -7,7 +7,9 @@ use Rattle.bits.proofs.Window.{Joined, joined-bytes}
 use Rattle.bit_windows.proofs.load.two.Statement.{statement}
 use Rattle.bit_windows.proofs.load.two.Tie as tie
 
-both : (c : tie.After-u8-to-u642) → let a = c .before .before .before .before .before .args in Joined (now (a .s)) (a .i) 1 (c .before .before .u8-to-u64 .result) (c .u8-to-u642 .result)
+both : (c : tie.After-u8-to-u642) →
+    let a = c .before .before .before .before .before .args in
+    Joined (now (a .s)) (a .i) 1 (c .before .before .u8-to-u64 .result) (c .u8-to-u642 .result)
 both c =
     let start : tie.Start = search needs in
     let after-shared-slice-known : tie.After-shared-slice-known = search needs in
@@ -15,7 +17,8 @@ both c =
     let k = after-shared-slice-known .shared-slice-known .given in
     let e = c .before .before .u8-to-u64 .ensures in
     let f = c .u8-to-u642 .ensures in
-    joined-bytes (now (a .s)) (a .i) _ _ (omega arith) e f (omega (arith, e, k (a .i))) (omega (arith, f, k (a .i + 1)))
+    joined-bytes (now (a .s)) (a .i) _ _ (omega arith) e f (omega (arith, e, k (a .i)))
+    (omega (arith, f, k (a .i + 1)))
 
 add-result : tie.Need-add-result
 add-result c = let j = both c in omega arith

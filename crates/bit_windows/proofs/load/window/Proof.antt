@@ -24,7 +24,12 @@ returns : tie.Need-returns Inv-loop μ-loop
 returns c = c .eight .ensures
 
 loop-holds : tie.Need-loop-holds Inv-loop μ-loop
-loop-holds c = (omega arith, omega arith, refl, nothing (drop (c .before .before .args .i) (now (c .before .before .args .s))))
+loop-holds c = (
+  omega arith,
+  omega arith,
+  refl,
+  nothing (drop (c .before .before .args .i) (now (c .before .before .args .s))),
+)
 
 turn : (c : tie.After-u8-to-u64 Inv-loop μ-loop) →
     let a = c .before .before .before .before .before .before .args in
@@ -36,7 +41,8 @@ turn c =
     let a = start .args in
     let l = at-loop .loop in
     let e = c .u8-to-u64 .ensures in
-    more (now (a .s)) (a .i) (l .j) (l .w) _ (omega arith) (omega arith) (l .inv .3) e (omega (arith, e, c .before .shared-slice-known2 .given (a .i + l .j)))
+    more (now (a .s)) (a .i) (l .j) (l .w) _ (omega arith) (omega arith) (l .inv .3) e
+    (omega (arith, e, c .before .shared-slice-known2 .given (a .i + l .j)))
 
 add-w : tie.Need-add-w Inv-loop μ-loop
 add-w c = let m = turn c in omega arith
@@ -51,7 +57,8 @@ returns-2 c =
     let l = c .before .loop in
     let r = drop (a .i) (now (a .s)) in
     let n = length-drop (a .i) (now (a .s)) in
-    l .inv .3 ∙ ap (λ (x : List ℕ). num (bitsOf x)) (take-all (l .j) r (omega arith) ∙ sym (take-all 8 r (omega arith)))
+    l .inv .3 ∙ ap (λ (x : List ℕ). num (bitsOf x))
+    (take-all (l .j) r (omega arith) ∙ sym (take-all 8 r (omega arith)))
 
 pub window-spec : {M : Type 1} → statement M
 window-spec =

@@ -18,8 +18,13 @@ moved-requires : tie.Need-moved-requires
 moved-requires c κs =
     let a = c .before .before .before .args in
     let q = a .at - a .at % 8 in
-    let e : a .at / 8 ≡ q / 8 = omega arith in
-    (omega arith, (whole-window (now (a .s)) q _ (omega arith) (omega arith) (rw e at (c .before .eight .ensures)), (omega arith, omega arith)))
+    let e : a .at / 8 ≡ q / 8 = omega arith in (
+      omega arith,
+      (
+        whole-window (now (a .s)) q _ (omega arith) (omega arith) (rw e at (c .before .eight .ensures)),
+        (omega arith, omega arith),
+      ),
+    )
 
 returns-2 : tie.Need-returns-2
 returns-2 c =
@@ -28,4 +33,5 @@ returns-2 c =
     rw e at (c .moved .ensures)
 
 pub first-window-spec : {M : Type 1} → statement M
-first-window-spec = tie.close (tie.spec (λ c κs. search needs) returns (λ c. search needs) moved-requires returns-2)
+first-window-spec =
+    tie.close (tie.spec (λ c κs. search needs) returns (λ c. search needs) moved-requires returns-2)

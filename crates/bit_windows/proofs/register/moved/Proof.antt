@@ -13,11 +13,13 @@ use Rattle.bit_windows.proofs.register.moved.Tie as tie
 -- the bits at the new place
 here : (c : tie.After-eight) →
     let a = c .before .before .args in
-    Window (bitsOf (now (a .s))) (a .at + a .used) 64 (a .w / 2 ^ a .used + c .eight .result / 2 ^ (a .at % 8) * 2 ^ (64 - a .used) % 2 ^ 64)
+    Window (bitsOf (now (a .s))) (a .at + a .used) 64
+    (a .w / 2 ^ a .used + c .eight .result / 2 ^ (a .at % 8) * 2 ^ (64 - a .used) % 2 ^ 64)
 here c =
     let a = c .before .before .args in
     let s = now (a .s) in
-    window-moved (bitsOf s) (a .at) (a .used) (64 - a .at % 8) (a .w) _ (c .before .before .pre .1 .0) (ahead-window s (a .at) _ (omega arith) (c .eight .ensures)) (omega arith) (omega arith)
+    window-moved (bitsOf s) (a .at) (a .used) (64 - a .at % 8) (a .w) _ (c .before .before .pre .1 .0)
+    (ahead-window s (a .at) _ (omega arith) (c .eight .ensures)) (omega arith) (omega arith)
 
 add-result : tie.Need-add-result
 add-result c = omega (arith, here c .small)
