@@ -22,7 +22,7 @@ completed : reassembleEntry fields (pos 1 ∷ negsuc 0 ∷ []) (21 ∷ []) ≡ r
 unfolding reassembleEntry reassembleRefusal infoRefusal fieldsTaken appended below lowBits wrap32 low32 num bitsOf low
 completed = refl
 
--- and back, with the spare bits 0 and the byte behind kept
+-- and back, with the spare bits 0 and the bytes after it kept
 divided : deconstructEntry fields (pos 55 ∷ negsuc 23 ∷ []) (255 ∷ 1 ∷ 2 ∷ 3 ∷ 4 ∷ 5 ∷ 6 ∷ 7 ∷ [])
     ≡ record { refusal = 0; bits = 6; samples = pos 1 ∷ negsuc 0 ∷ []; literal = 21 ∷ 1 ∷ 2 ∷ 3 ∷ 4 ∷ 5 ∷ 6 ∷ 7 ∷ [] }
 unfolding deconstructEntry deconstructRefusal infoRefusal fieldsTaken allReinsertable literalOf above lowBits wrap32 low32 num bitsOf low bytesOf bytesHolding overlay

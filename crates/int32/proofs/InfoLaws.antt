@@ -82,11 +82,11 @@ module _ (info : Int32Info) (n : ℕ) where
       taken true q e = few (fields-fit info q) (ltb maxElements n) refl e
       taken false q e = absurd (omega arith)
 
--- the literal bits of samples that are taken are few
+-- the literal bits of accepted samples are few
 pub few-bits : (info : Int32Info) (n : ℕ) → Fields info → n ≤ maxElements → n * info .«sent_bits» ≤ 262144 * 31
 few-bits info n f h = le-trans (mul-le-mul-right (info .«sent_bits») h) (mul-le-mul-left 262144 (f .sent))
 
--- the setting of fields that are taken puts in at most 31 bits
+-- the setting of accepted fields puts in at most 31 bits
 pub width-le : (z o d : ℕ) → z ≤ 31 → o ≤ 31 → d ≤ 31 → width (setting z o d) ≤ 31
 width-le (suc z) o d h l m = h
 width-le zero (suc o) d h l m = l

@@ -53,7 +53,7 @@ abbrev pub refuseDeconstruct : List ℤ → List ℕ → ℕ → DeconstructTold
 refuseDeconstruct samples literal number = record { refusal = number; bits = 0; samples = samples; literal = literal }
 
 -- the samples without both kinds of bits, and the literal ones from the first bit of the storage on;
--- "spare bits of the last literal byte are 0", and the bytes behind it are kept (Q6.3)
+-- "spare bits of the last literal byte are 0", and the bytes after it are kept (Q6.3)
 abbrev pub tellDeconstruct : Int32Info → List ℤ → List ℕ → DeconstructTold
 tellDeconstruct info samples literal =
     let sent = info .«sent_bits» in

@@ -21,7 +21,7 @@ Samples32 samples = (i : ℕ) → SFits w32 (getD samples i (pos 0))
 unfoldable pub fieldsTaken : Int32Info → Bool
 fieldsTaken info = leb (info .«sent_bits») 31 && leb (info .zeros) 31 && leb (info .ones) 31 && leb (info .dups) 31
 
--- fields that are taken
+-- fields that are accepted
 pub record Fields (info : Int32Info) : Type 0 where
   pub sent : info .«sent_bits» ≤ 31
   pub zeros : info .zeros ≤ 31

@@ -8,7 +8,7 @@ ghost use mathlib.Core.Path.{_≡_};
 ghost use Rattle.answers.specs.Numbers.{outcomeNumber};
 ghost use Rattle.int32.specs.Info.{infoRefusal};
 
-// The most bits that a field tells of.
+// The largest number that a field may hold.
 const MAX_BITS: u32 = 31;
 
 // Literal bits for each sample; redundant bits: zeros, ones or copies of the lowest bit, the first

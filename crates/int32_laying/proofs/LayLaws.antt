@@ -157,7 +157,7 @@ module _ (samples : List ℤ) (shift count : ℕ) (before : List ℕ) where
         bits = ap (λ (r : List Bool). r ++ ahead i) b ∙ y .bits;
       }
 
-  -- the bits that are left are laid behind the bytes
+  -- the bits that are left are laid after the bytes
   pub laying-all : (out : List ℕ) (held filled at i : ℕ) → length samples ≤ i → Bytes out → at ≤ length out → Laying out held filled at i
       → take at out ++ put (drop at out) 0 (low filled held) ≡ overlay before 0 (bytesHolding (literalOf count (map (above shift) samples)))
   unfolding literalOf

@@ -1,4 +1,4 @@
--- The answers of each call, by what its entry told.
+-- The answers of each call, by what its entry answers.
 -- Assumes nothing.
 use mathlib.Core.Path.{_≡_, ap, _∙_}
 use mathlib.Core.List.{List, [], _∷_}

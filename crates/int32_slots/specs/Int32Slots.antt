@@ -12,7 +12,7 @@ use Rattle.int32.specs.Reassemble.{ReassembleTold, reassembleEntry}
 use Rattle.int32.specs.Deconstruct.{DeconstructTold, deconstructEntry}
 use Rattle.slots.specs.Slots.{Filled, fillCall, leaveValues}
 
--- what reassembly tells, with 1 slot: the literal bits read
+-- what reassembly answers, with 1 slot: the literal bits read
 abbrev pub leaveReassemble : List ℤ → List ℕ → ReassembleTold → Filled ℤ
 leaveReassemble samples answer t = fillCall 1 samples answer (t .refusal) (t .samples) (t .bits ∷ [])
 
@@ -27,7 +27,7 @@ pub record Divided : Type 0 where
   pub literal : List ℕ
   pub answer : List ℕ
 
--- what it tells, with 1 slot: the literal bits written. Without the slot 6, and all lists as they were
+-- what it answers, with 1 slot: the literal bits written. Without the slot 6, and all lists as they were
 abbrev pub leaveDeconstruct : List ℤ → List ℕ → List ℕ → DeconstructTold → Divided
 leaveDeconstruct samples literal answer t =
     cond (ltb (length answer) 1) (record { refusal = 6; samples = samples; literal = literal; answer = answer })

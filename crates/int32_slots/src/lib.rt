@@ -1,4 +1,4 @@
-// Reassembly of wide samples and the way back for a caller that holds what it is told in a list of
+// Reassembly of wide samples and the way back for a caller that holds what is answered in a list of
 // slots. A refused call leaves every lent list as it was, the slots too.
 use answers::Outcome;
 use answers::Refusal;

@@ -41,7 +41,7 @@ low-bits-requires c κs = let put : tie.After-redundancy-of Inv-loop μ-loop = s
 shifted-requires : tie.Need-shifted-requires Inv-loop μ-loop
 shifted-requires c κs = let put : tie.After-redundancy-of Inv-loop μ-loop = search needs in few put
 
--- what the comparison of one sample tells
+-- what the comparison of one sample shows
 looked : (c : tie.After-bits-below Inv-loop μ-loop) →
     let start = c .before .before .before .before .before .before .before in
     let a = start .args in
