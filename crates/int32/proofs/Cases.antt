@@ -18,24 +18,38 @@ abbrev fields : Int32Info
 fields = record { «sent_bits» = 3; zeros = 0; ones = 0; dups = 2 }
 
 -- 1 and -1 with the literal bits 101 and 010, low bit first: 13 is odd, -6 is even
-completed : reassembleEntry fields (pos 1 ∷ negsuc 0 ∷ []) (21 ∷ []) ≡ record { refusal = 0; bits = 6; samples = pos 55 ∷ negsuc 23 ∷ [] }
-unfolding reassembleEntry reassembleRefusal infoRefusal fieldsTaken appended below lowBits wrap32 low32 num bitsOf low
+completed : reassembleEntry fields (pos 1 ∷ negsuc 0 ∷ []) (21 ∷ [])
+    ≡ record { refusal = 0; bits = 6; samples = pos 55 ∷ negsuc 23 ∷ [] }
+unfolding reassembleEntry reassembleRefusal infoRefusal fieldsTaken appended below lowBits wrap32
+    low32 num bitsOf low
 completed = refl
 
 -- and back, with the spare bits 0 and the bytes after it kept
 divided : deconstructEntry fields (pos 55 ∷ negsuc 23 ∷ []) (255 ∷ 1 ∷ 2 ∷ 3 ∷ 4 ∷ 5 ∷ 6 ∷ 7 ∷ [])
-    ≡ record { refusal = 0; bits = 6; samples = pos 1 ∷ negsuc 0 ∷ []; literal = 21 ∷ 1 ∷ 2 ∷ 3 ∷ 4 ∷ 5 ∷ 6 ∷ 7 ∷ [] }
-unfolding deconstructEntry deconstructRefusal infoRefusal fieldsTaken allReinsertable literalOf above lowBits wrap32 low32 num bitsOf low bytesOf bytesHolding overlay
+    ≡ record {
+      refusal = 0;
+      bits = 6;
+      samples = pos 1 ∷ negsuc 0 ∷ [];
+      literal = 21 ∷ 1 ∷ 2 ∷ 3 ∷ 4 ∷ 5 ∷ 6 ∷ 7 ∷ [];
+    }
+unfolding deconstructEntry deconstructRefusal infoRefusal fieldsTaken allReinsertable literalOf
+    above lowBits wrap32 low32 num bitsOf low bytesOf bytesHolding overlay
 divided = refl
 
 -- a bit is missing: three samples need nine
-short : reassembleEntry fields (pos 1 ∷ pos 2 ∷ pos 3 ∷ []) (21 ∷ []) ≡ record { refusal = 3; bits = 0; samples = pos 1 ∷ pos 2 ∷ pos 3 ∷ [] }
+short : reassembleEntry fields (pos 1 ∷ pos 2 ∷ pos 3 ∷ []) (21 ∷ [])
+    ≡ record { refusal = 3; bits = 0; samples = pos 1 ∷ pos 2 ∷ pos 3 ∷ [] }
 unfolding reassembleEntry reassembleRefusal infoRefusal fieldsTaken
 short = refl
 
 -- the last of two samples is the image of none: its bits are not alike
 no-image : deconstructEntry fields (pos 55 ∷ pos 54 ∷ []) (9 ∷ 9 ∷ 9 ∷ 9 ∷ 9 ∷ 9 ∷ 9 ∷ 9 ∷ [])
-    ≡ record { refusal = 16; bits = 0; samples = pos 55 ∷ pos 54 ∷ []; literal = 9 ∷ 9 ∷ 9 ∷ 9 ∷ 9 ∷ 9 ∷ 9 ∷ 9 ∷ [] }
+    ≡ record {
+      refusal = 16;
+      bits = 0;
+      samples = pos 55 ∷ pos 54 ∷ [];
+      literal = 9 ∷ 9 ∷ 9 ∷ 9 ∷ 9 ∷ 9 ∷ 9 ∷ 9 ∷ [];
+    }
 unfolding deconstructEntry deconstructRefusal infoRefusal fieldsTaken allReinsertable lowBits low32
 no-image = refl
 
@@ -46,6 +60,7 @@ unfolding deconstructEntry deconstructRefusal infoRefusal fieldsTaken allReinser
 short-storage = refl
 
 -- a field above 31 comes before everything
-above-31 : reassembleEntry (record { «sent_bits» = 31; zeros = 0; ones = 32; dups = 0 }) (pos 1 ∷ []) [] ≡ record { refusal = 15; bits = 0; samples = pos 1 ∷ [] }
+above-31 : reassembleEntry (record { «sent_bits» = 31; zeros = 0; ones = 32; dups = 0 }) (pos 1 ∷ []) []
+    ≡ record { refusal = 15; bits = 0; samples = pos 1 ∷ [] }
 unfolding reassembleEntry reassembleRefusal infoRefusal fieldsTaken
 above-31 = refl

@@ -27,27 +27,38 @@ use Rattle.int32.specs.Deconstruct.{allReinsertable, literalOf, deconstr
 use Rattle.int32.specs.Wide.{InOrder, NoSource, EachHasSource, RefusedExactly, AllKeep, PutInTakenOut}
 use Rattle.int32.proofs.InfoLaws.{fields-true, fields-fit, info-none, info-width}
 use Rattle.int32.proofs.ReassembleLaws.{readable, reassemble-accepted, reassemble-number}
-use Rattle.int32.proofs.DeconstructLaws.{divisible, deconstruct-tested, deconstruct-accepted, deconstruct-number}
+use Rattle.int32.proofs.DeconstructLaws.{divisible, deconstruct-tested, deconstruct-accepted}
+use Rattle.int32.proofs.DeconstructLaws.{deconstruct-number}
 use Rattle.int32.proofs.WideLaws.{appended-length, freed-back, shortened-back, literal-back, all-made}
 
 -- ---- the test of every sample
 
 -- where it fails, some sample has no source
-some-fails : (s : Setting) (ys : List ℤ) → width s ≤ 31 → Samples32 ys → allReinsertable s ys ≡ false → NoSource s ys
+some-fails : (s : Setting) (ys : List ℤ) → width s ≤ 31 → Samples32 ys → allReinsertable s ys ≡ false
+    → NoSource s ys
 unfolding allReinsertable
 some-fails s [] w h e = clash refl e
 some-fails s (y ∷ ys) w h e = go (some-fails s ys w (λ i. h (suc i))) (reinsertable s y) refl e
   where
-    go : (allReinsertable s ys ≡ false → NoSource s ys) → (t : Bool) → reinsertable s y ≡ t → (t && allReinsertable s ys) ≡ false → NoSource s (y ∷ ys)
-    go later true q f = let r = later f in record { place = suc (r .place); inside = omega (arith, r .inside); none = r .none }
-    go later false q f = record { place = 0; inside = omega arith; none = λ x. clash (test-is-image s y w (h 0) .0 x) q }
+    go : (allReinsertable s ys ≡ false → NoSource s ys) → (t : Bool) → reinsertable s y ≡ t
+        → (t && allReinsertable s ys) ≡ false → NoSource s (y ∷ ys)
+    go later true q f = let r = later f in
+        record { place = suc (r .place); inside = omega (arith, r .inside); none = r .none }
+    go later false q f = record {
+      place = 0;
+      inside = omega arith;
+      none = λ x. clash (test-is-image s y w (h 0) .0 x) q;
+    }
 
 -- where it holds, each has one
-each-holds : (s : Setting) (ys : List ℤ) (i : ℕ) → width s ≤ 31 → Samples32 ys → allReinsertable s ys ≡ true → i < length ys → Source s (getD ys i (pos 0))
+each-holds : (s : Setting) (ys : List ℤ) (i : ℕ) → width s ≤ 31 → Samples32 ys → allReinsertable s ys ≡ true
+    → i < length ys → Source s (getD ys i (pos 0))
 unfolding allReinsertable
 each-holds s [] i w h e l = absurd (omega arith)
-each-holds s (y ∷ ys) zero w h e l = test-is-image s y w (h 0) .1 (both (reinsertable s y) (allReinsertable s ys) e .0)
-each-holds s (y ∷ ys) (suc i) w h e l = each-holds s ys i w (λ j. h (suc j)) (both (reinsertable s y) (allReinsertable s ys) e .1) (omega arith)
+each-holds s (y ∷ ys) zero w h e l = test-is-image s y w (h 0) .1
+    (both (reinsertable s y) (allReinsertable s ys) e .0)
+each-holds s (y ∷ ys) (suc i) w h e l = each-holds s ys i w (λ j. h (suc j))
+    (both (reinsertable s y) (allReinsertable s ys) e .1) (omega arith)
 
 -- ---- 16
 
@@ -60,23 +71,30 @@ module _ (info : Int32Info) (samples : List ℤ) (storage : List ℕ) (h : Sampl
   unfolding deconstructRefusal infoRefusal
   why e = fields (fieldsTaken info) refl e
     where
-      image : Fields info → InOrder info samples storage → (t : Bool) → allReinsertable (settingOf info) samples ≡ t → _≡_ {A = ℕ} (cond t 0 16) 16 → Why
+      image : Fields info → InOrder info samples storage → (t : Bool)
+          → allReinsertable (settingOf info) samples ≡ t → _≡_ {A = ℕ} (cond t 0 16) 16 → Why
       image f o true q e = absurd (omega arith)
       image f o false q e = (o, some-fails (settingOf info) samples (info-width info f) h q)
 
-      room : fieldsTaken info ≡ true → length samples ≤ maxElements → (t : Bool) → ltb (length storage) (4 * length samples) ≡ t
+      room : fieldsTaken info ≡ true → length samples ≤ maxElements → (t : Bool)
+          → ltb (length storage) (4 * length samples) ≡ t
           → _≡_ {A = ℕ} (cond t 11 (cond (allReinsertable (settingOf info) samples) 0 16)) 16 → Why
       room f l true q e = absurd (omega arith)
       room f l false q e =
-          image (fields-fit info f) (record { fields = f; few = l; enough = ltb-false _ _ q }) (allReinsertable (settingOf info) samples) refl e
+          image (fields-fit info f) (record { fields = f; few = l; enough = ltb-false _ _ q })
+          (allReinsertable (settingOf info) samples) refl e
 
       few : fieldsTaken info ≡ true → (t : Bool) → ltb maxElements (length samples) ≡ t
-          → orElse (cond t 5 0) (cond (ltb (length storage) (4 * length samples)) 11 (cond (allReinsertable (settingOf info) samples) 0 16)) ≡ 16 → Why
+          → orElse (cond t 5 0)
+          (cond (ltb (length storage) (4 * length samples)) 11
+          (cond (allReinsertable (settingOf info) samples) 0 16)) ≡ 16 → Why
       few f true q e = absurd (omega arith)
       few f false q e = room f (ltb-false _ _ q) (ltb (length storage) (4 * length samples)) refl e
 
       fields : (t : Bool) → fieldsTaken info ≡ t
-          → orElse (cond t (cond (ltb maxElements (length samples)) 5 0) 15) (cond (ltb (length storage) (4 * length samples)) 11 (cond (allReinsertable (settingOf info) samples) 0 16)) ≡ 16
+          → orElse (cond t (cond (ltb maxElements (length samples)) 5 0) 15)
+          (cond (ltb (length storage) (4 * length samples)) 11
+          (cond (allReinsertable (settingOf info) samples) 0 16)) ≡ 16
           → Why
       fields true q e = few q (ltb maxElements (length samples)) refl e
       fields false q e = absurd (omega arith)
@@ -90,7 +108,8 @@ module _ (info : Int32Info) (samples : List ℤ) (storage : List ℕ) (h : Sampl
 
   refused : InOrder info samples storage → NoSource (settingOf info) samples
       → deconstructRefusal info samples (length storage) ≡ 16
-  refused o x = go (info-width info (fields-fit info (o .fields))) (allReinsertable (settingOf info) samples) refl
+  refused o x = go (info-width info (fields-fit info (o .fields)))
+      (allReinsertable (settingOf info) samples) refl
     where
       go : width (settingOf info) ≤ 31 → (t : Bool) → allReinsertable (settingOf info) samples ≡ t
           → deconstructRefusal info samples (length storage) ≡ 16
@@ -129,7 +148,8 @@ refused-exactly info samples storage h =
 
 -- ---- put in, then taken out
 
-module _ (info : Int32Info) (samples : List ℤ) (literal storage : List ℕ) (k : AllKeep info literal samples) (r : Readable info (length samples) (length literal))
+module _ (info : Int32Info) (samples : List ℤ) (literal storage : List ℕ) (k : AllKeep info literal samples)
+    (r : Readable info (length samples) (length literal))
     (m : 4 * length samples ≤ length storage) where
   abbrev s : Setting
   s = settingOf info
@@ -151,24 +171,44 @@ module _ (info : Int32Info) (samples : List ℤ) (literal storage : List ℕ) (k
 
   -- the redundant bits are out
   freed-again : map (above (width s)) ys ≡ zs
-  freed-again = freed-back s zs (info-width info (r .fields)) (λ i l. k .redundant-kept i (omega (arith, l, appended-length sent bits samples)))
+  freed-again = freed-back s zs (info-width info (r .fields))
+      (λ i l. k .redundant-kept i (omega (arith, l, appended-length sent bits samples)))
 
   none : deconstructRefusal info ys (length storage) ≡ 0
   none =
-      let i : infoRefusal info (length ys) ≡ 0 = ap (infoRefusal info) made-length ∙ sym (info-none info (length samples) (r .fields) (r .few)) in
-      sym (deconstruct-tested info ys (length storage) true i (omega (arith, made-length, m)) (sym (all-made s zs (info-width info (r .fields)))))
+      let i : infoRefusal info (length ys) ≡ 0 = ap (infoRefusal info) made-length
+      ∙ sym (info-none info (length samples) (r .fields) (r .few)) in
+      sym (deconstruct-tested info ys (length storage) true i (omega (arith, made-length, m))
+      (sym (all-made s zs (info-width info (r .fields)))))
 
   pub taken-again : deconstructEntry info ys storage
-      ≡ record { refusal = 0; bits = length samples * sent; samples = samples; literal = overlay storage 0 (bytesHolding (take (length samples * sent) bits)) }
+      ≡ record {
+        refusal = 0;
+        bits = length samples * sent;
+        samples = samples;
+        literal = overlay storage 0 (bytesHolding (take (length samples * sent) bits));
+      }
   taken-again =
       deconstruct-accepted info ys storage none
-      ∙ ap₂ (λ (n : ℕ) (l : List ℤ). record { refusal = 0; bits = n * sent; samples = map (above sent) l; literal = overlay storage 0 (bytesHolding (literalOf sent l)) }) made-length freed-again
-      ∙ ap₂ (λ (l : List ℤ) (b : List Bool). record { refusal = 0; bits = length samples * sent; samples = l; literal = overlay storage 0 (bytesHolding b) })
+      ∙ ap₂ (λ (n : ℕ) (l : List ℤ). record {
+        refusal = 0;
+        bits = n * sent;
+        samples = map (above sent) l;
+        literal = overlay storage 0
+            (bytesHolding (literalOf sent l));
+      }) made-length freed-again
+      ∙ ap₂ (λ (l : List ℤ) (b : List Bool). record {
+        refusal = 0;
+        bits = length samples * sent;
+        samples = l;
+        literal = overlay storage 0 (bytesHolding b);
+      })
       (shortened-back sent bits samples (r .fields .sent) (k .literal-kept))
       (literal-back sent bits samples (r .fields .sent) (omega (arith, r .enough, length-bits literal)))
 
 pub put-in-taken-out : PutInTakenOut
 put-in-taken-out info samples literal storage k e m =
-    let z : reassembleRefusal info (length samples) (length literal) ≡ 0 = sym (reassemble-number info samples literal) ∙ e in
+    let z : reassembleRefusal info (length samples) (length literal) ≡ 0 =
+    sym (reassemble-number info samples literal) ∙ e in
     let r = readable info (length samples) (length literal) z in
     rw (reassemble-accepted info samples literal z) (taken-again info samples literal storage k r m)

@@ -26,10 +26,16 @@ fields-true info f =
 pub fields-fit : (info : Int32Info) → fieldsTaken info ≡ true → Fields info
 unfolding fieldsTaken
 fields-fit info e =
-    let a = both (leb (info .«sent_bits») 31 && leb (info .zeros) 31 && leb (info .ones) 31) (leb (info .dups) 31) e in
+    let a = both (leb (info .«sent_bits») 31 && leb (info .zeros) 31 && leb (info .ones) 31)
+    (leb (info .dups) 31) e in
     let b = both (leb (info .«sent_bits») 31 && leb (info .zeros) 31) (leb (info .ones) 31) (a .0) in
     let c = both (leb (info .«sent_bits») 31) (leb (info .zeros) 31) (b .0) in
-    record { sent = leb-true _ _ (c .0); zeros = leb-true _ _ (c .1); ones = leb-true _ _ (b .1); dups = leb-true _ _ (a .1) }
+    record {
+      sent = leb-true _ _ (c .0);
+      zeros = leb-true _ _ (c .1);
+      ones = leb-true _ _ (b .1);
+      dups = leb-true _ _ (a .1);
+    }
 
 -- a test that fails makes the whole fail
 and-fails : (b : Bool) → (b && false) ≡ false
@@ -74,16 +80,19 @@ module _ (info : Int32Info) (n : ℕ) where
   unfolding infoRefusal
   info-fit e = taken (fieldsTaken info) refl e
     where
-      few : Fields info → (t : Bool) → ltb maxElements n ≡ t → _≡_ {A = ℕ} (cond t 5 0) 0 → Fields info × (n ≤ maxElements)
+      few : Fields info → (t : Bool) → ltb maxElements n ≡ t → _≡_ {A = ℕ} (cond t 5 0) 0 → Fields info
+          × (n ≤ maxElements)
       few f true q e = absurd (omega arith)
       few f false q e = (f, ltb-false _ _ q)
 
-      taken : (t : Bool) → fieldsTaken info ≡ t → _≡_ {A = ℕ} (cond t (cond (ltb maxElements n) 5 0) 15) 0 → Fields info × (n ≤ maxElements)
+      taken : (t : Bool) → fieldsTaken info ≡ t → _≡_ {A = ℕ} (cond t (cond (ltb maxElements n) 5 0) 15) 0
+          → Fields info × (n ≤ maxElements)
       taken true q e = few (fields-fit info q) (ltb maxElements n) refl e
       taken false q e = absurd (omega arith)
 
 -- the literal bits of accepted samples are few
-pub few-bits : (info : Int32Info) (n : ℕ) → Fields info → n ≤ maxElements → n * info .«sent_bits» ≤ 262144 * 31
+pub few-bits : (info : Int32Info) (n : ℕ) → Fields info → n ≤ maxElements
+    → n * info .«sent_bits» ≤ 262144 * 31
 few-bits info n f h = le-trans (mul-le-mul-right (info .«sent_bits») h) (mul-le-mul-left 262144 (f .sent))
 
 -- the setting of accepted fields puts in at most 31 bits

@@ -40,17 +40,20 @@ pub record DeconstructTold : Type 0 where
 
 -- the answer that the entry's struct holds, with both lists as they are left
 abbrev pub viewDeconstruct : Int32Answer → List ℤ → List ℕ → DeconstructTold
-viewDeconstruct r samples literal = record { refusal = outcomeNumber (r .outcome); bits = r .bits; samples = samples; literal = literal }
+viewDeconstruct r samples literal =
+    record { refusal = outcomeNumber (r .outcome); bits = r .bits; samples = samples; literal = literal }
 
 -- 15 and 5, "a short lent buffer 11": under 4 bytes a sample; "16, no sample reinserts to this value,
 -- after 11" (Q6.6)
 unfoldable pub deconstructRefusal : Int32Info → List ℤ → ℕ → ℕ
 deconstructRefusal info samples room =
-    orElse (infoRefusal info (length samples)) (cond (ltb room (4 * length samples)) 11 (cond (allReinsertable (settingOf info) samples) 0 16))
+    orElse (infoRefusal info (length samples))
+    (cond (ltb room (4 * length samples)) 11 (cond (allReinsertable (settingOf info) samples) 0 16))
 
 -- "a refusal alters nothing"
 abbrev pub refuseDeconstruct : List ℤ → List ℕ → ℕ → DeconstructTold
-refuseDeconstruct samples literal number = record { refusal = number; bits = 0; samples = samples; literal = literal }
+refuseDeconstruct samples literal number =
+    record { refusal = number; bits = 0; samples = samples; literal = literal }
 
 -- the samples without both kinds of bits, and the literal ones from the first bit of the storage on;
 -- "spare bits of the last literal byte are 0", and the bytes after it are kept (Q6.3)
@@ -67,4 +70,5 @@ tellDeconstruct info samples literal =
 -- what the way back answers
 unfoldable pub deconstructEntry : Int32Info → List ℤ → List ℕ → DeconstructTold
 deconstructEntry info samples literal =
-    unlessRefused (deconstructRefusal info samples (length literal)) (refuseDeconstruct samples literal) (tellDeconstruct info samples literal)
+    unlessRefused (deconstructRefusal info samples (length literal)) (refuseDeconstruct samples literal)
+    (tellDeconstruct info samples literal)

@@ -19,7 +19,8 @@ Samples32 samples = (i : ℕ) → SFits w32 (getD samples i (pos 0))
 
 -- "All four fields are 0 to 31" (Q6.6)
 unfoldable pub fieldsTaken : Int32Info → Bool
-fieldsTaken info = leb (info .«sent_bits») 31 && leb (info .zeros) 31 && leb (info .ones) 31 && leb (info .dups) 31
+fieldsTaken info =
+    leb (info .«sent_bits») 31 && leb (info .zeros) 31 && leb (info .ones) 31 && leb (info .dups) 31
 
 -- fields that are accepted
 pub record Fields (info : Int32Info) : Type 0 where

@@ -37,7 +37,8 @@ viewReassemble r samples = record { refusal = outcomeNumber (r .outcome); bits =
 
 -- 15 and 5, "then short literal bits 3": fewer than samples times sent_bits (Q6.6)
 unfoldable pub reassembleRefusal : Int32Info → ℕ → ℕ → ℕ
-reassembleRefusal info samples room = orElse (infoRefusal info samples) (cond (ltb (8 * room) (samples * info .«sent_bits»)) 3 0)
+reassembleRefusal info samples room =
+    orElse (infoRefusal info samples) (cond (ltb (8 * room) (samples * info .«sent_bits»)) 3 0)
 
 -- what none of the refusals meets
 pub record Readable (info : Int32Info) (n room : ℕ) : Type 0 where
@@ -53,4 +54,8 @@ refuseReassemble samples number = record { refusal = number; bits = 0; samples =
 unfoldable pub reassembleEntry : Int32Info → List ℤ → List ℕ → ReassembleTold
 reassembleEntry info samples literal =
     unlessRefused (reassembleRefusal info (length samples) (length literal)) (refuseReassemble samples)
-    (record { refusal = 0; bits = length samples * info .«sent_bits»; samples = reassembled info (bitsOf literal) samples })
+    (record {
+      refusal = 0;
+      bits = length samples * info .«sent_bits»;
+      samples = reassembled info (bitsOf literal) samples;
+    })

@@ -25,9 +25,11 @@ written told = take ((told .bits + 7) / 8) (told .literal)
 -- bytes follow them (Q6.5)
 abbrev pub TakenOutPutBack : Type 0
 TakenOutPutBack =
-    (info : Int32Info) (samples : List ℤ) (storage more : List ℕ) → Samples32 samples → deconstructEntry info samples storage .refusal ≡ 0
+    (info : Int32Info) (samples : List ℤ) (storage more : List ℕ) → Samples32 samples
+    → deconstructEntry info samples storage .refusal ≡ 0
     → let told = deconstructEntry info samples storage in
-    reassembleEntry info (told .samples) (written told ++ more) ≡ record { refusal = 0; bits = told .bits; samples = samples }
+    reassembleEntry info (told .samples) (written told ++ more)
+    ≡ record { refusal = 0; bits = told .bits; samples = samples }
 
 -- so no two different recordings leave the same samples and literal bytes
 abbrev pub NoTwoRecordingsAlike : Type 0
@@ -35,7 +37,8 @@ NoTwoRecordingsAlike =
     (info : Int32Info) (one other : List ℤ) (storage storage′ : List ℕ) → Samples32 one → Samples32 other
     → deconstructEntry info one storage .refusal ≡ 0 → deconstructEntry info other storage′ .refusal ≡ 0
     → deconstructEntry info one storage .samples ≡ deconstructEntry info other storage′ .samples
-    → written (deconstructEntry info one storage) ≡ written (deconstructEntry info other storage′) → one ≡ other
+    → written (deconstructEntry info one storage) ≡ written (deconstructEntry info other storage′)
+    → one ≡ other
 
 -- "fields, number of samples and storage in order"
 pub record InOrder (info : Int32Info) (samples : List ℤ) (storage : List ℕ) : Type 0 where
@@ -68,7 +71,8 @@ RefusedExactly =
 -- ones are
 pub record AllKeep (info : Int32Info) (literal : List ℕ) (samples : List ℤ) : Type 0 where
   pub literal-kept : (i : ℕ) → i < length samples → Keeps (info .«sent_bits») (getD samples i (pos 0))
-  pub redundant-kept : (i : ℕ) → i < length samples → Keeps (width (settingOf info)) (getD (appended (info .«sent_bits») (bitsOf literal) samples) i (pos 0))
+  pub redundant-kept : (i : ℕ) → i < length samples
+      → Keeps (width (settingOf info)) (getD (appended (info .«sent_bits») (bitsOf literal) samples) i (pos 0))
 
 -- and then what was put in is taken out again: the samples, and the literal bits that were read
 -- (Q6.5)
@@ -78,4 +82,9 @@ PutInTakenOut =
     → reassembleEntry info samples literal .refusal ≡ 0 → 4 * length samples ≤ length storage
     → let told = reassembleEntry info samples literal in
     deconstructEntry info (told .samples) storage
-    ≡ record { refusal = 0; bits = told .bits; samples = samples; literal = overlay storage 0 (bytesHolding (take (told .bits) (bitsOf literal))) }
+    ≡ record {
+      refusal = 0;
+      bits = told .bits;
+      samples = samples;
+      literal = overlay storage 0 (bytesHolding (take (told .bits) (bitsOf literal)));
+    }

@@ -23,24 +23,29 @@ module _ (i k : ℕ) (e : i + k ≡ 31) where
   stays : (a n m : ℕ) → n < 2 ^ k → m < 2 ^ k → a * 2 ^ k + n < 2147483648 → a * 2 ^ k + m < 2147483648
   stays a n m h l f =
       let q : a < 2 ^ i =
-      subst (λ (x : ℕ). x < 2 ^ i) (digits-div a h) (shr-lt {n = a * 2 ^ k + n} i k (subst (λ (x : ℕ). a * 2 ^ k + n < x) (sym half ∙ sym (pow-add 2 i k)) f)) in
+      subst (λ (x : ℕ). x < 2 ^ i) (digits-div a h)
+      (shr-lt {n = a * 2 ^ k + n} i k
+      (subst (λ (x : ℕ). a * 2 ^ k + n < x) (sym half ∙ sym (pow-add 2 i k)) f)) in
       subst (λ (x : ℕ). a * 2 ^ k + m < x) half (digits-lt q l)
 
   -- whichever bits are put in below a sample: it fits, or it does not
-  any-fits : (x : ℤ) (n m : ℕ) → n < 2 ^ k → m < 2 ^ k → SFits w32 (x *ℤ pos (2 ^ k) +ℤ pos n) → SFits w32 (x *ℤ pos (2 ^ k) +ℤ pos m)
+  any-fits : (x : ℤ) (n m : ℕ) → n < 2 ^ k → m < 2 ^ k → SFits w32 (x *ℤ pos (2 ^ k) +ℤ pos n)
+      → SFits w32 (x *ℤ pos (2 ^ k) +ℤ pos m)
   any-fits (pos a) n m h l f = record { sfits = stays a n m h l (f .sfits) }
   any-fits (negsuc a) n m h l f =
       let p = 2 ^ k in
       let g : SFits w32 (negsuc (a * p + (p - 1 - n))) = subst (SFits w32) (sum-neg a p n h) f in
       let u : p - 1 - n < p = omega arith in
       let v : p - 1 - m < p = omega arith in
-      subst (SFits w32) (sym (sum-neg a p m l)) (record { sfits = stays a (p - 1 - n) (p - 1 - m) u v (g .sfits) })
+      subst (SFits w32) (sym (sum-neg a p m l))
+      (record { sfits = stays a (p - 1 - n) (p - 1 - m) u v (g .sfits) })
 
   -- a sample that keeps its bits is not wrapped
   pub below-exact : (n : ℕ) (x : ℤ) → n < 2 ^ k → Keeps k x → below k n x ≡ x *ℤ pos (2 ^ k) +ℤ pos n
   unfolding below
   below-exact n x h q =
-      let f : SFits w32 (x *ℤ pos (2 ^ k) +ℤ pos 0) = subst (SFits w32) (q ∙ sym (+ℤ-idr (x *ℤ pos (2 ^ k)))) (wrap-fits (x *ℤ pos (2 ^ k))) in
+      let f : SFits w32 (x *ℤ pos (2 ^ k) +ℤ pos 0) = subst (SFits w32)
+      (q ∙ sym (+ℤ-idr (x *ℤ pos (2 ^ k)))) (wrap-fits (x *ℤ pos (2 ^ k))) in
       wrap-id _ (any-fits x 0 n (pow-pos k) h f)
 
   pub taken-out : (n : ℕ) (x : ℤ) → n < 2 ^ k → Keeps k x → above k (below k n x) ≡ x
@@ -52,7 +57,9 @@ module _ (i k : ℕ) (e : i + k ≡ 31) where
       let y = below k n x in
       let p = x *ℤ pos (2 ^ k) in
       let c : suc i + k ≡ 32 = omega arith in
-      let s : p +ℤ pos n ≡ y = sym (ap (λ (z : ℤ). z *ℤ pos (2 ^ k) +ℤ pos n) q) ∙ ap (λ (l : ℕ). above k y *ℤ pos (2 ^ k) +ℤ pos l) (sym (low-below (suc i) k c n x h)) ∙ apart (suc i) k c y in
+      let s : p +ℤ pos n ≡ y = sym (ap (λ (z : ℤ). z *ℤ pos (2 ^ k) +ℤ pos n) q)
+      ∙ ap (λ (l : ℕ). above k y *ℤ pos (2 ^ k) +ℤ pos l) (sym (low-below (suc i) k c n x h))
+      ∙ apart (suc i) k c y in
       let f : SFits w32 (p +ℤ pos n) = subst (SFits w32) (sym s) (below-fits k n x) in
       wrap-id p (subst (SFits w32) (+ℤ-idr p) (any-fits x n 0 h (pow-pos k) f))
 

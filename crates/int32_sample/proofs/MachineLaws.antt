@@ -26,18 +26,22 @@ small k n h l = lt-of-lt-of-le l (pow-mono {i = k} {j = 31} h)
 
 module _ (k : ℕ) (h : k ≤ 31) where
   -- shifted left, with a number's bits in the free places
-  pub joined : (x : ℤ) (n : ℕ) → SFits w32 x → n < 2 ^ k → toZ w32 (bitOr (ofZ w32 x * 2 ^ k % 4294967296) n) ≡ below k n x
+  pub joined : (x : ℤ) (n : ℕ) → SFits w32 x → n < 2 ^ k
+      → toZ w32 (bitOr (ofZ w32 x * 2 ^ k % 4294967296) n) ≡ below k n x
   unfolding below wrap32
   joined x n f l =
       let j = 31 - k + 1 in
       let a = low32 x in
-      let p : ofZ w32 x * 2 ^ k % 4294967296 ≡ a % 2 ^ j * 2 ^ k = ap (λ (m : ℕ). m * 2 ^ k % 4294967296) (sym (low32-of x f)) ∙ shifted-mod j k (above-count k h) a in
-      ap (toZ w32) (ap (λ (m : ℕ). bitOr m n) p ∙ or-shifted (a % 2 ^ j) k n l ∙ sym (below-pattern j k (above-count k h) n x l) ∙ low32-wrap _)
+      let p : ofZ w32 x * 2 ^ k % 4294967296 ≡ a % 2 ^ j * 2 ^ k =
+      ap (λ (m : ℕ). m * 2 ^ k % 4294967296) (sym (low32-of x f)) ∙ shifted-mod j k (above-count k h) a in
+      ap (toZ w32) (ap (λ (m : ℕ). bitOr m n) p ∙ or-shifted (a % 2 ^ j) k n l
+      ∙ sym (below-pattern j k (above-count k h) n x l) ∙ low32-wrap _)
 
   -- masked
   pub masked : (x : ℤ) (mask : ℕ) → SFits w32 x → mask ≡ allOnes k → bitAnd (ofZ w32 x) mask ≡ lowBits k x
   unfolding lowBits
-  masked x mask f e = ap (bitAnd (ofZ w32 x)) e ∙ and-mask (ofZ w32 x) k ∙ ap (λ (m : ℕ). m % 2 ^ k) (sym (low32-of x f))
+  masked x mask f e = ap (bitAnd (ofZ w32 x)) e ∙ and-mask (ofZ w32 x) k
+      ∙ ap (λ (m : ℕ). m % 2 ^ k) (sym (low32-of x f))
 
   pub low-small : (x : ℤ) → lowBits k x < 2147483648
   low-small x = small k (lowBits k x) h (low-lt (31 - k + 1) k (above-count k h) x)

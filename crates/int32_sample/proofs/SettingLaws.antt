@@ -16,8 +16,10 @@ use mir.Val.{SFits}
 use Rattle.wrapping.specs.Wrap.{low32}
 use Rattle.int32_sample.specs.Sample.{below, lowBits, above}
 use Rattle.int32_sample.specs.declared.Redundancy.{Redundancy}
-use Rattle.int32_sample.specs.Setting.{Setting, zeros, ones, dups, setting, width, allOnes, evenBits, oddBits, reinsert, reinsertable, TestIsImage}
-use Rattle.int32_sample.proofs.ShiftLaws.{below-nothing, above-count, above-fits, below-pattern, low-below, put-back, low-lt, above-pattern}
+use Rattle.int32_sample.specs.Setting.{Setting, zeros, ones, dups, setting, width, allOnes, evenBits}
+use Rattle.int32_sample.specs.Setting.{oddBits, reinsert, reinsertable, TestIsImage}
+use Rattle.int32_sample.proofs.ShiftLaws.{below-nothing, above-count, above-fits, below-pattern}
+use Rattle.int32_sample.proofs.ShiftLaws.{low-below, put-back, low-lt, above-pattern}
 
 -- ---- by whether the sample is even
 
@@ -89,11 +91,15 @@ is-dups (suc z) o d h l = absurd (omega arith)
 pub held-zeros : (z o d : ℕ) → 0 < z → record { count = z; even = 0; odd = 0 } ≡ held (setting z o d)
 held-zeros z o d h = ap held (sym (is-zeros z o d h))
 
-pub held-ones : (z o d mask : ℕ) → z ≤ 0 → 0 < o → mask ≡ allOnes o → record { count = o; even = mask; odd = mask } ≡ held (setting z o d)
-held-ones z o d mask h l e = ap (λ (m : ℕ). record { count = o; even = m; odd = m }) e ∙ ap held (sym (is-ones z o d h l))
+pub held-ones : (z o d mask : ℕ) → z ≤ 0 → 0 < o → mask ≡ allOnes o
+    → record { count = o; even = mask; odd = mask } ≡ held (setting z o d)
+held-ones z o d mask h l e = ap (λ (m : ℕ). record { count = o; even = m; odd = m }) e ∙ ap held
+    (sym (is-ones z o d h l))
 
-pub held-dups : (z o d mask : ℕ) → z ≤ 0 → o ≤ 0 → mask ≡ allOnes d → record { count = d; even = 0; odd = mask } ≡ held (setting z o d)
-held-dups z o d mask h l e = ap (λ (m : ℕ). record { count = d; even = 0; odd = m }) e ∙ ap held (sym (is-dups z o d h l))
+pub held-dups : (z o d mask : ℕ) → z ≤ 0 → o ≤ 0 → mask ≡ allOnes d
+    → record { count = d; even = 0; odd = mask } ≡ held (setting z o d)
+held-dups z o d mask h l e = ap (λ (m : ℕ). record { count = d; even = 0; odd = m }) e ∙ ap held
+    (sym (is-dups z o d h l))
 
 -- ---- the test on the low bits
 
@@ -101,13 +107,15 @@ held-dups z o d mask h l e = ap (λ (m : ℕ). record { count = d; even = 0; odd
 module _ (i k : ℕ) (e : i + 1 + k ≡ 32) where
   pub bit-above : (y : ℤ) → SFits w32 y → lowBits 1 (above k y) ≡ low32 y / 2 ^ k % 2
   unfolding lowBits
-  bit-above y h = sym (mod-mod-pow (low32 (above k y)) i 1) ∙ ap (λ (n : ℕ). n % 2) (sym (above-pattern (i + 1) k e y h))
+  bit-above y h = sym (mod-mod-pow (low32 (above k y)) i 1)
+      ∙ ap (λ (n : ℕ). n % 2) (sym (above-pattern (i + 1) k e y h))
 
   -- is that of the sample that bits were put in below
   pub bit-below : (n : ℕ) (x : ℤ) → n < 2 ^ k → low32 (below k n x) / 2 ^ k % 2 ≡ lowBits 1 x
   unfolding lowBits
   bit-below n x h =
-      ap (λ (p : ℕ). p / 2 ^ k % 2) (below-pattern (i + 1) k e n x h) ∙ ap (λ (p : ℕ). p % 2) (high (low32 x % 2 ^ (i + 1)) k h)
+      ap (λ (p : ℕ). p / 2 ^ k % 2) (below-pattern (i + 1) k e n x h)
+      ∙ ap (λ (p : ℕ). p % 2) (high (low32 x % 2 ^ (i + 1)) k h)
       ∙ mod-mod-pow (low32 x) i 1
 
 -- one more low bit
@@ -116,7 +124,8 @@ unfolding lowBits
 low-more k y = ap (λ (n : ℕ). low32 y % 2 ^ n) (sym (one-add k)) ∙ mod-pow-add (low32 y) 1 k
 
 -- a bit and the bits below it are alike where these are copies of it
-alike : (b p l : ℕ) → b < 2 → l < p → (eqb (b * p + l) 0 || eqb (b * p + l) (2 * p - 1)) ≡ eqb l (cond (eqb b 0) 0 (p - 1))
+alike : (b p l : ℕ) → b < 2 → l < p → (eqb (b * p + l) 0 || eqb (b * p + l) (2 * p - 1)) ≡ eqb l
+    (cond (eqb b 0) 0 (p - 1))
 alike zero p l h w = go (eqb l 0) refl
   where
     z : 0 * p + l ≡ l
@@ -151,17 +160,20 @@ tested (ones k) i y e h = ap (eqb (lowBits k y)) (sym (either (eqb (lowBits 1 (a
 tested (dups k) i y e h =
     let b = low32 y / 2 ^ k % 2 in
     let t : 2 ^ suc k ≡ 2 * 2 ^ k = pow-suc 2 k ∙ omega arith in
-    rw (low-more k y, t, bit-above i k e y h) (alike b (2 ^ k) (lowBits k y) (mod-lt (low32 y / 2 ^ k) (omega arith)) (low-lt (i + 1) k e y))
+    rw (low-more k y, t, bit-above i k e y h)
+    (alike b (2 ^ k) (lowBits k y) (mod-lt (low32 y / 2 ^ k) (omega arith)) (low-lt (i + 1) k e y))
 
 -- what the test holds of comes back from what is above its low bits
-pub comes-back : (s : Setting) (i : ℕ) (y : ℤ) → i + 1 + width s ≡ 32 → SFits w32 y → reinsertable s y ≡ true → reinsert s (above (width s) y) ≡ y
+pub comes-back : (s : Setting) (i : ℕ) (y : ℤ) → i + 1 + width s ≡ 32 → SFits w32 y
+    → reinsertable s y ≡ true → reinsert s (above (width s) y) ≡ y
 comes-back s i y e h t =
     let k = width s in
     let l : lowBits k y ≡ fill s (above k y) = eqb-true _ _ (sym (tested s i y e h) ∙ t) in
     by-parity s (above k y) ∙ ap (λ (n : ℕ). below k n (above k y)) (sym l) ∙ put-back (i + 1) k e y h
 
 -- and it holds of whatever a setting made
-pub made : (s : Setting) (i : ℕ) (x y : ℤ) → i + 1 + width s ≡ 32 → SFits w32 y → reinsert s x ≡ y → reinsertable s y ≡ true
+pub made : (s : Setting) (i : ℕ) (x y : ℤ) → i + 1 + width s ≡ 32 → SFits w32 y → reinsert s x ≡ y
+    → reinsertable s y ≡ true
 made s i x y e h q =
     let k = width s in
     let n = fill s x in
@@ -176,5 +188,9 @@ pub test-is-image : TestIsImage
 test-is-image s y w h =
     let e = above-count (width s) w in (
       λ x. made s (31 - width s) (x .sample) y e h (x .image),
-      λ t. record { sample = above (width s) y; fits = above-fits (width s) y h; image = comes-back s (31 - width s) y e h t },
+      λ t. record {
+        sample = above (width s) y;
+        fits = above-fits (width s) y h;
+        image = comes-back s (31 - width s) y e h t;
+      },
     )

@@ -19,7 +19,9 @@ use Rattle.int32_sample.specs.Sample.{below, lowBits, above}
 
 -- a negative number and one that does not reach over 0
 neg-sum : (t b n : ℕ) → t ≡ suc (n + b) → negℤ (pos t) +ℤ pos b ≡ negsuc n
-neg-sum t b n e = rw e (sub-cases b (suc (n + b)) (λ z. z ≡ negsuc n) (λ h. let q : suc (n + b) - suc b ≡ n = omega arith in ap negsuc q) (λ h. absurd (omega arith)))
+neg-sum t b n e = rw e
+    (sub-cases b (suc (n + b)) (λ z. z ≡ negsuc n)
+    (λ h. let q : suc (n + b) - suc b ≡ n = omega arith in ap negsuc q) (λ h. absurd (omega arith)))
 
 -- below a negative number the rest counts from the other end
 pub sum-neg : (a m n : ℕ) → n < m → negsuc a *ℤ pos m +ℤ pos n ≡ negsuc (a * m + (m - 1 - n))
@@ -60,11 +62,13 @@ module _ (j k : ℕ) (e : j + k ≡ 32) where
   -- a pattern that is shifted left loses its high bits
   pub shifted-mod : (a : ℕ) → a * 2 ^ k % 4294967296 ≡ a % 2 ^ j * 2 ^ k
   shifted-mod a =
-      ap (λ (m : ℕ). a * 2 ^ k % m) (sym whole) ∙ mod-pow-add (a * 2 ^ k) j k ∙ rw (shl-shr a k, mul-mod-left a (2 ^ k)) (omega arith)
+      ap (λ (m : ℕ). a * 2 ^ k % m) (sym whole) ∙ mod-pow-add (a * 2 ^ k) j k
+      ∙ rw (shl-shr a k, mul-mod-left a (2 ^ k)) (omega arith)
 
   -- what is put below fills up to 32 bits
   filled-lt : (a n : ℕ) → n < 2 ^ k → a % 2 ^ j * 2 ^ k + n < 4294967296
-  filled-lt a n h = subst (λ (m : ℕ). a % 2 ^ j * 2 ^ k + n < m) (sym (pow-add 2 j k) ∙ whole) (digits-lt (mod-lt a (pow-pos j)) h)
+  filled-lt a n h = subst (λ (m : ℕ). a % 2 ^ j * 2 ^ k + n < m) (sym (pow-add 2 j k) ∙ whole)
+      (digits-lt (mod-lt a (pow-pos j)) h)
 
   pub below-pattern : (n : ℕ) (x : ℤ) → n < 2 ^ k → low32 (below k n x) ≡ low32 x % 2 ^ j * 2 ^ k + n
   unfolding below low32
@@ -89,7 +93,8 @@ module _ (j k : ℕ) (e : j + k ≡ 32) where
       let c = 2 ^ j - 1 - q in
       let ql : q < 2 ^ j = shr-lt j k (subst (λ (n : ℕ). a < n) (sym whole) h) in
       let s : c + suc q ≡ 2 ^ j = omega arith in
-      let p : c * m + suc q * m ≡ 4294967296 = sym (add-mul c (suc q) m) ∙ ap (λ (n : ℕ). n * m) s ∙ sym (pow-add 2 j k) ∙ whole in
+      let p : c * m + suc q * m ≡ 4294967296 = sym (add-mul c (suc q) m) ∙ ap (λ (n : ℕ). n * m) s
+      ∙ sym (pow-add 2 j k) ∙ whole in
       let t : suc q * m ≡ q * m + m = suc-mul q m in
       let d : q * m + a % m ≡ a = split a k in
       let l : a % m < m = mod-lt a (pow-pos k) in
@@ -127,7 +132,9 @@ module _ (j k : ℕ) (e : j + k ≡ 32) where
   -- the pattern above the low bits
   pub above-pattern : (y : ℤ) → SFits w32 y → low32 y / 2 ^ k ≡ low32 (above k y) % 2 ^ j
   above-pattern y h =
-      ap (λ (p : ℕ). p / 2 ^ k) (sym (ap low32 (put-back y h)) ∙ below-pattern (lowBits k y) (above k y) (low-lt y)) ∙ high (low32 (above k y) % 2 ^ j) k (low-lt y)
+      ap (λ (p : ℕ). p / 2 ^ k)
+      (sym (ap low32 (put-back y h)) ∙ below-pattern (lowBits k y) (above k y) (low-lt y))
+      ∙ high (low32 (above k y) % 2 ^ j) k (low-lt y)
 
 -- no bits below a sample leave it as it is
 pub below-nothing : (x : ℤ) → SFits w32 x → below 0 0 x ≡ x

@@ -68,7 +68,9 @@ pub record Source (s : Setting) (y : ℤ) : Type 0 where
 
 -- the test holds exactly of those that have one (Q6.4)
 abbrev pub TestIsImage : Type 0
-TestIsImage = (s : Setting) (y : ℤ) → width s ≤ 31 → SFits w32 y → (Source s y → reinsertable s y ≡ true) × (reinsertable s y ≡ true → Source s y)
+TestIsImage =
+    (s : Setting) (y : ℤ) → width s ≤ 31 → SFits w32 y
+    → (Source s y → reinsertable s y ≡ true) × (reinsertable s y ≡ true → Source s y)
 
 -- no bit is lost where x is shifted left by k: it is x times 2 to the k without being kept to 32 bits
 abbrev pub Keeps : ℕ → ℤ → Type 0
@@ -77,4 +79,5 @@ Keeps k x = wrap32 (x *ℤ pos (2 ^ k)) ≡ x *ℤ pos (2 ^ k)
 -- bits put in and taken out again leave the sample exactly where it lost none (Q6.5)
 abbrev pub PutInTakenOut : Type 0
 PutInTakenOut =
-    (k n : ℕ) (x : ℤ) → k ≤ 31 → n < 2 ^ k → (Keeps k x → above k (below k n x) ≡ x) × (above k (below k n x) ≡ x → Keeps k x)
+    (k n : ℕ) (x : ℤ) → k ≤ 31 → n < 2 ^ k
+    → (Keeps k x → above k (below k n x) ≡ x) × (above k (below k n x) ≡ x → Keeps k x)

@@ -18,7 +18,8 @@ leaveReassemble samples answer t = fillCall 1 samples answer (t .refusal) (t .sa
 
 -- the number that `wv_reassemble_int32` answers, and what its two lists then hold
 unfoldable pub reassembleCall : Int32Info → List ℤ → List ℕ → List ℕ → Filled ℤ
-reassembleCall info samples literal answer = leaveReassemble samples answer (reassembleEntry info samples literal)
+reassembleCall info samples literal answer =
+    leaveReassemble samples answer (reassembleEntry info samples literal)
 
 -- what the way back leaves: the number that it answers, and its three lists
 pub record Divided : Type 0 where
@@ -30,9 +31,16 @@ pub record Divided : Type 0 where
 -- what it answers, with 1 slot: the literal bits written. Without the slot 6, and all lists as they were
 abbrev pub leaveDeconstruct : List ℤ → List ℕ → List ℕ → DeconstructTold → Divided
 leaveDeconstruct samples literal answer t =
-    cond (ltb (length answer) 1) (record { refusal = 6; samples = samples; literal = literal; answer = answer })
-    (record { refusal = t .refusal; samples = t .samples; literal = t .literal; answer = leaveValues (t .refusal) (t .bits ∷ []) answer })
+    cond (ltb (length answer) 1)
+    (record { refusal = 6; samples = samples; literal = literal; answer = answer })
+    (record {
+      refusal = t .refusal;
+      samples = t .samples;
+      literal = t .literal;
+      answer = leaveValues (t .refusal) (t .bits ∷ []) answer;
+    })
 
 -- the number that `wv_deconstruct_int32` answers, and what its three lists then hold
 unfoldable pub deconstructCall : Int32Info → List ℤ → List ℕ → List ℕ → Divided
-deconstructCall info samples literal answer = leaveDeconstruct samples literal answer (deconstructEntry info samples literal)
+deconstructCall info samples literal answer =
+    leaveDeconstruct samples literal answer (deconstructEntry info samples literal)

@@ -3,7 +3,8 @@
 use native.Mathlib.Omega.{arith}
 use borrow.Author.Needs.{needs}
 use Rattle.int32.specs.Info.{Fields}
-use Rattle.int32.proofs.InfoLaws.{sent-above, zeros-above, ones-above, dups-above, many-samples, info-none}
+use Rattle.int32.proofs.InfoLaws.{sent-above, zeros-above, ones-above, dups-above, many-samples}
+use Rattle.int32.proofs.InfoLaws.{info-none}
 use Rattle.int32.proofs.info_refusal.Statement.{statement}
 use Rattle.int32.proofs.info_refusal.Tie as tie
 

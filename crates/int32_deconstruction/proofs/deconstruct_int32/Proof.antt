@@ -30,14 +30,17 @@ none : (t : tie.After-enum-told) →
     deconstructRefusal (a .info) (now (a .samples)) (length (now (a .literal))) ≡ 0
 none t = sym (t .before .before .deconstruct-refusal .ensures) ∙ ap outcomeNumber (t .enum-told .given .1)
 
-ready : (t : tie.After-enum-told) → let a = t .before .before .before .before .before .args in Divisible (a .info) (now (a .samples)) (length (now (a .literal)))
+ready : (t : tie.After-enum-told) → let a = t .before .before .before .before .before .args in
+    Divisible (a .info) (now (a .samples)) (length (now (a .literal)))
 ready t = divisible _ _ _ (none t)
 
 redundancy-of-requires : tie.Need-redundancy-of-requires
 redundancy-of-requires c κs = let f = ready c .fields in (f .zeros, f .ones, f .dups)
 
 -- how many redundant bits there are
-count-is : (c : tie.After-redundancy-of) → let a = c .before .before .before .before .before .before .args in c .redundancy-of .result .count ≡ width (settingOf (a .info))
+count-is : (c : tie.After-redundancy-of) → let a =
+    c .before .before .before .before .before .before .args in
+    c .redundancy-of .result .count ≡ width (settingOf (a .info))
 count-is c = ap (λ (r : Redundancy). r .count) (c .redundancy-of .ensures)
 
 few : (c : tie.After-redundancy-of) → c .redundancy-of .result .count ≤ 31
@@ -55,12 +58,16 @@ shorten-requires c κs =
     (few put, ready (put .before) .fields .sent)
 
 -- the samples are as many as before
-as-many : (c : tie.After-shorten) → let a = c .before .before .before .before .before .before .before .before .before .before .before .before .before .args in length (c .shorten .last .0) ≡ length (now (a .samples))
+as-many : (c : tie.After-shorten) →
+    let put = c .before .before .before .before .before .before .before in
+    let a = put .before .before .before .before .before .before .args in
+    length (c .shorten .last .0) ≡ length (now (a .samples))
 as-many c =
     let put : tie.After-redundancy-of = search needs in
     let start : tie.Start = search needs in
     let xs = now (start .args .samples) in
-    ap length (c .shorten .ensures) ∙ length-map (map (above (put .redundancy-of .result .count)) xs) _ ∙ length-map xs _
+    ap length (c .shorten .ensures) ∙ length-map (map (above (put .redundancy-of .result .count)) xs) _
+    ∙ length-map xs _
 
 cast-t17 : tie.Need-cast-t17
 cast-t17 c =
@@ -82,7 +89,8 @@ returns-2 c =
     let short : tie.After-shorten = search needs in
     let start : tie.Start = search needs in
     let a = start .args in
-    deconstruct-told (a .info) (now (a .samples)) (now (a .literal)) (put .redundancy-of .result .count) _ _ (none (put .before)) (count-is put) (as-many short) (short .shorten .ensures)
+    deconstruct-told (a .info) (now (a .samples)) (now (a .literal)) (put .redundancy-of .result .count) _ _
+    (none (put .before)) (count-is put) (as-many short) (short .shorten .ensures)
     (laid .lay-literals .ensures)
 
 pub deconstruct-int32-spec : {M : Type 1} → statement M

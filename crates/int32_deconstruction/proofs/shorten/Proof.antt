@@ -32,10 +32,14 @@ loop-again c =
     let l = at-loop .loop in
     let x = getD (l .samples) (l .i) (pos 0) in
     let f : SFits w32 x = search needs in
-    let first : c .before .shifted .result ≡ above (a .shift) x = c .before .shifted .ensures ∙ ap (above (a .shift)) (toZ-ofZ f) in
-    let g : SFits w32 (c .before .shifted .result) = subst (SFits w32) (sym first) (above-fits (a .shift) x f) in
-    let e : c .shifted2 .result ≡ above (a .count) (above (a .shift) x) = c .shifted2 .ensures ∙ ap (above (a .count)) (toZ-ofZ g ∙ first) in
-    let h : SFits w32 (c .shifted2 .result) = subst (SFits w32) (sym e) (above-fits (a .count) _ (above-fits (a .shift) x f)) in
+    let first : c .before .shifted .result ≡ above (a .shift) x =
+    c .before .shifted .ensures ∙ ap (above (a .shift)) (toZ-ofZ f) in
+    let g : SFits w32 (c .before .shifted .result) = subst (SFits w32) (sym first)
+    (above-fits (a .shift) x f) in
+    let e : c .shifted2 .result ≡ above (a .count) (above (a .shift) x) =
+    c .shifted2 .ensures ∙ ap (above (a .count)) (toZ-ofZ g ∙ first) in
+    let h : SFits w32 (c .shifted2 .result) = subst (SFits w32) (sym e)
+    (above-fits (a .count) _ (above-fits (a .shift) x f)) in
     rw (toZ-ofZ h) (replaced-more _ _ (l .samples) (l .i) _ (omega arith) e (l .inv))
 
 returns : tie.Need-returns Inv-loop μ-loop
@@ -43,7 +47,8 @@ returns c =
     let start : tie.Start Inv-loop μ-loop = search needs in
     let a = start .args in
     let l = c .before .loop in
-    replaced-all _ _ (l .samples) (l .i) (omega arith) (l .inv) ∙ sym (map-map (above (a .count)) (above (a .shift)) (now (a .samples)) ∙ map-from _ 0 (now (a .samples)))
+    replaced-all _ _ (l .samples) (l .i) (omega arith) (l .inv)
+    ∙ sym (map-map (above (a .count)) (above (a .shift)) (now (a .samples)) ∙ map-from _ 0 (now (a .samples)))
 
 pub shorten-spec : {M : Type 1} → statement M
 shorten-spec =

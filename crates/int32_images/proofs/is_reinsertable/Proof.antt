@@ -18,7 +18,8 @@ use Rattle.int32_sample.specs.Sample.{lowBits, above}
 use Rattle.int32_sample.specs.Setting.{setting, reinsertable}
 use Rattle.int32_sample.proofs.ShiftLaws.{above-fits}
 use Rattle.int32.proofs.InfoLaws.{width-le}
-use Rattle.int32_images.proofs.TestLaws.{Tested, tested-none, tested-passed, tested-failed, tested-all, passes, fails-test}
+use Rattle.int32_images.proofs.TestLaws.{Tested, tested-none, tested-passed, tested-failed}
+use Rattle.int32_images.proofs.TestLaws.{tested-all, passes, fails-test}
 use Rattle.int32_images.proofs.is_reinsertable.Statement.{statement}
 use Rattle.int32_images.proofs.is_reinsertable.Tie as tie
 
@@ -33,7 +34,8 @@ few : (c : tie.After-redundancy-of Inv-loop μ-loop) → c .redundancy-of .resul
 few c =
     let start : tie.Start Inv-loop μ-loop = search needs in
     let a = start .args in
-    subst (λ (r : Redundancy). r .count ≤ 31) (sym (c .redundancy-of .ensures)) (width-le (a .zeros) (a .ones) (a .dups) (start .pre .0) (start .pre .1) (start .pre .2))
+    subst (λ (r : Redundancy). r .count ≤ 31) (sym (c .redundancy-of .ensures))
+    (width-le (a .zeros) (a .ones) (a .dups) (start .pre .0) (start .pre .1) (start .pre .2))
 
 low-bits-requires : tie.Need-low-bits-requires Inv-loop μ-loop
 low-bits-requires c κs = let put : tie.After-redundancy-of Inv-loop μ-loop = search needs in few put
@@ -57,13 +59,18 @@ looked c =
     let s = setting (a .zeros) (a .ones) (a .dups) in
     let y = getD (a .samples .now) (at-loop .loop .i) (pos 0) in
     let f : SFits w32 y = search needs in
-    let g : SFits w32 (c .before .shifted .result) = subst (SFits w32) (sym (c .before .shifted .ensures)) (above-fits _ _ (rw (toZ-ofZ f) f)) in
+    let g : SFits w32 (c .before .shifted .result) = subst (SFits w32) (sym (c .before .shifted .ensures))
+    (above-fits _ _ (rw (toZ-ofZ f) f)) in
     let w = width-le (a .zeros) (a .ones) (a .dups) (start .pre .0) (start .pre .1) (start .pre .2) in
     let e = put .redundancy-of .ensures in
     let k = put .redundancy-of .result .count in
-    let low : c .before .before .low-bits .result ≡ lowBits k y = c .before .before .low-bits .ensures ∙ ap (lowBits k) (toZ-ofZ f) in
-    let rest : toZ w32 (ofZ w32 (c .before .shifted .result)) ≡ above k y = toZ-ofZ g ∙ c .before .shifted .ensures ∙ ap (above k) (toZ-ofZ f) in
-    let fill = c .bits-below .ensures ∙ ap (λ (x : ℤ). cond (eqb (lowBits 1 x) 0) (put .redundancy-of .result .even) (put .redundancy-of .result .odd)) rest in
+    let low : c .before .before .low-bits .result ≡ lowBits k y =
+    c .before .before .low-bits .ensures ∙ ap (lowBits k) (toZ-ofZ f) in
+    let rest : toZ w32 (ofZ w32 (c .before .shifted .result)) ≡ above k y =
+    toZ-ofZ g ∙ c .before .shifted .ensures ∙ ap (above k) (toZ-ofZ f) in
+    let fill = c .bits-below .ensures
+    ∙ ap (λ (x : ℤ). cond (eqb (lowBits 1 x) 0) (put .redundancy-of .result .even)
+    (put .redundancy-of .result .odd)) rest in
     (passes s _ y _ _ w f e low fill, fails-test s _ y _ _ w f e low fill)
 
 loop-again : tie.Need-loop-again Inv-loop μ-loop

@@ -23,12 +23,15 @@ use Rattle.bits.proofs.LaidLaws.{Bytes}
 use Rattle.int32_sample.specs.Sample.{lowBits, above}
 use Rattle.int32_sample.proofs.ShiftLaws.{above-fits, low-lt}
 use Rattle.int32.specs.Deconstruct.{literalOf}
-use Rattle.int32_laying.proofs.LayLaws.{nothing-laid, Joins, joins, given-back, rest-whole, Laying, laying-room, laying-none, laying-more, laying-laid, laying-all}
+use Rattle.int32_laying.proofs.LayLaws.{nothing-laid, Joins, joins, given-back, rest-whole, Laying}
+use Rattle.int32_laying.proofs.LayLaws.{laying-room, laying-none, laying-more, laying-laid}
+use Rattle.int32_laying.proofs.LayLaws.{laying-all}
 use Rattle.int32_laying.proofs.lay_literals.Statement.{statement}
 use Rattle.int32_laying.proofs.lay_literals.Tie as tie
 
 abbrev Inv-loop : tie.InvT-loop
-Inv-loop samples shift count out₀ held₀ filled₀ at₀ i₀ out held filled at i = (filled < 32) × Bytes out × Laying samples shift count out₀ out held filled at i
+Inv-loop samples shift count out₀ held₀ filled₀ at₀ i₀ out held filled at i =
+    (filled < 32) × Bytes out × Laying samples shift count out₀ out held filled at i
 
 abbrev μ-loop : tie.MeasureT-loop
 μ-loop samples shift count out₀ held₀ filled₀ at₀ i₀ out held filled at i = length samples - i
@@ -38,7 +41,8 @@ returns c =
     let start : tie.Start Inv-loop μ-loop = search needs in
     let a = start .args in
     let xs = map (above (a .shift)) (now (a .samples)) in
-    nothing-laid (now (a .out)) xs ∙ ap (λ (k : ℕ). overlay (now (a .out)) 0 (bytesHolding (literalOf k xs))) (sym (c .if1 .taken))
+    nothing-laid (now (a .out)) xs
+    ∙ ap (λ (k : ℕ). overlay (now (a .out)) 0 (bytesHolding (literalOf k xs))) (sym (c .if1 .taken))
 
 loop-holds : tie.Need-loop-holds Inv-loop μ-loop
 loop-holds c = (omega arith, λ i. omega (arith, c .before .slice-known .given i), laying-none _ _ _ _)
@@ -47,7 +51,8 @@ loop-holds c = (omega arith, λ i. omega (arith, c .before .slice-known .given i
 value : (c : tie.After-u32-to-u64 Inv-loop μ-loop) →
     let start = c .before .before .before .before .before .before .before .before in
     let l = c .before .before .before .before .before .loop in
-    c .u32-to-u64 .result ≡ lowBits (start .args .count) (above (start .args .shift) (getD (start .args .samples .now) (l .i) (pos 0)))
+    c .u32-to-u64 .result ≡ lowBits (start .args .count)
+    (above (start .args .shift) (getD (start .args .samples .now) (l .i) (pos 0)))
 value c =
     let start : tie.Start Inv-loop μ-loop = search needs in
     let at-loop : tie.At-loop Inv-loop μ-loop = search needs in
@@ -55,11 +60,14 @@ value c =
     let x = getD (a .samples .now) (at-loop .loop .i) (pos 0) in
     let f : SFits w32 x = search needs in
     let shifted : tie.After-shifted Inv-loop μ-loop = search needs in
-    let e : shifted .shifted .result ≡ above (a .shift) x = shifted .shifted .ensures ∙ ap (above (a .shift)) (toZ-ofZ f) in
+    let e : shifted .shifted .result ≡ above (a .shift) x =
+    shifted .shifted .ensures ∙ ap (above (a .shift)) (toZ-ofZ f) in
     let g : SFits w32 (shifted .shifted .result) = subst (SFits w32) (sym e) (above-fits (a .shift) x f) in
     c .u32-to-u64 .ensures ∙ c .before .low-bits .ensures ∙ ap (lowBits (a .count)) (toZ-ofZ g ∙ e)
 
-value-lt : (c : tie.After-u32-to-u64 Inv-loop μ-loop) → let start = c .before .before .before .before .before .before .before .before in c .u32-to-u64 .result < 2 ^ start .args .count
+value-lt : (c : tie.After-u32-to-u64 Inv-loop μ-loop) → let start =
+    c .before .before .before .before .before .before .before .before in
+    c .u32-to-u64 .result < 2 ^ start .args .count
 value-lt c =
     let start : tie.Start Inv-loop μ-loop = search needs in
     let k = start .args .count in
@@ -74,7 +82,8 @@ adds c =
     let start : tie.Start Inv-loop μ-loop = search needs in
     let at-loop : tie.At-loop Inv-loop μ-loop = search needs in
     let l = at-loop .loop in
-    joins (l .held) _ (l .filled) (start .args .count) (l .inv .2 .small) (value-lt c) (omega (arith, l .inv .0, start .pre .1 .1))
+    joins (l .held) _ (l .filled) (start .args .count) (l .inv .2 .small) (value-lt c)
+    (omega (arith, l .inv .0, start .pre .1 .1))
 
 add-held : tie.Need-add-held Inv-loop μ-loop
 add-held c = let j = adds c in rw (j .exact) (record { fits = omega (arith, j .fits) })
@@ -83,16 +92,19 @@ add-held c = let j = adds c in rw (j .exact) (record { fits = omega (arith, j .f
 gathers : (c : tie.After-u32-to-u64 Inv-loop μ-loop) →
     let start = c .before .before .before .before .before .before .before .before in
     let l = c .before .before .before .before .before .loop in
-    Laying (start .args .samples .now) (start .args .shift) (start .args .count) (start .args .out .now) (l .out) (l .held + c .u32-to-u64 .result * 2 ^ l .filled % 18446744073709551616)
+    Laying (start .args .samples .now) (start .args .shift) (start .args .count) (start .args .out .now)
+    (l .out) (l .held + c .u32-to-u64 .result * 2 ^ l .filled % 18446744073709551616)
     (l .filled + start .args .count) (l .at) (l .i + 1)
 gathers c =
     let start : tie.Start Inv-loop μ-loop = search needs in
     let at-loop : tie.At-loop Inv-loop μ-loop = search needs in
     let l = at-loop .loop in
-    rw (adds c .exact) (laying-more _ _ _ _ (l .out) (l .held) (l .filled) (l .at) (l .i) _ (omega arith) (value c) (value-lt c) (l .inv .2))
+    rw (adds c .exact) (laying-more _ _ _ _ (l .out) (l .held) (l .filled) (l .at) (l .i) _ (omega arith)
+    (value c) (value-lt c) (l .inv .2))
 
 -- there is room for four bytes where 32 bits are held
-four-fit : (c : tie.Then2 Inv-loop μ-loop) → let l = c .before .before .before .before .before .before .loop in l .at + 4 ≤ length (l .out)
+four-fit : (c : tie.Then2 Inv-loop μ-loop) → let l =
+    c .before .before .before .before .before .before .loop in l .at + 4 ≤ length (l .out)
 four-fit c =
     let start : tie.Start Inv-loop μ-loop = search needs in
     let g = gathers (c .before) in
@@ -120,7 +132,8 @@ loop-again c =
     (λ t. rw (t .5, t .6, t .7, t .8) (
       omega (arith, l .inv .0, start .pre .1 .1, t .0 .taken),
       λ i. omega (arith, t .4 .given i),
-      laying-laid _ _ _ _ (l .out) _ _ _ (l .at) _ (t .0 .taken) (four-fit (record { before = c .before; if2 = t .0 })) (t .2 .ensures) g,
+      laying-laid _ _ _ _ (l .out) _ _ _ (l .at) _ (t .0 .taken)
+          (four-fit (record { before = c .before; if2 = t .0 })) (t .2 .ensures) g,
     ))
     (λ t. rw (t .1, t .2, t .3, t .4) (t .0 .left, l .inv .1, g))
     (c .if2 .came)
@@ -130,12 +143,21 @@ sub-put-bits c =
     let start : tie.Start Inv-loop μ-loop = search needs in
     let l = c .before .loop in
     let y = l .inv .2 in
-    omega (arith, laying-room _ _ _ _ _ _ _ _ _ (start .pre .1 .1) y, y .here, y .same-length, start .pre .0 .0)
+    omega (
+      arith,
+      laying-room _ _ _ _ _ _ _ _ _ (start .pre .1 .1) y,
+      y .here,
+      y .same-length,
+      start .pre .0 .0,
+    )
 
 cast-put-bits : tie.Need-cast-put-bits Inv-loop μ-loop
 cast-put-bits c =
     let l = c .before .before .loop in
-    record { fits = lt-of-lt-of-le (l .inv .2 .small) (pow-mono {i = l .filled} {j = 32} (omega (arith, l .inv .0))) }
+    record {
+      fits = lt-of-lt-of-le (l .inv .2 .small)
+          (pow-mono {i = l .filled} {j = 32} (omega (arith, l .inv .0)));
+    }
 
 put-bits-requires : tie.Need-put-bits-requires Inv-loop μ-loop
 put-bits-requires c κs =
@@ -149,12 +171,19 @@ put-bits-requires c κs =
     )
 
 -- the bytes that are laid are within the buffer
-ends : (c : tie.After-put-bits Inv-loop μ-loop) → let l = c .before .before .before .loop in l .at ≤ length (l .out)
+ends : (c : tie.After-put-bits Inv-loop μ-loop) → let l = c .before .before .before .loop in
+    l .at ≤ length (l .out)
 ends c =
     let start : tie.Start Inv-loop μ-loop = search needs in
     let l = c .before .before .before .loop in
     let y = l .inv .2 in
-    omega (arith, laying-room _ _ _ _ _ _ _ _ _ (start .pre .1 .1) y, y .here, y .same-length, start .pre .0 .0)
+    omega (
+      arith,
+      laying-room _ _ _ _ _ _ _ _ _ (start .pre .1 .1) y,
+      y .here,
+      y .same-length,
+      start .pre .0 .0,
+    )
 
 same-length : tie.Need-same-length Inv-loop μ-loop
 same-length c =
@@ -163,9 +192,19 @@ same-length c =
     let y = l .inv .2 in
     let m = ends wrote in
     let part = wrote .put-bits .last .0 in
-    let whole : length (take (length (l .out) - l .at) (drop (l .at) (l .out))) ≡ length (drop (l .at) (l .out)) = ap length (rest-whole (l .out) (l .at)) in
+    let whole : length (take (length (l .out) - l .at) (drop (l .at) (l .out)))
+    ≡ length (drop (l .at) (l .out)) = ap length (rest-whole (l .out) (l .at)) in
     ap length (given-back (l .out) part part (l .at) m refl)
-    ∙ omega (arith, length-append (take (l .at) (l .out)) part, length-take-le (l .at) (l .out) m, wrote .put-bits .kept .0, whole, length-drop (l .at) (l .out), m, y .same-length)
+    ∙ omega (
+      arith,
+      length-append (take (l .at) (l .out)) part,
+      length-take-le (l .at) (l .out) m,
+      wrote .put-bits .kept .0,
+      whole,
+      length-drop (l .at) (l .out),
+      m,
+      y .same-length,
+    )
 
 returns-2 : tie.Need-returns-2 Inv-loop μ-loop
 returns-2 c =
@@ -174,8 +213,10 @@ returns-2 c =
     let l = wrote .before .before .before .loop in
     let m = ends wrote in
     let e : wrote .put-bits .last .0 ≡ put (drop (l .at) (l .out)) 0 (low (l .filled) (l .held)) =
-    wrote .put-bits .ensures ∙ ap (λ (x : List ℕ). put x 0 (low (l .filled) (l .held))) (rest-whole (l .out) (l .at)) in
-    given-back (l .out) _ _ (l .at) m e ∙ laying-all _ _ _ _ (l .out) (l .held) (l .filled) (l .at) (l .i) (omega arith) (l .inv .1) m (l .inv .2)
+    wrote .put-bits .ensures ∙ ap (λ (x : List ℕ). put x 0 (low (l .filled) (l .held)))
+    (rest-whole (l .out) (l .at)) in
+    given-back (l .out) _ _ (l .at) m e ∙ laying-all _ _ _ _ (l .out) (l .held) (l .filled) (l .at) (l .i)
+    (omega arith) (l .inv .1) m (l .inv .2)
 
 pub lay-literals-spec : {M : Type 1} → statement M
 lay-literals-spec =

@@ -32,8 +32,10 @@ mul-literal-at c =
     let start : tie.Start Inv-loop μ-loop = search needs in
     let l = c .before .loop in
     let few : length (now (start .args .samples)) ≡ length (l .samples) = sym (l .inv .same-length) in
-    let room = literal-room (l .i) (length (now (start .args .samples))) (start .args .count) (262144 * 31) (omega (arith, few))
-    (le-trans (mul-le-mul-right (start .args .count) (start .pre .0 .1)) (mul-le-mul-left 262144 (start .pre .1))) in
+    let room = literal-room (l .i) (length (now (start .args .samples))) (start .args .count) (262144 * 31)
+    (omega (arith, few))
+    (le-trans (mul-le-mul-right (start .args .count) (start .pre .0 .1))
+    (mul-le-mul-left 262144 (start .pre .1))) in
     record { fits = omega (arith, room) }
 
 literal-at-requires : tie.Need-literal-at-requires Inv-loop μ-loop
@@ -41,8 +43,11 @@ literal-at-requires c κs =
     let start : tie.Start Inv-loop μ-loop = search needs in
     let at-loop : tie.At-loop Inv-loop μ-loop = search needs in
     let l = at-loop .loop in
-    let few : length (now (start .args .samples)) ≡ length (l .samples) = sym (l .inv .same-length) in
-    (literal-room (l .i) (length (now (start .args .samples))) (start .args .count) (8 * length (now (start .args .literal))) (omega (arith, few)) (start .pre .0 .0), start .pre .1)
+    let few : length (now (start .args .samples)) ≡ length (l .samples) = sym (l .inv .same-length) in (
+      literal-room (l .i) (length (now (start .args .samples))) (start .args .count)
+          (8 * length (now (start .args .literal))) (omega (arith, few)) (start .pre .0 .0),
+      start .pre .1,
+    )
 
 put-below-requires : tie.Need-put-below-requires Inv-loop μ-loop
 put-below-requires c κs =
@@ -58,8 +63,10 @@ loop-again c =
     let l = at-loop .loop in
     let k = start .args .count in
     let f : SFits w32 (getD (l .samples) (l .i) (pos 0)) = search needs in
-    let e : c .put-below .result ≡ appendAt k (bitsOf (now (start .args .literal))) (l .i) (getD (l .samples) (l .i) (pos 0)) =
-    c .put-below .ensures ∙ ap₂ (λ (n : ℕ) (x : ℤ). below k n x) (read .before .literal-at .ensures) (toZ-ofZ f) in
+    let e : c .put-below .result ≡ appendAt k (bitsOf (now (start .args .literal))) (l .i)
+    (getD (l .samples) (l .i) (pos 0)) =
+    c .put-below .ensures ∙ ap₂ (λ (n : ℕ) (x : ℤ). below k n x) (read .before .literal-at .ensures)
+    (toZ-ofZ f) in
     let g : SFits w32 (c .put-below .result) = subst (SFits w32) (sym e) (below-fits k _ _) in
     rw (toZ-ofZ g) (replaced-more _ _ (l .samples) (l .i) _ (omega arith) e (l .inv))
 

@@ -16,12 +16,15 @@ use Rattle.int32_literals.proofs.literal_at.Tie as tie
 -- what the code cuts out of the window
 cut : (c : tie.After-window) →
     let a = c .before .before .args in
-    c .window .result / 2 ^ (a .at % 8) % (1 * 2 ^ a .count % 18446744073709551616) ≡ num (take (a .count) (drop (a .at) (bitsOf (now (a .literal)))))
+    c .window .result / 2 ^ (a .at % 8) % (1 * 2 ^ a .count % 18446744073709551616)
+    ≡ num (take (a .count) (drop (a .at) (bitsOf (now (a .literal)))))
 cut c =
     let start : tie.Start = search needs in
     let a = start .args in
-    ap (λ (m : ℕ). c .window .result / 2 ^ (a .at % 8) % m) (shl-one (a .count) 64 (omega (arith, start .pre .1)))
-    ∙ literal-bits (now (a .literal)) (a .at) (a .count) _ (start .pre .1) (start .pre .0) (c .window .ensures)
+    ap (λ (m : ℕ). c .window .result / 2 ^ (a .at % 8) % m)
+    (shl-one (a .count) 64 (omega (arith, start .pre .1)))
+    ∙ literal-bits (now (a .literal)) (a .at) (a .count) _ (start .pre .1) (start .pre .0)
+    (c .window .ensures)
 
 rem-result : tie.Need-rem-result
 rem-result c =
@@ -40,4 +43,5 @@ returns : tie.Need-returns
 returns c = cut c
 
 pub literal-at-spec : {M : Type 1} → statement M
-literal-at-spec = tie.close (tie.spec (λ c κs. search needs) (λ c. search needs) (λ c. search needs) rem-result cast-result returns)
+literal-at-spec = tie.close
+    (tie.spec (λ c κs. search needs) (λ c. search needs) (λ c. search needs) rem-result cast-result returns)

@@ -32,11 +32,13 @@ put-in-requires : tie.Need-put-in-requires
 put-in-requires c κs = let t : tie.After-enum-told = search needs in readable _ _ _ (fine t)
 
 -- the samples are as many as before
-as-many : (c : tie.After-put-in) → let a = c .before .before .before .before .before .before .args in length (c .put-in .last .1 .0) ≡ length (now (a .samples))
+as-many : (c : tie.After-put-in) → let a = c .before .before .before .before .before .before .args in
+    length (c .put-in .last .1 .0) ≡ length (now (a .samples))
 as-many c =
     let start : tie.Start = search needs in
     let a = start .args in
-    ap length (c .put-in .ensures) ∙ reassemble-length (a .info) (bitsOf (now (a .literal))) (now (a .samples))
+    ap length (c .put-in .ensures) ∙ reassemble-length (a .info) (bitsOf (now (a .literal)))
+    (now (a .samples))
 
 cast-t11 : tie.Need-cast-t11
 cast-t11 c =
@@ -60,7 +62,8 @@ returns-2 c =
     let a = start .args in
     let xs = now (a .samples) in
     let e = put .put-in .ensures in
-    ap₂ (λ (m : ℕ) (l : List ℤ). record { refusal = 0; bits = m * a .info .«sent_bits»; samples = l }) (as-many put) e ∙ sym (reassemble-accepted (a .info) xs (now (a .literal)) (fine t))
+    ap₂ (λ (m : ℕ) (l : List ℤ). record { refusal = 0; bits = m * a .info .«sent_bits»; samples = l })
+    (as-many put) e ∙ sym (reassemble-accepted (a .info) xs (now (a .literal)) (fine t))
 
 pub reassemble-int32-spec : {M : Type 1} → statement M
 reassemble-int32-spec =

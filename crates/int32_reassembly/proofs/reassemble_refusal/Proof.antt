@@ -15,7 +15,8 @@ returns : tie.Need-returns
 returns c = reassemble-first _ _ _ _ _ (c .enum-told2 .given .1) (c .before .before .info-refusal .ensures)
 
 -- nothing was refused so far
-fine : (t : tie.After-enum-told) → infoRefusal (t .before .before .before .args .info) (t .before .before .before .args .samples) ≡ 0
+fine : (t : tie.After-enum-told) → infoRefusal (t .before .before .before .args .info)
+    (t .before .before .before .args .samples) ≡ 0
 fine t = sym (t .before .before .info-refusal .ensures) ∙ ap outcomeNumber (t .enum-told .given .1)
 
 mul-if1 : tie.Need-mul-if1

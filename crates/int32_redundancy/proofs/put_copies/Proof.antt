@@ -16,12 +16,14 @@ use Rattle.int32_sample.specs.Sample.{below, lowBits}
 use Rattle.int32_sample.specs.Setting.{dups, copies, reinsert}
 use Rattle.int32_sample.proofs.ShiftLaws.{below-fits}
 use Rattle.int32_sample.proofs.SettingLaws.{fill-lt}
-use Rattle.int32.proofs.InPlace.{Replaced, replaced-none, replaced-more, replaced-all, replaced-next, Read, read-more, read-all, map-from}
+use Rattle.int32.proofs.InPlace.{Replaced, replaced-none, replaced-more, replaced-all, replaced-next, Read}
+use Rattle.int32.proofs.InPlace.{read-more, read-all, map-from}
 use Rattle.int32_redundancy.proofs.put_copies.Statement.{statement}
 use Rattle.int32_redundancy.proofs.put_copies.Tie as tie
 
 abbrev Inv-loop : tie.InvT-loop
-Inv-loop samples₀ count mask i₀ samples i = Replaced (λ _ x. reinsert (dups count) x) samples₀ samples i × Read samples₀ i
+Inv-loop samples₀ count mask i₀ samples i = Replaced (λ _ x. reinsert (dups count) x) samples₀ samples i
+    × Read samples₀ i
 
 abbrev μ-loop : tie.MeasureT-loop
 μ-loop samples₀ count mask i₀ samples i = length samples₀ - i
@@ -37,7 +39,8 @@ copied c =
     let at-loop : tie.At-loop Inv-loop μ-loop = search needs in
     let x = getD (at-loop .loop .samples) (at-loop .loop .i) (pos 0) in
     let f : SFits w32 x = search needs in
-    c .bits-below .ensures ∙ ap₂ (λ (z : ℤ) (m : ℕ). cond (eqb (lowBits 1 z) 0) 0 m) (toZ-ofZ f) (masked .low-bits-mask .ensures)
+    c .bits-below .ensures ∙ ap₂ (λ (z : ℤ) (m : ℕ). cond (eqb (lowBits 1 z) 0) 0 m) (toZ-ofZ f)
+    (masked .low-bits-mask .ensures)
 
 put-below-requires : tie.Need-put-below-requires Inv-loop μ-loop
 put-below-requires c κs =
@@ -54,8 +57,10 @@ loop-again c =
     let k = a .count in
     let x = getD (l .samples) (l .i) (pos 0) in
     let f : SFits w32 x = search needs in
-    let e : c .put-below .result ≡ reinsert (dups k) x = c .put-below .ensures ∙ ap₂ (λ (n : ℕ) (z : ℤ). below k n z) (copied (c .before)) (toZ-ofZ f) in
-    let g : SFits w32 (c .put-below .result) = subst (SFits w32) (sym (c .put-below .ensures)) (below-fits _ _ _) in
+    let e : c .put-below .result ≡ reinsert (dups k) x =
+    c .put-below .ensures ∙ ap₂ (λ (n : ℕ) (z : ℤ). below k n z) (copied (c .before)) (toZ-ofZ f) in
+    let g : SFits w32 (c .put-below .result) = subst (SFits w32) (sym (c .put-below .ensures))
+    (below-fits _ _ _) in
     let same = replaced-next _ _ (l .samples) (l .i) (l .inv .0) in
     rw (toZ-ofZ g) (
       replaced-more _ _ (l .samples) (l .i) _ (omega arith) e (l .inv .0),
@@ -65,8 +70,12 @@ loop-again c =
 returns : tie.Need-returns Inv-loop μ-loop
 returns c =
     let start : tie.Start Inv-loop μ-loop = search needs in
-    let l = c .before .loop in
-    (replaced-all _ _ (l .samples) (l .i) (omega arith) (l .inv .0) ∙ sym (map-from _ 0 _), read-all (start .args .samples .now) (l .i) (omega (arith, l .inv .0 .same-length)) (l .inv .1))
+    let l = c .before .loop in (
+      replaced-all _ _ (l .samples) (l .i) (omega arith) (l .inv .0)
+          ∙ sym (map-from _ 0 _),
+      read-all (start .args .samples .now) (l .i)
+          (omega (arith, l .inv .0 .same-length)) (l .inv .1),
+    )
 
 pub put-copies-spec : {M : Type 1} → statement M
 put-copies-spec =

@@ -27,14 +27,20 @@ returns c =
     let start : tie.Start = search needs in
     let some : tie.Then1 = search needs in
     let put : tie.After-put-each = search needs in
-    let a = start .args in
-    (put .put-each .ensures .0 ∙ by _ _ (now (a .samples)) (is-zeros (a .zeros) (a .ones) (a .dups) (some .if1 .taken)), put .put-each .ensures .1)
+    let a = start .args in (
+      put .put-each .ensures .0 ∙ by _ _ (now (a .samples))
+          (is-zeros (a .zeros) (a .ones) (a .dups) (some .if1 .taken)),
+      put .put-each .ensures .1,
+    )
 
 put-each-requires-2 : tie.Need-put-each-requires-2
 put-each-requires-2 c κs =
     let start : tie.Start = search needs in
-    let masked : tie.After-low-bits-mask = search needs in
-    (start .pre .1, subst (λ (n : ℕ). n < 2 ^ start .args .ones) (sym (masked .low-bits-mask .ensures)) (ones-lt (start .args .ones)))
+    let masked : tie.After-low-bits-mask = search needs in (
+      start .pre .1,
+      subst (λ (n : ℕ). n < 2 ^ start .args .ones) (sym (masked .low-bits-mask .ensures))
+          (ones-lt (start .args .ones)),
+    )
 
 returns-2 : tie.Need-returns-2
 returns-2 c =
@@ -44,8 +50,10 @@ returns-2 c =
     let masked : tie.After-low-bits-mask = search needs in
     let put : tie.After-put-each2 = search needs in
     let a = start .args in (
-      put .put-each2 .ensures .0 ∙ ap (λ (n : ℕ). map (below (a .ones) n) (now (a .samples))) (masked .low-bits-mask .ensures)
-          ∙ by _ _ (now (a .samples)) (is-ones (a .zeros) (a .ones) (a .dups) (none .if1 .left) (some .if2 .taken)),
+      put .put-each2 .ensures .0 ∙ ap (λ (n : ℕ). map (below (a .ones) n) (now (a .samples)))
+          (masked .low-bits-mask .ensures)
+          ∙ by _ _ (now (a .samples))
+          (is-ones (a .zeros) (a .ones) (a .dups) (none .if1 .left) (some .if2 .taken)),
       put .put-each2 .ensures .1,
     )
 
@@ -55,8 +63,11 @@ returns-3 c =
     let none : tie.Else1 = search needs in
     let nor : tie.Else2 = search needs in
     let put : tie.After-put-copies = search needs in
-    let a = start .args in
-    (put .put-copies .ensures .0 ∙ by _ _ (now (a .samples)) (is-dups (a .zeros) (a .ones) (a .dups) (none .if1 .left) (nor .if2 .left)), put .put-copies .ensures .1)
+    let a = start .args in (
+      put .put-copies .ensures .0 ∙ by _ _ (now (a .samples))
+          (is-dups (a .zeros) (a .ones) (a .dups) (none .if1 .left) (nor .if2 .left)),
+      put .put-copies .ensures .1,
+    )
 
 pub reinsert-redundancy-spec : {M : Type 1} → statement M
 reinsert-redundancy-spec =

@@ -14,10 +14,12 @@ lowest : (c : tie.After-low-bits) → c .low-bits .result ≡ lowBits 1 (c .befo
 lowest c = c .low-bits .ensures ∙ ap (lowBits 1) (toZ-ofZ w32 (c .before .args .x) (c .before .fits .x))
 
 returns : tie.Need-returns
-returns c = let a = c .before .before .args in even-bits (lowBits 1 (a .x)) _ (a .even) (a .odd) (lowest (c .before)) (c .if1 .taken)
+returns c = let a = c .before .before .args in even-bits (lowBits 1 (a .x)) _ (a .even) (a .odd)
+    (lowest (c .before)) (c .if1 .taken)
 
 returns-2 : tie.Need-returns-2
-returns-2 c = let a = c .before .before .args in odd-bits (lowBits 1 (a .x)) _ (a .even) (a .odd) (lowest (c .before)) (c .if1 .left)
+returns-2 c = let a = c .before .before .args in odd-bits (lowBits 1 (a .x)) _ (a .even) (a .odd)
+    (lowest (c .before)) (c .if1 .left)
 
 pub bits-below-spec : {M : Type 1} → statement M
 bits-below-spec = tie.close (tie.spec (λ c κs. search needs) returns returns-2)

@@ -24,10 +24,12 @@ low : (c : tie.After-low-bits-mask) →
     toZ w32 (bitAnd (ofZ w32 (a .x)) (c .low-bits-mask .result)) ≡ lib.IntN.pos (lowBits (a .count) (a .x))
 low c =
     let a = c .before .args in
-    ap (toZ w32) (masked (a .count) (search needs) (a .x) _ (search needs) (c .low-bits-mask .ensures)) ∙ toZ-pos w32 _ (low-small (a .count) (search needs) (a .x))
+    ap (toZ w32) (masked (a .count) (search needs) (a .x) _ (search needs) (c .low-bits-mask .ensures))
+    ∙ toZ-pos w32 _ (low-small (a .count) (search needs) (a .x))
 
 cast-result-2 : tie.Need-cast-result-2
-cast-result-2 c = let a = c .before .args in let s = low-small (a .count) (search needs) (a .x) in rw (low c) (tt, record { fits = omega (arith, s) })
+cast-result-2 c = let a = c .before .args in let s = low-small (a .count) (search needs) (a .x) in
+    rw (low c) (tt, record { fits = omega (arith, s) })
 
 returns : tie.Need-returns
 returns c = rw (low c)
