@@ -150,7 +150,6 @@ module _ {M : Type 1} (𝓤 : URA M) (H : Heap 𝓤) (A : Atoms 𝓤) (W : Given
           let within : j < length ps = omega (arith, there, t .good .long) in
           let scaled : j * 80 < 2 ^ 64 = omega (arith, there, gn .1) in
           let fits : j < 2 ^ 64 = omega (arith, there, gn .0) in
-          let next : i + 1 < 2 ^ 64 = omega (arith, small, gn .0) in
           let p = getD ps j none in
           assigns ! (bin ! (load ! (from ! (stop !)) (look ! 26 refl)) (load ! (from ! (stop !)) (look ! 28 refl)) tt) (from ! (stop !)) (init ! 18 refl (tt, tt)) $
           rewrite ! 18 (λ (c : Bool). ‵ (fat fullShare tyBool l₉ 0 (vbool c))) (lt-ltb i n small) refl $
@@ -187,7 +186,7 @@ module _ {M : Type 1} (𝓤 : URA M) (H : Heap 𝓤) (A : Atoms 𝓤) (W : Given
           move ! (4 ∷ []) $ drop ! $ move ! (3 ∷ 2 ∷ 4 ∷ []) $ elem-put ! T.the-row fullShare ps j r (w ∷ []) b o within $
           -- [the row; the buffer; its token; the open borrow; obs; auth; _15; …]
           move ! (0 ∷ 3 ∷ 4 ∷ 5 ∷ []) $
-          assigns-last ! (bin ! (load ! (from ! (stop !)) (look ! 26 refl)) (lit ! tt) (record { fits = next })) (from ! (stop !)) (store ! 26 refl (tt, record { fits = next })) $
+          assigns-last ! (bin ! (load ! (from ! (stop !)) (look ! 26 refl)) (lit ! tt) (record { fits = omega (arith, small, gn .1) })) (from ! (stop !)) (store ! 26 refl (tt, record { fits = omega (arith, small, gn .1) })) $
           forget ! 6 refl $ forget ! 8 refl $ forget ! 10 refl $ forget ! 12 refl $ forget ! 14 refl $ forget ! 16 refl $ forget ! 18 refl $ forget ! 20 refl $ forget ! 22 refl $ forget ! 24 refl $
           again ! less I t (record { i = i + 1; ps = set ps j r; cs = zs; good = ran-step dir P B i ps (t .cs) r zs (t .good) small e }) (omega (arith, small)))))
 
