@@ -16,8 +16,8 @@ use decorrelation::decorrelate_array;
 use entropy_info::expand_entropy;
 use libc::STDOUT_FILENO;
 use packing::writing::encode_packed_samples_stereo_from_entropy;
-use roundtrip::round_trip;
 use samples::reading::decode_packed_samples_stereo_from_entropy;
+use trip_entry::round_trip;
 use wrapping::casts::u8_to_usize;
 
 // A number, with a space before it.

@@ -1,9 +1,7 @@
 -- What other crates cite.
-pub mod ListLaws
 pub mod FieldTrips
 pub mod WordTrips
 pub mod ReadTrips
-pub mod TripLaws
 pub mod DemandLaws
 pub mod PayloadLaws
 pub mod SilentLaws

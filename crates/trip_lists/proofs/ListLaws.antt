@@ -11,7 +11,7 @@ use mir.Syntax.{w32}
 use mir.Val.{SFits}
 use native.Mathlib.Decide.{decLt}
 use Rattle.passes.specs.Run.{Fit}
-use Rattle.roundtrip.specs.Trip.{CopyIs}
+use Rattle.trip_lists.specs.Same.{CopyIs}
 use lib.Seq.{take-all, take-suc, take-suc-set}
 
 -- the first i elements are copied

@@ -1,4 +1,4 @@
--- `roundtrip::copy` meets its contract.
+-- `trip_lists::copy` meets its contract.
 -- Assumes nothing.
 use Prim.Native.Nat.{_-_}
 use native.Mathlib.Omega.{arith}
@@ -8,9 +8,9 @@ use lib.IntN.{pos}
 use mir.Facts.{toZ-ofZ}
 use mir.Syntax.{w32}
 use mir.Val.{SFits}
-use Rattle.roundtrip.proofs.ListLaws.{Copied, copied-start, copied-step, copied-end}
-use Rattle.roundtrip.proofs.copy.Statement.{statement}
-use Rattle.roundtrip.proofs.copy.Tie as tie
+use Rattle.trip_lists.proofs.ListLaws.{Copied, copied-start, copied-step, copied-end}
+use Rattle.trip_lists.proofs.copy.Statement.{statement}
+use Rattle.trip_lists.proofs.copy.Tie as tie
 
 abbrev Inv-loop : tie.InvT-loop
 Inv-loop from to₀ i₀ to i = Copied from to₀ to i

@@ -2,21 +2,20 @@
 -- answers, and what its lent storage then holds.
 -- Assumes nothing.
 use mathlib.Core.Path.{_≡_}
-use mathlib.Core.Bool.{Bool, true, false, cond, _&&_}
+use mathlib.Core.Bool.{Bool, true, false, cond}
 use mathlib.Core.List.{List}
 use Prim.Native.Nat.{ℕ, _/_}
 use lib.Dec.{eqb}
 use lib.IntN.{ℤ}
 use lib.ListN.{length, take}
-use Rattle.answers.specs.Guard.{orElse, unlessRefused}
+use Rattle.answers.specs.Guard.{unlessRefused}
 use Rattle.answers.specs.Numbers.{outcomeNumber}
 use Rattle.answers.specs.declared.Outcome.{Outcome}
 use Rattle.passes.specs.declared.DecorrPass.{DecorrPass}
-use Rattle.passes.specs.Run.{Fit, analysed}
-use Rattle.list_tests.specs.Tests.{allValid}
-use Rattle.decorrelation.specs.Lists.{analysisNumber}
-use Rattle.packing.specs.Entry.{PackTold, refusalBeforeSpan, spanRefusal, packEntry}
-use Rattle.roundtrip.specs.declared.TripAnswer.{TripAnswer}
+use Rattle.passes.specs.Run.{analysed}
+use Rattle.packing.specs.Entry.{PackTold, spanRefusal, packEntry}
+use Rattle.trip_steps.specs.Steps.{earlyRefusal}
+use Rattle.trip_entry.specs.declared.TripAnswer.{TripAnswer}
 
 -- the refusal's number (0: accepted), the bits written, whether the recording came back with as
 -- many bits used; and both lent storages
@@ -39,12 +38,6 @@ refuseTrip scratch bytes number = record { refusal = number; bits = 0; same = fa
 abbrev pub tellTrip : List ℤ → PackTold → TripTold
 tellTrip recording p = record { refusal = 0; bits = p .bits; same = true; scratch = recording; bytes = p .bytes }
 
--- what analysis by the first `count` passes refuses (5, 9, 7), and then packing before it looks at
--- a residual (6, 1, 17, 2, 11)
-abbrev pub earlyRefusal : List DecorrPass → ℕ → ℕ → List ℕ → ℕ → ℕ
-earlyRefusal passes count elements entropy room =
-    orElse (analysisNumber (allValid (take count passes)) count elements) (refusalBeforeSpan elements entropy (elements / 2) room)
-
 -- what is refused before anything is written: 6, a scratch list of another length, and then that
 unfoldable pub tripRefusal : List DecorrPass → ℕ → List ℤ → List ℕ → List ℤ → List ℕ → ℕ
 tripRefusal passes count recording entropy scratch buffer =
@@ -62,23 +55,8 @@ tripEntry passes count recording entropy scratch buffer =
     (unlessRefused (spanRefusal (found passes count recording)) (refuseTrip (found passes count recording) buffer)
     (tellTrip recording (packEntry (found passes count recording) entropy (length recording / 2) buffer)))
 
--- whether both accept, as many bits are used as were written, and the samples are equal
-abbrev pub cameBack : Outcome → Outcome → ℕ → ℕ → Bool → Bool
-cameBack read decorrelated used written equal =
-    eqb (outcomeNumber read) 0 && eqb (outcomeNumber decorrelated) 0 && eqb used written && equal
-
 -- what the entry hands back on refusal
 pub record TripRefuses (o : Outcome) (r : TripAnswer) : Type 0 where
   pub outcome-is : r .outcome ≡ o
   pub no-bits : r .bits ≡ 0
   pub not-same : r .same ≡ false
-
--- whether two lists are the same
-pub record SameIs (a b : List ℤ) (r : Bool) : Type 0 where
-  pub told : a ≡ b → r ≡ true
-  pub true-is : r ≡ true → a ≡ b
-
--- a list of 32-bit numbers, copied
-pub record CopyIs (from to : List ℤ) : Type 0 where
-  pub copied : to ≡ from
-  pub fit : Fit from

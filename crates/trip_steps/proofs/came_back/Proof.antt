@@ -1,4 +1,4 @@
--- `roundtrip::came_back` meets its contract.
+-- `trip_steps::came_back` meets its contract.
 -- Assumes nothing.
 use mathlib.Core.Path.{_≡_, sym, _∙_}
 use mathlib.Core.Bool.{Bool, false}
@@ -7,14 +7,14 @@ use borrow.Author.Needs.{needs}
 use borrow.Author.Tests.{eq-eqb, ne-eqb}
 use Rattle.answers.specs.declared.Outcome.{Outcome}
 use Rattle.answers.specs.Numbers.{outcomeNumber}
-use Rattle.roundtrip.specs.Trip.{cameBack}
-use Rattle.roundtrip.proofs.came_back.Statement.{statement}
-use Rattle.roundtrip.proofs.came_back.Tie as tie
+use Rattle.trip_steps.specs.Steps.{cameBack}
+use Rattle.trip_steps.proofs.came_back.Statement.{statement}
+use Rattle.trip_steps.proofs.came_back.Tie as tie
 
 -- each test decides where those before it do not
 module _ (read decorrelated : Outcome) (used written : ℕ) (equal : Bool) where
   abbrev answer : Bool
-  answer = cameBack read decorrelated used written equal
+  answer = cameBack (outcomeNumber read) (outcomeNumber decorrelated) used written equal
 
   first : (outcomeNumber read ≡ 0 → ⊥) → false ≡ answer
   first h = rw (ne-eqb (outcomeNumber read) 0 h)

@@ -1,4 +1,4 @@
--- `roundtrip::same` meets its contract.
+-- `trip_lists::same` meets its contract.
 -- Assumes nothing.
 use mathlib.Core.Path.{_≡_, refl, sym, ap, _∙_}
 use Prim.Native.Nat.{_-_, _≤_}
@@ -11,9 +11,9 @@ use mir.Facts.{toZ-ofZ}
 use mir.Syntax.{w32}
 use mir.Val.{SFits, toZ, ofZ}
 use Rattle.answers.proofs.TestLaws.{clash}
-use Rattle.roundtrip.proofs.ListLaws.{same-step, same-end}
-use Rattle.roundtrip.proofs.same.Statement.{statement}
-use Rattle.roundtrip.proofs.same.Tie as tie
+use Rattle.trip_lists.proofs.ListLaws.{same-step, same-end}
+use Rattle.trip_lists.proofs.same.Statement.{statement}
+use Rattle.trip_lists.proofs.same.Tie as tie
 
 abbrev Inv-loop : tie.InvT-loop
 Inv-loop a b i₀ i = (i ≤ length a) × (take i a ≡ take i b)

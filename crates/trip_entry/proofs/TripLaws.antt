@@ -7,7 +7,7 @@ use Prim.Native.Nat.{ℕ, zero, suc, _+_, _*_, _/_, _≤_, _<_}
 use native.Mathlib.Omega.{arith}
 use borrow.Author.Tests.{eq-eqb, ne-eqb}
 use lib.IntN.{ℤ}
-use lib.ListN.{length, take}
+use lib.ListN.{length, take, drop}
 use Rattle.answers.specs.declared.Outcome.{Outcome}
 use Rattle.answers.specs.declared.Refusal.{Refusal}
 use Rattle.answers.specs.Guard.{orElse, unlessRefused}
@@ -15,22 +15,23 @@ use Rattle.answers.specs.Limits.{maxElements, maxPayloadBytes, maxWordBits}
 use Rattle.answers.specs.Numbers.{outcomeNumber}
 use Rattle.answers.proofs.GuardLaws.{guard-refused, guard-accepted}
 use Rattle.answers.proofs.NumberLaws.{number-positive}
-use Rattle.samples.specs.View.{ReadTold, viewReading, readEntry}
-use Rattle.samples.specs.declared.ReadAnswer.{ReadAnswer}
+use Rattle.samples.specs.View.{ReadTold, readEntry}
 use Rattle.passes.specs.declared.DecorrPass.{DecorrPass}
 use Rattle.passes.specs.Run.{Fit, Chain, decorrelated}
 use Rattle.passes.proofs.RunInverse.{analysed-length, decorrelated-analysed}
 use Rattle.passes.specs.declared.Direction.the-variants.{Decorrelation, Analysis}
 use Rattle.list_tests.specs.Tests.{allValid}
-use Rattle.decorrelation.specs.Lists.{Answer, analysisNumber, arrayAnswer}
+use Rattle.decorrelation.specs.Lists.{Answer, done, followed, analysisNumber, arrayAnswer}
 use Rattle.decorrelation.proofs.Theorems.{ArrayAccepted, array-accepts, array-runs}
 use Rattle.packing.specs.Entry.{PackTold, viewPacking, refusalBeforeSpan, spanRefusal, packEntry, packedBytes}
 use Rattle.packing.specs.declared.PackAnswer.{PackAnswer}
 use Rattle.packing.proofs.EntryLaws.{refusal-is, pack-refused, span-decides, packing-accepted, bytes-few, bits-within, bits-few}
 use Rattle.packing.proofs.RefusalLaws.{Ready, ready}
-use Rattle.roundtrip.specs.declared.TripAnswer.{TripAnswer}
-use Rattle.roundtrip.specs.Trip.{TripTold, viewTrip, refuseTrip, tellTrip, earlyRefusal, tripRefusal, found, tripEntry, cameBack, TripRefuses, SameIs}
+use Rattle.trip_steps.specs.Steps.{earlyRefusal, cameBack, readBack, samplesBack, BackIs}
+use Rattle.trip_entry.specs.declared.TripAnswer.{TripAnswer}
+use Rattle.trip_entry.specs.Trip.{TripTold, viewTrip, refuseTrip, tellTrip}
+use Rattle.trip_entry.specs.Trip.{tripRefusal, found, tripEntry, TripRefuses}
 use Rattle.roundtrip.proofs.ReadTrips.{read-what-was-packed}
 
 -- ---- the early tests
 
@@ -113,27 +114,28 @@ module _ (ps : List DecorrPass) (n : ℕ) (x : List ℤ) (entropy : List ℕ) (s
     passes-made : ArrayAccepted ps n x
 
   -- so it is after analysis
-  found-is : (copied : List ℤ) (aps : List DecorrPass) (v : List ℤ) (m : ℕ) → copied ≡ x → record { refusal = m; passes = aps; buffer = v } ≡ arrayAnswer Analysis ps n copied
-      → earlyRefusal ps n (length x) entropy (length buffer) ≡ 0 → Found v
-  found-is copied aps v m c e h =
+  found-is : (v : List ℤ) → v ≡ arrayAnswer Analysis ps n x .buffer → earlyRefusal ps n (length x) entropy (length buffer) ≡ 0
+      → Found v
+  found-is v e h =
       let a = early ps n x entropy buffer h in
-      let is : v ≡ found ps n x = ap (λ (a : Answer). a .buffer) (e ∙ ap (arrayAnswer Analysis ps n) c ∙ array-runs Analysis ps n x (a .passes-made)) in
+      let is : v ≡ found ps n x = e ∙ ap (λ (a : Answer). a .buffer) (array-runs Analysis ps n x (a .passes-made)) in
       let size : length v ≡ length x = ap length is ∙ analysed-length (take n ps) x in
       record { is = is; size = size; lent = rw size (a .lent); passes-made = a .passes-made }
 
   -- 10: a residual outside the span
-  pub trip-span : (copied : List ℤ) (aps : List DecorrPass) (v : List ℤ) (m : ℕ) (after : List ℕ) (w : PackAnswer) (q : Refusal) → length scratch ≡ length x → copied ≡ x
-      → record { refusal = m; passes = aps; buffer = v } ≡ arrayAnswer Analysis ps n copied → earlyRefusal ps n (length x) entropy (length buffer) ≡ 0
+  pub trip-span : (v : List ℤ) (after : List ℕ) (w : PackAnswer) (q : Refusal) → length scratch ≡ length x
+      → v ≡ arrayAnswer Analysis ps n x .buffer → earlyRefusal ps n (length x) entropy (length buffer) ≡ 0
       → viewPacking w after ≡ packEntry v entropy (length x / 2) buffer → w .outcome ≡ Outcome.Refused q
       → TripRefuses (w .outcome) r → viewTrip r v after ≡ tripEntry ps n x entropy scratch buffer
   unfolding later
-  trip-span copied aps v m after w q h c e g k u t =
-      let f = found-is copied aps v m c e g in
+  trip-span v after w q h e g k u t =
+      let f = found-is v e g in
       let f₀ = length x / 2 in
       let o = outcomeNumber (w .outcome) in
       let p : 0 < o = rw u (number-positive q) in
       let k₀ : o ≡ packEntry v entropy f₀ buffer .refusal = ap (λ (a : PackTold). a .refusal) k in
-      let s : o ≡ spanRefusal (found ps n x) = k₀ ∙ refusal-is v entropy f₀ buffer ∙ span-decides v entropy f₀ buffer (f .lent) ∙ ap spanRefusal (f .is) in
+      let s : o ≡ spanRefusal (found ps n x) =
+      k₀ ∙ refusal-is v entropy f₀ buffer ∙ span-decides v entropy f₀ buffer (f .lent) ∙ ap spanRefusal (f .is) in
       let y : after ≡ buffer = ap (λ (a : PackTold). a .bytes) k ∙ pack-refused v entropy f₀ buffer (rw (← k₀) p) in
       let next = tellTrip x (packEntry (found ps n x) entropy f₀ buffer) in
       rw (y, f .is) (refuses r (w .outcome) (found ps n x) buffer t)
@@ -141,37 +143,59 @@ module _ (ps : List DecorrPass) (n : ℕ) (x : List ℤ) (entropy : List ℕ) (s
       ∙ ap (λ (a : ℕ). unlessRefused a (refuseTrip (found ps n x) buffer) next) s
       ∙ sym (entry-is h g)
 
+  -- what was packed is read back
+  reads-back : (v : List ℤ) → let p = packEntry v entropy (length x / 2) buffer in p .refusal ≡ 0
+      → readBack entropy (packedBytes p) x v
+      ≡ record { refusal = 0; bits = p .bits; medians = p .medians; written = 2 * (length x / 2); list = v }
+  reads-back v P =
+      let f₀ = length x / 2 in
+      let p = packEntry v entropy f₀ buffer in
+      let acc = packing-accepted v entropy f₀ buffer P in
+      let few = bytes-few v entropy f₀ buffer acc in
+      let limit : length (packedBytes p ++ []) ≤ maxPayloadBytes =
+      rw (append-nil (packedBytes p)) (omega (arith, few, acc .before .frames-few)) in
+      ap (λ (t : List ℕ). readEntry entropy t f₀ v) (sym (append-nil (packedBytes p)))
+      ∙ read-what-was-packed v entropy f₀ buffer [] v P limit (acc .before .list-is)
+
+  -- and decorrelated to the recording
+  samples-back : (v : List ℤ) → Fit x → Found v
+      → arrayAnswer Decorrelation ps n v ≡ done (followed (drop n ps) (decorrelated (take n ps) v))
+      × (decorrelated (take n ps) v .buffer ≡ x)
+  samples-back v fit f =
+      let M = f .passes-made in
+      let size : length v ≤ maxElements = omega (arith, f .size, M .size) in (
+        array-runs Decorrelation ps n v (record { few = M .few; size = size; valid = M .valid }),
+        ap (λ (t : List ℤ). decorrelated (take n ps) t .buffer) (f .is)
+        ∙ ap (λ (t : Chain). t .buffer) (decorrelated-analysed (take n ps) x fit),
+      )
+
   -- the recording is back
-  pub trip-back : Fit x → (copied : List ℤ) (aps sps : List DecorrPass) (v list y : List ℤ) (after payload : List ℕ) (m : ℕ) (z : Outcome) (w : PackAnswer) (d : ReadAnswer) (q : Bool)
-      → length scratch ≡ length x → copied ≡ x
-      → record { refusal = m; passes = aps; buffer = v } ≡ arrayAnswer Analysis ps n copied → earlyRefusal ps n (length x) entropy (length buffer) ≡ 0
+  pub trip-back : Fit x → (v y : List ℤ) (after payload : List ℕ) (w : PackAnswer) → length scratch ≡ length x
+      → v ≡ arrayAnswer Analysis ps n x .buffer → earlyRefusal ps n (length x) entropy (length buffer) ≡ 0
       → viewPacking w after ≡ packEntry v entropy (length x / 2) buffer → w .outcome ≡ Outcome.Accepted
-      → viewReading d list ≡ readEntry entropy payload (length x / 2) v → payload ≡ take ((w .bits + 7) / 8) after
-      → record { refusal = outcomeNumber z; passes = sps; buffer = y } ≡ arrayAnswer Decorrelation ps n list → SameIs x y q
-      → r .outcome ≡ Outcome.Accepted → r .bits ≡ w .bits → r .same ≡ cameBack (d .outcome) z (d .bits) (w .bits) q
+      → payload ≡ take ((w .bits + 7) / 8) after → BackIs ps n entropy payload (w .bits) x v y (r .same)
+      → r .outcome ≡ Outcome.Accepted → r .bits ≡ w .bits
       → viewTrip r y after ≡ tripEntry ps n x entropy scratch buffer
   unfolding later
-  trip-back fit copied aps sps v list y after payload m z w d q h c e g k u a b f i ro rb rs =
-      let w₀ = found-is copied aps v m c e g in
+  trip-back fit v y after payload w h e g k u b i ro rb =
       let f₀ = length x / 2 in
+      let f = found-is v e g in
       let p = packEntry v entropy f₀ buffer in
       let P : p .refusal ≡ 0 = sym (ap (λ (t : PackTold). t .refusal) k) ∙ ap outcomeNumber u in
       let B : w .bits ≡ p .bits = ap (λ (t : PackTold). t .bits) k in
       let acc = packing-accepted v entropy f₀ buffer P in
-      let pb : payload ≡ packedBytes p ++ [] = b ∙ ap packedBytes k ∙ sym (append-nil (packedBytes p)) in
-      let limit : length (packedBytes p ++ []) ≤ maxPayloadBytes = rw (append-nil (packedBytes p)) (omega (arith, bytes-few v entropy f₀ buffer acc, acc .before .frames-few)) in
-      let R = a ∙ ap (λ (t : List ℕ). readEntry entropy t f₀ v) pb ∙ read-what-was-packed v entropy f₀ buffer [] v P limit (acc .before .list-is) in
-      let M = w₀ .passes-made in
-      let size : length v ≤ maxElements = omega (arith, w₀ .size, M .size) in
-      let D = f ∙ ap (λ (t : ReadTold). arrayAnswer Decorrelation ps n (t .list)) R ∙ array-runs Decorrelation ps n v (record { few = M .few; size = size; valid = M .valid }) in
-      let back : y ≡ x =
-      ap (λ (t : Answer). t .buffer) D ∙ ap (λ (t : List ℤ). decorrelated (take n ps) t .buffer) (w₀ .is) ∙ ap (λ (t : Chain). t .buffer) (decorrelated-analysed (take n ps) x fit) in
-      let used : d .bits ≡ w .bits = ap (λ (t : ReadTold). t .bits) R ∙ sym B in
-      let same : cameBack (d .outcome) z (d .bits) (w .bits) q ≡ true =
-      rw (ap (λ (t : ReadTold). t .refusal) R, ap (λ (t : Answer). t .refusal) D, eq-eqb (d .bits) (w .bits) used) (i .told (sym back)) in
-      let s : spanRefusal (found ps n x) ≡ 0 = rw (← w₀ .is, acc .span) in
+      let R = ap (λ (t : List ℕ). readBack entropy t x v) (b ∙ ap packedBytes k) ∙ reads-back v P in
+      let S = samples-back v fit f in
+      let D = ap (samplesBack ps n) R ∙ S .0 in
+      let back : y ≡ x = i .leaves ∙ ap (λ (t : Answer). t .buffer) D ∙ S .1 in
+      let used = ap (λ (t : ReadTold). t .bits) R ∙ sym B in
+      let same : r .same ≡ true =
+      i .told
+      ∙ rw (ap (λ (t : ReadTold). t .refusal) R, ap (λ (t : Answer). t .refusal) D, eq-eqb (readBack entropy payload x v .bits) (w .bits) used)
+      (i .equal-is .told (sym back)) in
+      let s : spanRefusal (found ps n x) ≡ 0 = rw (← f .is, acc .span) in
       told-is (outcomeNumber (r .outcome)) 0 (r .bits) (p .bits) (r .same) true y x after (p .bytes)
-      (ap outcomeNumber ro) (rb ∙ B) (rs ∙ same) back (ap (λ (t : PackTold). t .bytes) k)
-      ∙ ap (λ (t : List ℤ). tellTrip x (packEntry t entropy f₀ buffer)) (w₀ .is)
+      (ap outcomeNumber ro) (rb ∙ B) same back (ap (λ (t : PackTold). t .bytes) k)
+      ∙ ap (λ (t : List ℤ). tellTrip x (packEntry t entropy f₀ buffer)) (f .is)
       ∙ sym (guard-accepted (spanRefusal (found ps n x)) (refuseTrip (found ps n x) buffer) (tellTrip x (packEntry (found ps n x) entropy f₀ buffer)) s)
       ∙ sym (entry-is h g)

@@ -1,9 +1,9 @@
--- `roundtrip::early_refusal` meets its contract.
+-- `trip_steps::early_refusal` meets its contract.
 -- Assumes nothing.
 use borrow.Author.Needs.{needs}
 use Rattle.answers.proofs.NumberLaws.{first-refuses, second-decides}
-use Rattle.roundtrip.proofs.early_refusal.Statement.{statement}
-use Rattle.roundtrip.proofs.early_refusal.Tie as tie
+use Rattle.trip_steps.proofs.early_refusal.Statement.{statement}
+use Rattle.trip_steps.proofs.early_refusal.Tie as tie
 
 returns : tie.Need-returns
 returns c = first-refuses _ _ _ _ (c .enum-told2 .given .1) (c .before .before .analysis-refusal .ensures)

@@ -1,0 +1,2 @@
+-- What the proof of the entry cites.
+pub mod TripLaws
