@@ -2,7 +2,7 @@
 -- with it.
 -- Assumes nothing.
 use mathlib.Core.Path.{_≡_, refl, sym, ap, _∙_}
-use mathlib.Core.Bool.{Bool, true, false}
+use mathlib.Core.Bool.{Bool, true, false, not, _&&_}
 use mathlib.Core.List.{List, [], _∷_}
 use Prim.Native.Nat.{ℕ, zero, suc, _+_, _%_, _<_}
 use native.Mathlib.Omega.{arith}
@@ -12,7 +12,24 @@ use Rattle.entropy.specs.Medians.{mediansOf, pairOf, zeroSet}
 use Rattle.medians.specs.Adaptation.{adapt}
 use Rattle.word_state.proofs.StateLaws.{turned, noSet, there, picked}
 use Rattle.readings.specs.Standing.{Held}
-use Rattle.word_state.specs.State.{State, start, side, flip, due, withFlags, paid, inRun, unbroken, after}
+use Rattle.word_state.specs.State.{
+  State,
+  start,
+  side,
+  flip,
+  due,
+  withFlags,
+  paid,
+  inRun,
+  unbroken,
+  after,
+  runDue,
+  runHere,
+}
+use Rattle.words.specs.Word.{word}
+use Rattle.words.specs.Parts.{codedWord, CodedIs}
+use Rattle.words.specs.declared.coded.Coded.{Coded}
+use Rattle.readings.proofs.WordLaws.{word-fresh}
 
 -- both sets, where the one of a channel is replaced by its adaptation
 pub record Replaced (ms : List AdaptiveMedians) (x : AdaptiveMedians) (c k : ℕ) : Type 0 where
@@ -35,6 +52,17 @@ module _ (s : State) (ms : List AdaptiveMedians) (owed : ℕ) (b z o : Bool) (i 
   -- the medians due
   pub held-due : due s ≡ mediansOf (getD ms (i % 2) noSet)
   held-due = rw (there ms (i % 2) (h .pair) (omega arith), h .channel-is, h .left-is, h .right-is) (picked ms (i % 2) (omega arith))
+
+  -- where none is owed, the word is what was read from the locals
+  pub held-coded : (bits : List Bool) (p : ℕ) (r : Coded) (run : Bool) → owed ≡ 0
+      → run ≡ (not b && runDue (mediansOf (getD ms 0 noSet)) (mediansOf (getD ms 1 noSet)) z o)
+      → CodedIs bits p run (mediansOf (getD ms (i % 2) noSet)) z o r → codedWord s r ≡ word bits p s
+  held-coded bits p r run n f c =
+      let left = there ms 0 (h .pair) (omega arith) in
+      let right = there ms 1 (h .pair) (omega arith) in
+      let due : runHere s ≡ run =
+      rw (h .left-is, h .right-is, h .break-is, h .zero-is, h .one-is, ← left, ← right) (sym f) in
+      c .is s due held-due (h .zero-is) (h .one-is) ∙ sym (word-fresh bits p s (h .debt-is ∙ n))
 
   -- a zero that was owed
   pub held-paid : (d : ℕ) → Held (paid d s) ms d b z o (i + 1)

@@ -1,7 +1,7 @@
 -- What a word makes of where a reading stands: its sample is written, and the locals hold the state after it.
 -- Assumes nothing.
 use mathlib.Core.Path.{_≡_, sym, ap, _∙_}
-use mathlib.Core.Bool.{Bool, true, false, not, _&&_}
+use mathlib.Core.Bool.{Bool, true, false}
 use mathlib.Core.List.{List, [], _∷_, _++_}
 use Prim.Native.Nat.{ℕ, suc, _+_, _-_, _%_, _<_}
 use native.Mathlib.Numerals.{add-one}
@@ -13,17 +13,17 @@ use Rattle.bits.specs.Bits.{bitsOf}
 use Rattle.entropy.specs.declared.AdaptiveMedians.{AdaptiveMedians}
 use Rattle.entropy.specs.Medians.{mediansOf, zeroSet}
 use Rattle.medians.specs.Adaptation.{adapt}
-use Rattle.word_state.specs.State.{State, paid, runDue}
-use Rattle.word_state.proofs.StateLaws.{noSet, there}
+use Rattle.word_state.specs.State.{State, paid}
+use Rattle.word_state.proofs.StateLaws.{noSet}
 use Rattle.words.specs.Word.{given, word}
-use Rattle.words.specs.Parts.{codedWord, CodedIs}
+use Rattle.words.specs.Parts.{codedWord}
 use Rattle.words.specs.declared.coded.Coded.{Coded}
 use Rattle.zones.specs.Report.{Report}
 use Rattle.readings.specs.Reading.{reading}
 use Rattle.readings.specs.Standing.{prepend, Held, Words}
 use Rattle.readings.proofs.ReadingLaws.{reading-on}
-use Rattle.readings.proofs.HeldLaws.{held-due, held-paid, held-run, held-sample}
-use Rattle.readings.proofs.WordLaws.{word-paid, word-fresh}
+use Rattle.readings.proofs.HeldLaws.{held-paid, held-run, held-sample}
+use Rattle.readings.proofs.WordLaws.{word-paid}
 
 module _ (payload : List ℕ) (out₀ : List ℤ) (s₀ : State) (out : List ℤ) (ms : List AdaptiveMedians) (owed : ℕ) (b z o : Bool) (p i : ℕ) (l : Words payload out₀ s₀ out ms owed b z o p i) where
   -- an accepted word: its sample is written, and the locals hold the state after it
@@ -51,20 +51,13 @@ module _ (payload : List ℕ) (out₀ : List ℤ) (s₀ : State) (out : List ℤ
       let d : l .state .debt - 1 ≡ owed - 1 = omega (arith, l .held .debt-is) in
       step (pos 0) p (paid (owed - 1) (l .state)) _ ms (owed - 1) b z o h (rw d at e) (held-paid (l .state) ms owed b z o i (l .held) (owed - 1))
 
-  module _ (r : Coded) (run : Bool) (n : owed ≡ 0) (h : i < length out) (f : run ≡ (not b && runDue (mediansOf (getD ms 0 noSet)) (mediansOf (getD ms 1 noSet)) z o))
-      (c : CodedIs (bitsOf payload) p run (mediansOf (getD ms (i % 2) noSet)) z o r) where
-    -- where none is owed, the word is what was read
-    pub coded : codedWord (l .state) r ≡ word (bitsOf payload) p (l .state)
-    coded =
-        let t = l .held in
-        c .is (l .state) (rw (t .left-is, t .right-is, t .break-is, t .zero-is, t .one-is, ← there ms 0 (t .pair) (omega arith), ← there ms 1 (t .pair) (omega arith)) (sym f)) (held-due (l .state) ms owed b z o i t) (t .zero-is) (t .one-is)
-        ∙ sym (word-fresh (bitsOf payload) p (l .state) (t .debt-is ∙ n))
-
+  -- the word where none is owed, as it was read
+  module _ (r : Coded) (h : i < length out) (c : codedWord (l .state) r ≡ word (bitsOf payload) p (l .state)) where
     pub words-run : (d q : ℕ) → r ≡ Coded.Run d q → Words payload out₀ s₀ (set out i (pos 0)) (zeroSet ∷ zeroSet ∷ []) d true z o q (i + 1)
     words-run d q e =
-        step (pos 0) q _ _ (zeroSet ∷ zeroSet ∷ []) d true z o h (sym coded ∙ ap (codedWord (l .state)) e) (held-run (l .state) ms owed b z o i (l .held) d)
+        step (pos 0) q _ _ (zeroSet ∷ zeroSet ∷ []) d true z o h (sym c ∙ ap (codedWord (l .state)) e) (held-run (l .state) ms owed b z o i (l .held) d)
 
     pub words-sample : (v : ℤ) (k q : ℕ) (z' o' : Bool) (x : AdaptiveMedians) → r ≡ Coded.Sample v k q z' o' → mediansOf x ≡ adapt (mediansOf (getD ms (i % 2) noSet)) k
         → Words payload out₀ s₀ (set out i v) (set ms (i % 2) x) owed false z' o' q (i + 1)
     words-sample v k q z' o' x e a =
-        step v q _ _ (set ms (i % 2) x) owed false z' o' h (sym coded ∙ ap (codedWord (l .state)) e) (held-sample (l .state) ms owed b z o i (l .held) k x z' o' a)
+        step v q _ _ (set ms (i % 2) x) owed false z' o' h (sym c ∙ ap (codedWord (l .state)) e) (held-sample (l .state) ms owed b z o i (l .held) k x z' o' a)

@@ -1,5 +1,4 @@
 -- What the proofs of several functions use, and what other crates cite.
-pub mod ZeroLaws
 pub mod LoopLaws
 pub mod EntryLaws
 pub mod Cases

@@ -1,10 +1,8 @@
-// Implements document 01, "Reading": the refusals that come before any word, then word after word
-// into a lent list. The medians are a local array that is indexed by channel, and the rest of the
-// state is in locals; a run is one turn, so that no debt is held. After each word that is read field by
-// field come short words, as far as they go: most words are, and that is what is fast.
+// Implements document 01, "Reading": the refusals that come before any word, then turn after turn
+// (`reading_turns`) into a lent list.
 ghost use mathlib.Core.Path.{_≡_};
 ghost use mathlib.Core.List.{List};
-ghost use Prim.Native.Nat.{_≤_, _<_};
+ghost use Prim.Native.Nat.{_≤_};
 ghost use lib.IntN.{ℤ};
 ghost use lib.ListN.{length};
 ghost use Rattle.answers.specs.Limits.{maxPayloadBytes};
@@ -13,7 +11,6 @@ ghost use Rattle.bits.specs.Bits.{bitsOf};
 ghost use Rattle.entropy.specs.Medians.{pairOf};
 ghost use Rattle.word_state.specs.State.{start};
 ghost use Rattle.readings.specs.Reading.{reading};
-ghost use Rattle.samples.specs.Zeros.{ZerosIs};
 ghost use Rattle.samples.specs.View.{viewReading, tellReading, refuseReading, readEntry};
 use crate::ReadAnswer;
 use answers::Outcome;
@@ -21,70 +18,33 @@ use answers::Refusal;
 use answers::limits::MAX_FRAMES;
 use answers::limits::MAX_PAYLOAD_BYTES;
 use entropy::AdaptiveMedians;
-use medians::adaptation::adapt;
-use short_reading::read_short_words;
-use short_reading::stands_at;
+use reading_turns::Turn;
+use reading_turns::after_run;
+use reading_turns::after_sample;
+use reading_turns::word_at;
 use stereo_pair::stereo_pair_from_entropy;
-use word_state::zero_run_eligible;
 use words::coded::Coded;
-use words::coded::read_word;
 
-// The answer of a reading that accepted every word.
-fn accepted(bits: usize, medians: [AdaptiveMedians; 2], written: usize) -> ReadAnswer
-    ensures { λ r.
-        ⌜ r ≡ record { outcome = Outcome.Accepted; bits = bits; medians = medians; written = written } ⌝ }
-{
-    ReadAnswer {
-        outcome: Outcome::Accepted,
-        bits,
-        medians,
-        written,
-    }
-}
-
-// The answer of a reading that a word ended: what the accepted words used, left and gave.
-fn stopped(
-    refusal: Refusal,
-    bits: usize,
-    medians: [AdaptiveMedians; 2],
-    written: usize,
-) -> ReadAnswer
+// The answer where the loop ended: what the accepted words used, left and gave.
+fn answer(outcome: Outcome, at: Turn) -> ReadAnswer
     ensures { λ r.
         ⌜ r ≡ record {
-          outcome = Outcome.Refused refusal;
-          bits = bits;
-          medians = medians;
-          written = written;
+          outcome = outcome;
+          bits = at .bits;
+          medians = at .medians;
+          written = at .written;
         } ⌝ }
 {
+    let medians = at.medians;
     ReadAnswer {
-        outcome: Outcome::Refused(refusal),
-        bits,
+        outcome,
+        bits: at.bits,
         medians,
-        written,
+        written: at.written,
     }
 }
 
-// The first zero of a run and `behind` more into `out` from `first` on, as far as `out` goes. The
-// index after them.
-fn put_zeros(out: &mut [i32], first: usize, behind: u32) -> usize
-    requires { ⌜ first < length (now out) ⌝ }
-    ensures { λ r. ⌜ ZerosIs (now (out .entry)) (now (out .exit)) first behind r ⌝ }
-{
-    let run = behind as usize + 1;
-    let mut end = out.len();
-    if run < end - first {
-        end = first + run;
-    }
-    let mut i = first;
-    while i < end {
-        out[i] = 0;
-        i = i + 1;
-    }
-    i
-}
-
-// Words into all of `out`, the first of them for the left channel. What it holds behind a refused
+// Words into all of `out`, the first of them for the left channel. What it holds after a refused
 // word stays.
 fn decode_packed_samples_stereo(
     payload: &[u8],
@@ -98,42 +58,25 @@ fn decode_packed_samples_stereo(
         (reading (bitsOf (now (payload .entry))) (length (now (out .entry))) 0
         (start (pairOf seeds .left) (pairOf seeds .right))) ⌝ }
 {
-    let none = AdaptiveMedians { values: [0, 0, 0] };
-    let mut medians = seeds;
-    let mut run_break = false;
-    let mut last_zero = false;
-    let mut last_one = false;
-    let mut bits: usize = 0;
-    let mut written: usize = 0;
-    while written < out.len() {
-        let due = medians[written % 2];
-        let run = zero_run_eligible(medians[0], medians[1], run_break, last_zero, last_one);
-        match read_word(payload, bits, run, due, last_zero, last_one) {
-            Coded::Run(behind, next) => {
-                medians = [none, none];
-                run_break = true;
-                bits = next;
-                written = put_zeros(out, written, behind);
-            }
+    let mut at = Turn {
+        bits: 0,
+        written: 0,
+        medians: seeds,
+        run_break: false,
+        last_zero: false,
+        last_one: false,
+    };
+    while at.written < out.len() {
+        match word_at(payload, at) {
+            Coded::Run(owed, next) => at = after_run(out, at, owed, next),
             Coded::Sample(value, ones_count, next, zero, one) => {
-                medians[written % 2] = adapt(due, ones_count);
-                out[written] = value;
-                let from = stands_at(next, written + 1, medians, zero, one);
-                let at = read_short_words(payload, out, from);
-                let left = at.left;
-                let right = at.right;
-                medians = [left, right];
-                run_break = false;
-                last_zero = at.last_zero;
-                last_one = at.last_one;
-                bits = at.place;
-                written = at.written;
+                at = after_sample(payload, out, at, value, ones_count, next, zero, one);
             }
-            Coded::EndOfStream => return stopped(Refusal::EndOfStream, bits, medians, written),
-            Coded::Truncated => return stopped(Refusal::Truncated, bits, medians, written),
+            Coded::EndOfStream => return answer(Outcome::Refused(Refusal::EndOfStream), at),
+            Coded::Truncated => return answer(Outcome::Refused(Refusal::Truncated), at),
         }
     }
-    accepted(bits, medians, written)
+    answer(Outcome::Accepted, at)
 }
 
 // The answer of a reading that ended before any word.

@@ -16,12 +16,14 @@ use Rattle.short_words.specs.declared.ShortWord.{ShortWord}
 use Rattle.word_state.specs.State.{runDue}
 use Rattle.word_state.proofs.FlagLaws.{due-either}
 use Rattle.word_state.proofs.StateLaws.{noSet}
+use Rattle.words.specs.declared.coded.Coded.{Coded}
 use Rattle.words.proofs.JoinLaws.{coded-word}
 use Rattle.words.proofs.PartLaws.{run-skipped}
 use Rattle.short_reading.specs.Onward.{Onward}
 use Rattle.short_reading.specs.Steps.{Ready, behind, SteppedIs, StepIs}
 use Rattle.short_reading.specs.declared.Standing.{Standing}
 use Rattle.short_reading.specs.declared.Step.{Step}
+use Rattle.readings.proofs.HeldLaws.{held-coded}
 use Rattle.readings.proofs.StandingLaws.{words-sample}
 
 -- no word
@@ -44,11 +46,15 @@ module _ (payload : List ℕ) (out : List ℤ) (x : Standing) (w : ℕ) (h : x .
       → Onward payload out (set out (x .written) (y .value)) x (behind x y left right)
   onward-word c due left right other e d f t =
       let bits = bitsOf payload in
+      let sets = x .left ∷ x .right ∷ [] in
+      let word = Coded.Sample (y .value) (t .count) (x .place + y .used) (y .«last_zero») (y .«last_one») in
       let k = coded-word bits (x .place) (mediansOf due) (x .«last_zero») (x .«last_one») false (x .place) _ (run-skipped bits (x .place)) (t .is bits (x .place) (v .window)) in
       record {
-        goes = λ out₀ s₀ l. rw (e, f) at
-            (words-sample payload out₀ s₀ out (x .left ∷ x .right ∷ []) 0 false (x .«last_zero») (x .«last_one») (x .place) (x .written) l _ false refl h (sym (v .no-run)) (rw (e, d) k)
-            (y .value) (t .count) (x .place + y .used) (y .«last_zero») (y .«last_one») (y .medians) refl (rw (e, d) (t .adapted)));
+        goes = λ out₀ s₀ l.
+            let n = held-coded (l .state) sets 0 false (x .«last_zero») (x .«last_one») (x .written) (l .held) in
+            let c = n bits (x .place) word false refl (sym (v .no-run)) (rw (e, d) k) in
+            rw (e, f) at (words-sample payload out₀ s₀ out sets 0 false _ _ _ (x .written) l word h c
+            (y .value) (t .count) (x .place + y .used) _ _ (y .medians) refl (rw (e, d) (t .adapted)));
         since = omega arith;
         within = omega (arith, length-set out (x .written) (y .value));
         same = length-set out (x .written) (y .value);

@@ -9,7 +9,7 @@ ghost use Rattle.bits.specs.Bits.{bitsOf};
 ghost use Rattle.bits.specs.Window.{Window};
 ghost use Rattle.entropy.specs.Medians.{mediansOf};
 ghost use Rattle.word_state.specs.State.{runDue};
-ghost use Rattle.short_reading.specs.Onward.{standing, Onward};
+ghost use Rattle.short_reading.specs.Onward.{Onward};
 ghost use Rattle.short_reading.specs.Steps.{Ready, SteppedIs, StepIs};
 use bit_windows::register::first_window;
 use bit_windows::register::moved;
@@ -27,28 +27,6 @@ pub struct Standing {
     pub right: AdaptiveMedians,
     pub last_zero: bool,
     pub last_one: bool,
-}
-
-// Where the locals of a reading say that it stands.
-pub fn stands_at(
-    place: usize,
-    written: usize,
-    medians: [AdaptiveMedians; 2],
-    last_zero: bool,
-    last_one: bool,
-) -> Standing
-    ensures { λ r. ⌜ r ≡ standing place written medians «last_zero» «last_one» ⌝ }
-{
-    let left = medians[0];
-    let right = medians[1];
-    Standing {
-        place,
-        written,
-        left,
-        right,
-        last_zero,
-        last_one,
-    }
 }
 
 // Where a reading stands after a word, and the 64 bits there. `on` is false where no short word may

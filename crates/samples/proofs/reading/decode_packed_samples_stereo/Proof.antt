@@ -4,7 +4,7 @@
 use borrow.Author.Needs.{needs}
 use native.Mathlib.Omega.{arith}
 use mathlib.Core.Path.{_≡_, ap}
-use Prim.Native.Nat.{_+_, _-_, _<_}
+use Prim.Native.Nat.{_-_, _<_}
 use denote.Ref.{now}
 use lib.ListN.{length}
 use mir.Facts.{toZ-ofZ}
@@ -12,19 +12,19 @@ use mir.Syntax.{w32}
 use mir.Val.{SFits}
 use Rattle.entropy.specs.Medians.{pairOf}
 use Rattle.word_state.specs.State.{start}
-use Rattle.words.specs.Parts.{codedWord}
 use Rattle.word_state.proofs.StateLaws.{length-mapped}
-use Rattle.short_reading.specs.declared.Standing.{Standing}
-use Rattle.samples.proofs.LoopLaws.{Loop, loop-start, loop-end, loop-run, loop-sample, loop-stop, room-behind}
+use Rattle.words.specs.Parts.{codedWord}
+use Rattle.reading_turns.specs.declared.Turn.{Turn}
+use Rattle.samples.proofs.LoopLaws.{Loop, loop-start, loop-end, loop-run, loop-sample, loop-stop}
 use Rattle.samples.proofs.reading.decode_packed_samples_stereo.Statement.{statement}
 use Rattle.samples.proofs.reading.decode_packed_samples_stereo.Tie as tie
 
 abbrev Inv-loop : tie.InvT-loop
-Inv-loop payload out₀ none medians₀ run-break₀ last-zero₀ last-one₀ bits₀ written₀ out medians run-break last-zero last-one bits written =
-    Loop payload out₀ (start (pairOf medians₀ .left) (pairOf medians₀ .right)) out medians run-break last-zero last-one bits written
+Inv-loop payload out₀ at₀ out at =
+    Loop payload out₀ (start (pairOf (at₀ .medians) .left) (pairOf (at₀ .medians) .right)) out at
 
 abbrev μ-loop : tie.MeasureT-loop
-μ-loop payload out₀ none medians₀ run-break₀ last-zero₀ last-one₀ bits₀ written₀ out medians run-break last-zero last-one bits written = length out₀ - written
+μ-loop payload out₀ at₀ out at = length out₀ - at .written
 
 loop-holds : tie.Need-loop-holds Inv-loop μ-loop
 loop-holds c =
@@ -32,79 +32,61 @@ loop-holds c =
     let l : length (a .seeds) ≡ 2 = search (needs, length-mapped) in
     loop-start (now (a .payload)) (now (a .out)) (a .seeds) l
 
--- the loop's test and its head, from where a word was read
-abbrev in-loop : tie.After-read-word Inv-loop μ-loop → tie.In-loop Inv-loop μ-loop
-in-loop c = c .before .before .before .before .before
-
-abbrev at-loop : tie.After-read-word Inv-loop μ-loop → tie.At-loop Inv-loop μ-loop
-at-loop c = in-loop c .before
+-- there is room for the word that was read
+room : (c : tie.Then1 Inv-loop μ-loop) → let l = c .before .before .loop in l .at .written < length (l .out)
+room c = omega (arith, c .if1 .taken)
 
 loop-less : tie.Need-loop-less Inv-loop μ-loop
 loop-less c =
-    let at-loop : tie.At-loop Inv-loop μ-loop = search needs in
-    let l = at-loop .loop .inv in
-    let z = c .before .put-zeros .ensures in
-    omega (arith, z .some, z .within, l .words .same)
+    let l : tie.At-loop Inv-loop μ-loop = search needs in
+    let z = c .before .after-run .ensures .zeros in
+    omega (arith, z .some, z .within, l .loop .inv .words .same)
 
 loop-again : tie.Need-loop-again Inv-loop μ-loop
 loop-again c =
-    let y : tie.After-behind Inv-loop μ-loop = search needs in
-    let w = y .before .before in
-    let l = at-loop w .loop .inv in
-    loop-run _ _ _ _ _ _ _ _ _ _ l _ _ (omega arith) (w .before .zero-run-eligible .ensures) (w .read-word .ensures) _ _ _ _ (y .behind .given .1) (c .before .put-zeros .ensures)
-
-read-short-words-requires : tie.Need-read-short-words-requires Inv-loop μ-loop
-read-short-words-requires c κs =
-    let y : tie.After-value Inv-loop μ-loop = search needs in
-    let w = y .before .before in
-    let l = at-loop w .loop in
-    let e = ap (λ (x : Standing). x .written) (c .before .stands-at .ensures) in
-    let h : l .written < length (l .out) = omega (arith, in-loop w .loop-test .taken) in
-    (at-loop w .before .before .pre, room-behind (l .out) (l .written) _ _ h e)
+    let i : tie.Then1 Inv-loop μ-loop = search needs in
+    let w : tie.After-word-at Inv-loop μ-loop = search needs in
+    let y : tie.After-owed Inv-loop μ-loop = search needs in
+    let a = c .before .after-run .ensures in
+    loop-run _ _ _ _ _ (i .before .before .loop .inv) _ (room i) (w .word-at .ensures) _ _ _ _ (y .owed .given .1) a
 
 loop-less-2 : tie.Need-loop-less-2 Inv-loop μ-loop
 loop-less-2 c =
-    let y : tie.After-value Inv-loop μ-loop = search needs in
-    let s : tie.After-stands-at Inv-loop μ-loop = search needs in
-    let g : tie.After-read-short-words Inv-loop μ-loop = search needs in
-    let w = y .before .before in
-    let l = at-loop w .loop in
-    let e : s .stands-at .result .written ≡ l .written + 1 = ap (λ (x : Standing). x .written) (s .stands-at .ensures) in
-    let h : l .written < length (l .out) = omega (arith, in-loop w .loop-test .taken) in
-    omega (arith, l .inv .words .same, g .read-short-words .ensures .since)
+    let i : tie.Then1 Inv-loop μ-loop = search needs in
+    let l = i .before .before .loop in
+    let a = c .before .after-sample .ensures in
+    let g = a .onward .since in
+    let e : c .before .after-sample .result .written ≡ a .to .written = ap (λ (t : Turn). t .written) (a .turn-is) in
+    omega (arith, room i, l .inv .words .same)
 
 loop-again-2 : tie.Need-loop-again-2 Inv-loop μ-loop
 loop-again-2 c =
+    let i : tie.Then1 Inv-loop μ-loop = search needs in
+    let w : tie.After-word-at Inv-loop μ-loop = search needs in
     let y : tie.After-value Inv-loop μ-loop = search needs in
-    let d : tie.After-adapt Inv-loop μ-loop = search needs in
-    let s : tie.After-stands-at Inv-loop μ-loop = search needs in
-    let g : tie.After-read-short-words Inv-loop μ-loop = search needs in
-    let w = y .before .before in
-    let l = at-loop w .loop in
     let v = y .value .given .0 .0 in
     let f : SFits w32 v = search needs in
-    let h : l .written < length (l .out) = omega (arith, in-loop w .loop-test .taken) in
-    loop-sample _ _ _ _ _ _ _ _ _ _ (l .inv) _ _ h (w .before .zero-run-eligible .ensures) (w .read-word .ensures) v _ _ _ _ _ _ _ (y .value .given .1) (d .adapt .ensures)
-    (rw (toZ-ofZ f, s .stands-at .ensures) at (g .read-short-words .ensures))
+    let a = rw (toZ-ofZ f) at (c .before .after-sample .ensures) in
+    loop-sample _ _ _ _ _ (i .before .before .loop .inv) _ (room i) (w .word-at .ensures) v _ _ _ _ _ _ (y .value .given .1) a
 
 returns : tie.Need-returns Inv-loop μ-loop
 returns c =
-    let w : tie.After-read-word Inv-loop μ-loop = search needs in
-    let l = at-loop w .loop .inv in
-    let e = loop-stop _ _ _ _ _ _ _ _ _ _ l _ _ (omega arith) (w .before .zero-run-eligible .ensures) (w .read-word .ensures) 4 (λ s. ap (codedWord s) (c .before .enum-told .given .1)) in
-    rw (c .stopped .ensures) e
+    let i : tie.Then1 Inv-loop μ-loop = search needs in
+    let w : tie.After-word-at Inv-loop μ-loop = search needs in
+    let s = loop-stop _ _ _ _ _ (i .before .before .loop .inv) _ (room i) (w .word-at .ensures) 4 in
+    rw (c .answer .ensures) (s (λ s. ap (codedWord s) (c .before .enum-told .given .1)))
 
 returns-2 : tie.Need-returns-2 Inv-loop μ-loop
 returns-2 c =
-    let w : tie.After-read-word Inv-loop μ-loop = search needs in
-    let l = at-loop w .loop .inv in
-    let e = loop-stop _ _ _ _ _ _ _ _ _ _ l _ _ (omega arith) (w .before .zero-run-eligible .ensures) (w .read-word .ensures) 3 (λ s. ap (codedWord s) (c .before .enum-told2 .given .1)) in
-    rw (c .stopped2 .ensures) e
+    let i : tie.Then1 Inv-loop μ-loop = search needs in
+    let w : tie.After-word-at Inv-loop μ-loop = search needs in
+    let s = loop-stop _ _ _ _ _ (i .before .before .loop .inv) _ (room i) (w .word-at .ensures) 3 in
+    rw (c .answer2 .ensures) (s (λ s. ap (codedWord s) (c .before .enum-told2 .given .1)))
 
 returns-3 : tie.Need-returns-3 Inv-loop μ-loop
 returns-3 c =
-    let e = loop-end _ _ _ _ _ _ _ _ _ _ (c .before .before .loop .inv) (omega arith) in
-    rw (c .accepted .ensures) e
+    let l : tie.At-loop Inv-loop μ-loop = search needs in
+    rw (c .answer3 .ensures) (loop-end _ _ _ _ _ (l .loop .inv) (omega arith))
 
 pub decode-packed-samples-stereo-spec : {M : Type 1} → statement M
 decode-packed-samples-stereo-spec =
@@ -113,11 +95,6 @@ decode-packed-samples-stereo-spec =
     Inv-loop
     μ-loop
     loop-holds
-    (λ c. search needs)
-    (λ c. search needs)
-    (λ c. search needs)
-    (λ c. search needs)
-    (λ c κs. search needs)
     (λ c κs. search needs)
     (λ c. search needs)
     (λ c κs. search needs)
@@ -125,13 +102,6 @@ decode-packed-samples-stereo-spec =
     loop-again
     (λ c. search needs)
     (λ c κs. search needs)
-    (λ c. search needs)
-    (λ c. search needs)
-    (λ c. search needs)
-    (λ c. search needs)
-    (λ c. search needs)
-    (λ c κs. search needs)
-    read-short-words-requires
     loop-less-2
     loop-again-2
     (λ c. search needs)

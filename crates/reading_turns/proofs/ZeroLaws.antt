@@ -8,7 +8,7 @@ use lib.IntN.{ℤ, pos}
 use lib.ListN.{length, replicate, set, length-replicate, replicate-append-replicate}
 use Rattle.overlay.specs.Overlay.{overlay}
 use Rattle.overlay.proofs.OverlayLaws.{overlay-none, overlay-one, overlay-length, overlay-on}
-use Rattle.samples.specs.Zeros.{zeroed}
+use Rattle.reading_turns.specs.Zeros.{zeroed}
 
 -- they leave the length
 pub zeroed-length : (l : List ℤ) (i n : ℕ) → i + n ≤ length l → length (zeroed l i n) ≡ length l

@@ -1,4 +1,4 @@
--- `samples::reading::put_zeros` meets its contract.
+-- `reading_turns::put_zeros` meets its contract.
 -- Assumes nothing.
 use borrow.Author.Needs.{needs}
 use native.Mathlib.Omega.{arith}
@@ -9,36 +9,36 @@ use Prim.Native.Nat.{ℕ, _+_, _-_, _≤_, _<_}
 use denote.Ref.{now}
 use lib.IntN.{ℤ}
 use lib.ListN.{length}
-use Rattle.samples.specs.Zeros.{zeroed}
-use Rattle.samples.proofs.ZeroLaws.{zeroed-length, zeroed-none, zeroed-more}
-use Rattle.samples.proofs.reading.put_zeros.Statement.{statement}
-use Rattle.samples.proofs.reading.put_zeros.Tie as tie
+use Rattle.reading_turns.specs.Zeros.{zeroed}
+use Rattle.reading_turns.proofs.ZeroLaws.{zeroed-length, zeroed-none, zeroed-more}
+use Rattle.reading_turns.proofs.put_zeros.Statement.{statement}
+use Rattle.reading_turns.proofs.put_zeros.Tie as tie
 
 -- where the zeros end
-record Ends (len first behind end : ℕ) : Type 0 where
+record Ends (len first owed end : ℕ) : Type 0 where
   some : first < end
   within : end ≤ len
-  most : end ≤ first + 1 + behind
-  all : end < len → end ≡ first + 1 + behind
+  most : end ≤ first + 1 + owed
+  all : end < len → end ≡ first + 1 + owed
 
 -- those before i are written
-record Zeroing (before : List ℤ) (first behind end : ℕ) (out : List ℤ) (i : ℕ) : Type 0 where
+record Zeroing (before : List ℤ) (first owed end : ℕ) (out : List ℤ) (i : ℕ) : Type 0 where
   list-is : out ≡ zeroed before first (i - first)
   from : first ≤ i
   here : i ≤ end
-  ends : Ends (length before) first behind end
+  ends : Ends (length before) first owed end
 
-same : (before : List ℤ) (first behind end : ℕ) (out : List ℤ) (i : ℕ) → Zeroing before first behind end out i → length out ≡ length before
-same before first behind end out i l =
+same : (before : List ℤ) (first owed end : ℕ) (out : List ℤ) (i : ℕ) → Zeroing before first owed end out i → length out ≡ length before
+same before first owed end out i l =
     ap length (l .list-is) ∙ zeroed-length before first (i - first) (omega (arith, l .from, l .here, l .ends .within))
 
 abbrev Inv-loop : tie.InvT-loop
-Inv-loop out₀ first behind run end i₀ out i = Zeroing out₀ first behind end out i
+Inv-loop out₀ first owed run end i₀ out i = Zeroing out₀ first owed end out i
 
 abbrev μ-loop : tie.MeasureT-loop
-μ-loop out₀ first behind run end i₀ out i = end - i
+μ-loop out₀ first owed run end i₀ out i = end - i
 
-ends-are : (c : tie.Joined1 Inv-loop μ-loop) → let a = c .before .args in Ends (length (now (a .out))) (a .first) (a .behind) (c .if1 .end)
+ends-are : (c : tie.Joined1 Inv-loop μ-loop) → let a = c .before .args in Ends (length (now (a .out))) (a .first) (a .owed) (c .if1 .end)
 ends-are c =
     let s = c .before .pre in
     ⊎-elim
