@@ -7,7 +7,7 @@ use borrow.Author.Tests.{not-true}
 use lib.Dec.{leb}
 use Rattle.answers.proofs.TestLaws.{both}
 use Rattle.entropy.specs.Medians.{Medians}
-use Rattle.word_state.specs.State.{State, side, due, other, runDue, runHere}
+use Rattle.word_state.specs.State.{State, side, due, other, withFlags, after, runDue, runHere}
 
 -- the order of two tests does not matter
 swapped : (a b : Bool) → (a && b) ≡ (b && a)
@@ -15,6 +15,11 @@ swapped true true = refl
 swapped true false = refl
 swapped false true = refl
 swapped false false = refl
+
+-- the flags are shared (S1): what a word of one channel leaves is what the next, of the other, finds
+pub flags-shared : (k : ℕ) (z o : Bool) (s : State) → let t = after k (withFlags z o s) in (t .lastZero ≡ z) × (t .lastOne ≡ o)
+unfolding after
+flags-shared k z o s = (refl, refl)
 
 -- neither flag is set where a run length is due
 pub due-flags : (m n : Medians) (z o : Bool) → runDue m n z o ≡ true → (z ≡ false) × (o ≡ false)

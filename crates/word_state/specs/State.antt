@@ -12,6 +12,7 @@ use Rattle.medians.specs.Adaptation.{adapt}
 pub record State : Type 0 where
   pub left : Medians
   pub right : Medians
+  -- the flags are shared by both channels
   pub lastZero : Bool
   pub lastOne : Bool
   pub debt : ℕ

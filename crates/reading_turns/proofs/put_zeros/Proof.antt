@@ -42,8 +42,18 @@ ends-are : (c : tie.Joined1 Inv-loop μ-loop) → let a = c .before .args in End
 ends-are c =
     let s = c .before .pre in
     ⊎-elim
-    (λ w. record { some = omega (arith, w .0 .taken, w .1); within = omega (arith, w .0 .taken, w .1); most = omega (arith, w .1); all = λ h. omega (arith, w .1) })
-    (λ w. record { some = omega (arith, w .1); within = omega (arith, w .1); most = omega (arith, w .0 .left, w .1); all = λ h. omega (arith, w .1) })
+    (λ w. record {
+      some = omega (arith, w .0 .taken, w .1);
+      within = omega (arith, w .0 .taken, w .1);
+      most = omega (arith, w .1);
+      all = λ h. omega (arith, w .1);
+    })
+    (λ w. record {
+      some = omega (arith, w .1);
+      within = omega (arith, w .1);
+      most = omega (arith, w .0 .left, w .1);
+      all = λ h. omega (arith, w .1);
+    })
     (c .if1 .came)
 
 loop-holds : tie.Need-loop-holds Inv-loop μ-loop
@@ -53,19 +63,30 @@ loop-holds c =
     record { list-is = zeroed-none (now (a .out)) (a .first); from = omega arith; here = omega (arith, e .some); ends = e }
 
 slice-set-of-out : tie.Need-slice-set-of-out Inv-loop μ-loop
-slice-set-of-out c = let l = c .before .loop in omega (arith, l .inv .ends .within, same _ _ _ _ _ _ (l .inv))
+slice-set-of-out c =
+    let l : tie.At-loop Inv-loop μ-loop = search needs in
+    omega (arith, l .loop .inv .ends .within, same _ _ _ _ _ _ (l .loop .inv))
 
 loop-again : tie.Need-loop-again Inv-loop μ-loop
 loop-again c =
-    let l = c .before .loop .inv in
-    record { list-is = zeroed-more _ _ _ _ (l .from) (omega (arith, l .ends .within)) (l .list-is); from = omega (arith, l .from); here = omega arith; ends = l .ends }
+    let at : tie.At-loop Inv-loop μ-loop = search needs in
+    let l = at .loop .inv in
+    record {
+      list-is = zeroed-more _ _ _ _ (l .from) (omega (arith, l .ends .within)) (l .list-is);
+      from = omega (arith, l .from);
+      here = omega arith;
+      ends = l .ends;
+    }
 
 same-length : tie.Need-same-length Inv-loop μ-loop
-same-length c = same _ _ _ _ _ _ (c .before .loop .inv)
+same-length c =
+    let at : tie.At-loop Inv-loop μ-loop = search needs in
+    same _ _ _ _ _ _ (at .loop .inv)
 
 returns : tie.Need-returns Inv-loop μ-loop
 returns c =
-    let l = c .before .loop .inv in
+    let at : tie.At-loop Inv-loop μ-loop = search needs in
+    let l = at .loop .inv in
     let e = l .ends in
     record {
       list-is = l .list-is;
