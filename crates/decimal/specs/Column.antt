@@ -12,6 +12,13 @@ use Rattle.decimal.specs.Decimal.{decimal, readDigits}
 unfoldable pub column : ℕ → ℕ → List ℕ
 column width n = replicate (width - length (decimal n)) 32 ++ decimal n
 
+-- the number that a column holds, after its spaces
+unfoldable pub readColumn : List ℕ → ℕ
+readColumn [] = 0
+readColumn (c ∷ cs) = cond (eqb c 32) (readColumn cs) (readDigits 0 (c ∷ cs))
+
+-- ---- for the code alone
+
 -- the byte before the last digits of a number, by what is left of it: its last digit, or a space
 unfoldable pub mark : ℕ → ℕ
 mark rest = cond (eqb rest 0) 32 (48 + rest % 10)
@@ -23,8 +30,3 @@ front width rest = cond (eqb rest 0) (replicate width 32) (column width rest)
 -- it has room there, which none needs where nothing is left
 abbrev pub Room : ℕ → ℕ → Type 0
 Room width rest = 0 < rest → length (decimal rest) ≤ width
-
--- the number that a column holds, behind its spaces
-unfoldable pub readColumn : List ℕ → ℕ
-readColumn [] = 0
-readColumn (c ∷ cs) = cond (eqb c 32) (readColumn cs) (readDigits 0 (c ∷ cs))

@@ -10,13 +10,14 @@ use lib.Dec.{ltb}
 -- in a `let`, which is computed only where it is asked for
 unfoldable pub digits : ℕ → ℕ → List ℕ
 digits zero n = []
-digits (suc k) n = let tens = digits k (n / 10) in cond (ltb n 10) ((48 + n) ∷ []) (tens ++ ((48 + n % 10) ∷ []))
+digits (suc k) n = let tens = digits k (n / 10) in
+    cond (ltb n 10) ((48 + n) ∷ []) (tens ++ ((48 + n % 10) ∷ []))
 
 -- n in decimal; n + 1 divisions are always enough
 unfoldable pub decimal : ℕ → List ℕ
 decimal n = digits (suc n) n
 
--- the number that these digits stand for, behind the digits of n
+-- the number that these digits stand for, after the digits of n
 unfoldable pub readDigits : ℕ → List ℕ → ℕ
 readDigits n [] = n
 readDigits n (c ∷ cs) = readDigits (10 * n + (c - 48)) cs

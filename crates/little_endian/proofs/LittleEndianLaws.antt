@@ -9,11 +9,11 @@ use lib.ListN.{getD}
 use mir.Syntax.{w16}
 use mir.Val.{toZ, ofZ, Fits, SFits}
 use mir.ValLaws.{toZ-ofZ, ofZ-toZ, ofZ-fits}
-use Rattle.little_endian.specs.LittleEndian.{littleEndian, numberOf, signedWord, signedBytes}
+use Rattle.little_endian.specs.LittleEndian.{littleEndian, fromLittleEndian, signedWord, signedBytes}
 
 -- a number of 32 bits comes back out of its four bytes
-pub number-back : (n : ℕ) → n < 4294967296 → numberOf (littleEndian 4 n) ≡ n
-unfolding littleEndian numberOf
+pub number-back : (n : ℕ) → n < 4294967296 → fromLittleEndian (littleEndian 4 n) ≡ n
+unfolding littleEndian fromLittleEndian
 number-back n h = omega arith
 
 -- a signed number of 16 bits comes back out of its two bytes

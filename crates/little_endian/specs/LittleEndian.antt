@@ -12,9 +12,9 @@ littleEndian zero number = []
 littleEndian (suc count) number = number % 256 ∷ littleEndian count (number / 256)
 
 -- the number that bytes hold
-unfoldable pub numberOf : List ℕ → ℕ
-numberOf [] = zero
-numberOf (byte ∷ bytes) = byte + 256 * numberOf bytes
+unfoldable pub fromLittleEndian : List ℕ → ℕ
+fromLittleEndian [] = zero
+fromLittleEndian (byte ∷ bytes) = byte + 256 * fromLittleEndian bytes
 
 -- document 01, "Entropy" (E1): a signed 16-bit word, from its low and its high byte
 abbrev pub signedWord : ℕ → ℕ → ℤ

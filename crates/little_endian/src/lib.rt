@@ -7,7 +7,7 @@ ghost use lib.ListN.{length};
 ghost use mir.Syntax.{w16};
 ghost use mir.Val.{toZ, ofZ};
 ghost use Rattle.overlay.specs.Overlay.{overlay};
-ghost use Rattle.little_endian.specs.LittleEndian.{littleEndian, numberOf, signedWord, signedBytes};
+ghost use Rattle.little_endian.specs.LittleEndian.{littleEndian, fromLittleEndian, signedWord, signedBytes};
 
 // The four bytes of a number.
 pub fn number_bytes(number: u32) -> [u8; 4]
@@ -38,7 +38,7 @@ pub fn lay_number(number: u32, at: usize, out: &mut [u8])
 
 // The number that four bytes hold.
 pub fn number(a: u8, b: u8, c: u8, d: u8) -> u32
-    ensures { λ r. ⌜ r ≡ numberOf (a ∷ b ∷ c ∷ d ∷ []) ⌝ }
+    ensures { λ r. ⌜ r ≡ fromLittleEndian (a ∷ b ∷ c ∷ d ∷ []) ⌝ }
 {
     a as u32 + 256 * (b as u32) + 65536 * (c as u32) + 16777216 * (d as u32)
 }

@@ -9,9 +9,9 @@ use libc::STDIN_FILENO;
 use morning_text::LARGEST_INPUT;
 use morning_text::LARGEST_PAGE;
 use morning_text::input_page;
-use morning_text::threshold_of;
 use output::print;
 use output::print_refusal;
+use threshold::threshold_of;
 
 // Room for a threshold: a number of 32 bits has ten digits.
 const WORD_BYTES: usize = 32;

@@ -21,12 +21,14 @@ use Rattle.morning_page.specs.declared.PageAnswer.{PageAnswer}
 
 module _ (t : ℕ) (samples : List ℤ) (storage : List ℕ) where
   -- a refusal leaves the storage
-  pub page-refused : (o : Outcome) (x : Refusal) → o ≡ Outcome.Refused x → outcomeNumber o ≡ pageRefusal (length samples) (length storage)
+  pub page-refused : (o : Outcome) (x : Refusal) → o ≡ Outcome.Refused x
+      → outcomeNumber o ≡ pageRefusal (length samples) (length storage)
       → record { refusal = outcomeNumber o; written = 0; bytes = storage } ≡ pageEntry t samples storage
   unfolding pageEntry
   page-refused o x q e =
       ap (refusePage storage) e
-      ∙ sym (guard-refused (pageRefusal (length samples) (length storage)) (refusePage storage) (tellPage storage (page t samples)) (rw (sym e ∙ ap outcomeNumber q) (number-positive x)))
+      ∙ sym (guard-refused (pageRefusal (length samples) (length storage)) (refusePage storage)
+      (tellPage storage (page t samples)) (rw (sym e ∙ ap outcomeNumber q) (number-positive x)))
 
   -- the number that is told is that of the first refusal that applies
   pub page-number : pageEntry t samples storage .refusal ≡ pageRefusal (length samples) (length storage)
@@ -38,12 +40,15 @@ module _ (t : ℕ) (samples : List ℤ) (storage : List ℕ) where
       go (suc n) = refl
 
   -- what is told where nothing is refused
-  pub page-told : pageRefusal (length samples) (length storage) ≡ 0 → pageEntry t samples storage ≡ tellPage storage (page t samples)
+  pub page-told : pageRefusal (length samples) (length storage) ≡ 0
+      → pageEntry t samples storage ≡ tellPage storage (page t samples)
   unfolding pageEntry
-  page-told e = guard-accepted (pageRefusal (length samples) (length storage)) (refusePage storage) (tellPage storage (page t samples)) e
+  page-told e = guard-accepted (pageRefusal (length samples) (length storage)) (refusePage storage)
+      (tellPage storage (page t samples)) e
 
   -- the page was put into it
-  pub page-put : (after : List ℕ) (w : ℕ) → pageRefusal (length samples) (length storage) ≡ 0 → TextPut storage after 0 w (page t samples)
+  pub page-put : (after : List ℕ) (w : ℕ) → pageRefusal (length samples) (length storage) ≡ 0
+      → TextPut storage after 0 w (page t samples)
       → record { refusal = 0; written = w; bytes = after } ≡ pageEntry t samples storage
   page-put after w e p = rw (p .bytes, p .place ∙ zero-add (length (page t samples))) (sym (page-told e))
 
@@ -65,5 +70,6 @@ page-within t samples storage = go (pageRefusal (length samples) (length storage
     go (suc n) = omega arith
 
 -- and so of the struct that a call answers
-pub answer-within : (r : PageAnswer) (after : List ℕ) (told : PageTold) → viewPage r after ≡ told → Within told → r .written ≤ length after
+pub answer-within : (r : PageAnswer) (after : List ℕ) (told : PageTold) → viewPage r after ≡ told
+    → Within told → r .written ≤ length after
 answer-within r after told e w = rw (← e) at w

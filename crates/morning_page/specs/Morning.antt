@@ -29,13 +29,16 @@ sumOf (suc k) f = sumOf k f + f k
 abbrev pub ClicksSummed : Type 0
 ClicksSummed =
     (threshold : ℕ) (samples : List ℤ) → length samples % 2 ≡ 0
-    → (sumOf (lineCount (length samples)) (lineClicks threshold lefts samples) ≡ clicks threshold 0 (lefts samples))
-    × (sumOf (lineCount (length samples)) (lineClicks threshold rights samples) ≡ clicks threshold 0 (rights samples))
+    → (sumOf (lineCount (length samples)) (lineClicks threshold lefts samples)
+    ≡ clicks threshold 0 (lefts samples))
+    × (sumOf (lineCount (length samples)) (lineClicks threshold rights samples)
+    ≡ clicks threshold 0 (rights samples))
 
 -- every line has 45 bytes (Q5.2)
 abbrev pub LinesOf45 : Type 0
 LinesOf45 =
-    (threshold : ℕ) (samples : List ℤ) → Recording samples → (k : ℕ) → k < lineCount (length samples) → length (line threshold samples k) ≡ lineBytes
+    (threshold : ℕ) (samples : List ℤ) → Recording samples → (k : ℕ) → k < lineCount (length samples)
+    → length (line threshold samples k) ≡ lineBytes
 
 -- the bytes of a page where line k stands
 abbrev pub lineAt : ℕ → List ℕ → List ℕ
@@ -46,7 +49,8 @@ abbrev pub LinesStand : Type 0
 LinesStand =
     (threshold : ℕ) (samples : List ℤ) → Recording samples
     → (length (page threshold samples) ≡ lineBytes * lineCount (length samples))
-    × ((k : ℕ) → k < lineCount (length samples) → lineAt k (page threshold samples) ≡ line threshold samples k)
+    × ((k : ℕ) → k < lineCount (length samples)
+    → lineAt k (page threshold samples) ≡ line threshold samples k)
 
 -- the number in a line's column that begins at a place and is so wide
 abbrev pub numberIn : List ℕ → ℕ → ℕ → ℕ
@@ -68,15 +72,19 @@ pageLeft told = take (told .written) (told .bytes)
 -- back and summed, are the clicks of the whole recording (Q5.5)
 pub record ReadBack (threshold : ℕ) (samples : List ℤ) (text : List ℕ) : Type 0 where
   pub columns : (k : ℕ) → k < lineCount (length samples) → ColumnsHold threshold samples k (lineAt k text)
-  pub left-clicks : sumOf (lineCount (length samples)) (λ k. numberIn (lineAt k text) 28 8) ≡ clicks threshold 0 (lefts samples)
-  pub right-clicks : sumOf (lineCount (length samples)) (λ k. numberIn (lineAt k text) 36 8) ≡ clicks threshold 0 (rights samples)
+  pub left-clicks : sumOf (lineCount (length samples)) (λ k. numberIn (lineAt k text) 28 8)
+      ≡ clicks threshold 0 (lefts samples)
+  pub right-clicks : sumOf (lineCount (length samples)) (λ k. numberIn (lineAt k text) 36 8)
+      ≡ clicks threshold 0 (rights samples)
 
 abbrev pub PageReadBack : Type 0
 PageReadBack =
-    (threshold : ℕ) (samples : List ℤ) (storage : List ℕ) → Recording samples → pageEntry threshold samples storage .refusal ≡ 0
+    (threshold : ℕ) (samples : List ℤ) (storage : List ℕ) → Recording samples
+    → pageEntry threshold samples storage .refusal ≡ 0
     → ReadBack threshold samples (pageLeft (pageEntry threshold samples storage))
 
 -- "No frames give an empty page" (Q5.1): the call is accepted and writes nothing
 abbrev pub EmptyPage : Type 0
 EmptyPage =
-    (threshold : ℕ) (storage : List ℕ) → pageEntry threshold [] storage ≡ record { refusal = 0; written = 0; bytes = storage }
+    (threshold : ℕ) (storage : List ℕ)
+    → pageEntry threshold [] storage ≡ record { refusal = 0; written = 0; bytes = storage }

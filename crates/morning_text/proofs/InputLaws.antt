@@ -38,25 +38,32 @@ module _ (t : ℕ) (input storage : List ℕ) where
   input-long h = rw (le-ltb (length input) headBytes h)
 
   -- a reading that tells a refusal
-  pub input-refused : (o : Outcome) (x : Refusal) → headBytes ≤ length input → o ≡ Outcome.Refused x → readingOf input .refusal ≡ outcomeNumber o
+  pub input-refused : (o : Outcome) (x : Refusal) → headBytes ≤ length input → o ≡ Outcome.Refused x
+      → readingOf input .refusal ≡ outcomeNumber o
       → refusePage storage (outcomeNumber o) ≡ inputEntry t input storage
   input-refused o x h q e =
-      sym (guard-refused (outcomeNumber o) (refusePage storage) (pageEntry t (readingOf input .list) storage) (rw q (number-positive x)))
-      ∙ ap (λ (n : ℕ). unlessRefused n (refusePage storage) (pageEntry t (readingOf input .list) storage)) (sym e) ∙ sym (input-long h)
+      sym (guard-refused (outcomeNumber o) (refusePage storage) (pageEntry t (readingOf input .list) storage)
+      (rw q (number-positive x)))
+      ∙ ap (λ (n : ℕ). unlessRefused n (refusePage storage) (pageEntry t (readingOf input .list) storage))
+      (sym e) ∙ sym (input-long h)
 
   -- too many frames
-  pub input-frames : headBytes ≤ length input → maxFrames < frameCount input → refusePage storage 5 ≡ inputEntry t input storage
+  pub input-frames : headBytes ≤ length input → maxFrames < frameCount input
+      → refusePage storage 5 ≡ inputEntry t input storage
   input-frames h l =
       let list = replicate (2 * frameCount input) (pos 0) in
       let five : Outcome = Outcome.Refused Refusal.TooLarge in
-      let told = not-read (take 12 input) (drop headBytes input) (frameCount input) list (refuseReading list 5) five Refusal.TooLarge refl
+      let told = not-read (take 12 input) (drop headBytes input) (frameCount input) list
+      (refuseReading list 5) five Refusal.TooLarge refl
       (refused-frames (take 12 input) (drop headBytes input) (frameCount input) list l) refl in
       input-refused five Refusal.TooLarge h refl (sym (ap (λ (r : ReadTold). r .refusal) told))
 
   -- all words were read
-  pub input-read : (told : ReadTold) → headBytes ≤ length input → told ≡ readingOf input → told .refusal ≡ 0 → pageEntry t (told .list) storage ≡ inputEntry t input storage
+  pub input-read : (told : ReadTold) → headBytes ≤ length input → told ≡ readingOf input → told .refusal ≡ 0
+      → pageEntry t (told .list) storage ≡ inputEntry t input storage
   input-read told h e z =
-      sym (guard-accepted (told .refusal) (refusePage storage) (pageEntry t (told .list) storage) z) ∙ ap paged e ∙ sym (input-long h)
+      sym (guard-accepted (told .refusal) (refusePage storage) (pageEntry t (told .list) storage) z)
+      ∙ ap paged e ∙ sym (input-long h)
 
   -- of every call: what is written lies within the storage
   pub input-within : Within (inputEntry t input storage)

@@ -1,4 +1,3 @@
 -- What other crates and the proofs of this one cite.
 pub mod Cases
 pub mod InputLaws
-pub mod ThresholdLaws

@@ -1,5 +1,4 @@
-// Implements document 02 §5, the program: the morning page of a recording as `morning` reads it, and
-// the threshold as it is typed.
+// Implements document 02 §5, the program: the morning page of a recording as `morning` reads it.
 ghost use mathlib.Core.Path.{_≡_};
 ghost use Prim.Native.Nat.{_≤_};
 ghost use lib.IntN.{pos};
@@ -15,11 +14,6 @@ use little_endian::number;
 use morning_page::PageAnswer;
 use morning_page::morning_page;
 use samples::reading::decode_packed_samples_stereo_from_entropy;
-
-mod threshold;
-
-pub use crate::threshold::Threshold;
-pub use crate::threshold::threshold_of;
 
 // What stands before the payload: 12 entropy bytes, and 4 of the frame count.
 const HEAD_BYTES: usize = 16;

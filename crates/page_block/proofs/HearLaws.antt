@@ -31,8 +31,10 @@ module _ (t p : ℕ) (vs : List ℤ) where
   found-none = record { peak-is = omega arith; clicks-are = omega arith; last-is = refl }
 
   -- one sample more, at a distance
-  pub found-more : (v : ℤ) (rest : List ℤ) (top count last distance top′ count′ last′ : ℕ) → Found t p vs (v ∷ rest) top count last
-      → distance ≡ natAbs v → top′ ≡ max top distance → last′ ≡ exceeds distance t → count′ ≡ count + exceeds last′ last → Found t p vs rest top′ count′ last′
+  pub found-more : (v : ℤ) (rest : List ℤ) (top count last distance top′ count′ last′ : ℕ)
+      → Found t p vs (v ∷ rest) top count last
+      → distance ≡ natAbs v → top′ ≡ max top distance → last′ ≡ exceeds distance t
+      → count′ ≡ count + exceeds last′ last → Found t p vs rest top′ count′ last′
   unfolding peak rises lastLoud
   found-more v rest top count last distance top′ count′ last′ f e g h k =
       let l : last′ ≡ isLoud t v = h ∙ ap (λ (n : ℕ). exceeds n t) e in
@@ -45,7 +47,8 @@ module _ (t p : ℕ) (vs : List ℤ) where
       }
 
   -- after the last
-  pub found-all : (top count last : ℕ) → Found t p vs [] top count last → (top ≡ peak vs) × (count ≡ rises t p vs) × (last ≡ lastLoud t p vs)
+  pub found-all : (top count last : ℕ) → Found t p vs [] top count last
+      → (top ≡ peak vs) × (count ≡ rises t p vs) × (last ≡ lastLoud t p vs)
   unfolding peak rises lastLoud
   found-all top count last f = (omega (arith, f .peak-is), omega (arith, f .clicks-are), f .last-is)
 
@@ -53,7 +56,8 @@ module _ (t p : ℕ) (vs : List ℤ) where
 
 -- the frames from the i-th on: that one, and those after it
 frames-on : (samples : List ℤ) (i : ℕ) → 2 * i + 1 < length samples
-    → drop (2 * i) samples ≡ getD samples (2 * i) (pos 0) ∷ getD samples (2 * i + 1) (pos 0) ∷ drop (2 * (i + 1)) samples
+    → drop (2 * i) samples
+    ≡ getD samples (2 * i) (pos 0) ∷ getD samples (2 * i + 1) (pos 0) ∷ drop (2 * (i + 1)) samples
 frames-on samples i h =
     let left = getD samples (2 * i) (pos 0) in
     let right = getD samples (2 * i + 1) (pos 0) in
@@ -61,7 +65,8 @@ frames-on samples i h =
     let m : suc (2 * i + 1) ≡ 2 * (i + 1) = omega arith in
     drop-cons samples (2 * i) (pos 0) (omega arith)
     ∙ ap (λ (k : ℕ). left ∷ drop k samples) n
-    ∙ ap (λ (l : List ℤ). left ∷ l) (drop-cons samples (2 * i + 1) (pos 0) h ∙ ap (λ (k : ℕ). right ∷ drop k samples) m)
+    ∙ ap (λ (l : List ℤ). left ∷ l)
+    (drop-cons samples (2 * i + 1) (pos 0) h ∙ ap (λ (k : ℕ). right ∷ drop k samples) m)
 
 -- fewer than two samples are no frame
 pub lefts-end : (samples : List ℤ) → length samples < 2 → lefts samples ≡ []
@@ -77,11 +82,13 @@ rights-end (l ∷ []) h = refl
 rights-end (l ∷ r ∷ samples) h = absurd (omega arith)
 
 -- the channels from the i-th frame on
-lefts-on : (samples : List ℤ) (i : ℕ) → 2 * i + 1 < length samples → lefts (drop (2 * i) samples) ≡ getD samples (2 * i) (pos 0) ∷ lefts (drop (2 * (i + 1)) samples)
+lefts-on : (samples : List ℤ) (i : ℕ) → 2 * i + 1 < length samples
+    → lefts (drop (2 * i) samples) ≡ getD samples (2 * i) (pos 0) ∷ lefts (drop (2 * (i + 1)) samples)
 unfolding lefts
 lefts-on samples i h = ap lefts (frames-on samples i h)
 
-rights-on : (samples : List ℤ) (i : ℕ) → 2 * i + 1 < length samples → rights (drop (2 * i) samples) ≡ getD samples (2 * i + 1) (pos 0) ∷ rights (drop (2 * (i + 1)) samples)
+rights-on : (samples : List ℤ) (i : ℕ) → 2 * i + 1 < length samples
+    → rights (drop (2 * i) samples) ≡ getD samples (2 * i + 1) (pos 0) ∷ rights (drop (2 * (i + 1)) samples)
 unfolding rights
 rights-on samples i h = ap rights (frames-on samples i h)
 
@@ -106,7 +113,8 @@ flag-is (suc (suc n)) h = absurd (omega arith)
 
 -- the flags of one number without those of another, in all sixteen cases
 rises-of : (a b c d : Bool)
-    → bitAnd (flag a + 65536 * flag b) (4294967295 - (flag c + 65536 * flag d)) ≡ exceeds (flag a) (flag c) + 65536 * exceeds (flag b) (flag d)
+    → bitAnd (flag a + 65536 * flag b) (4294967295 - (flag c + 65536 * flag d))
+    ≡ exceeds (flag a) (flag c) + 65536 * exceeds (flag b) (flag d)
 unfolding exceeds
 rises-of true true true true = refl
 rises-of true true true false = refl
@@ -135,13 +143,18 @@ both-rises next last f g =
     ∙ flagged (next % 65536) (next / 65536) (last % 65536) (last / 65536)
     (f .left) (f .right) (g .left) (g .right)
   where
-    flagged : (a b c d : ℕ) → a ≤ 1 → b ≤ 1 → c ≤ 1 → d ≤ 1 → bitAnd (a + 65536 * b) (4294967295 - (c + 65536 * d)) ≡ exceeds a c + 65536 * exceeds b d
-    flagged a b c d h k l m = rw (flag-is a h, flag-is b k, flag-is c l, flag-is d m) (rises-of (ltb 0 a) (ltb 0 b) (ltb 0 c) (ltb 0 d))
+    flagged : (a b c d : ℕ) → a ≤ 1 → b ≤ 1 → c ≤ 1 → d ≤ 1
+        → bitAnd (a + 65536 * b) (4294967295 - (c + 65536 * d)) ≡ exceeds a c + 65536 * exceeds b d
+    flagged a b c d h k l m =
+        rw (flag-is a h, flag-is b k, flag-is c l, flag-is d m)
+        (rises-of (ltb 0 a) (ltb 0 b) (ltb 0 c) (ltb 0 d))
 
 -- the numbers that the walk holds before the i-th frame
 pub record Walked (t before : ℕ) (samples : List ℤ) (lp rp clicks last i : ℕ) : Type 0 where
-  pub left : Found t (before % 65536) (lefts samples) (lefts (drop (2 * i) samples)) lp (clicks % 65536) (last % 65536)
-  pub right : Found t (before / 65536) (rights samples) (rights (drop (2 * i) samples)) rp (clicks / 65536) (last / 65536)
+  pub left : Found t (before % 65536) (lefts samples) (lefts (drop (2 * i) samples)) lp (clicks % 65536)
+      (last % 65536)
+  pub right : Found t (before / 65536) (rights samples) (rights (drop (2 * i) samples)) rp (clicks / 65536)
+      (last / 65536)
   pub left-few : clicks % 65536 ≤ i
   pub right-few : clicks / 65536 ≤ i
   pub flags : Flags last
@@ -160,9 +173,12 @@ module _ (t before : ℕ) (samples : List ℤ) where
   }
 
   -- one frame more, its samples at the distances l and r
-  pub walked-more : (lp rp clicks last i l r lp′ rp′ next rise : ℕ) → length samples ≤ 2048 → 2 * i + 1 < length samples → Walked t before samples lp rp clicks last i
-      → l ≡ natAbs (getD samples (2 * i) (pos 0)) → r ≡ natAbs (getD samples (2 * i + 1) (pos 0)) → lp′ ≡ max lp l → rp′ ≡ max rp r
-      → next ≡ exceeds l t + 65536 * exceeds r t → rise ≡ exceeds (next % 65536) (last % 65536) + 65536 * exceeds (next / 65536) (last / 65536)
+  pub walked-more : (lp rp clicks last i l r lp′ rp′ next rise : ℕ) → length samples ≤ 2048
+      → 2 * i + 1 < length samples → Walked t before samples lp rp clicks last i
+      → l ≡ natAbs (getD samples (2 * i) (pos 0)) → r ≡ natAbs (getD samples (2 * i + 1) (pos 0))
+      → lp′ ≡ max lp l → rp′ ≡ max rp r
+      → next ≡ exceeds l t + 65536 * exceeds r t
+      → rise ≡ exceeds (next % 65536) (last % 65536) + 65536 * exceeds (next / 65536) (last / 65536)
       → Walked t before samples lp′ rp′ (clicks + rise) next (i + 1)
   walked-more lp rp clicks last i l r lp′ rp′ next rise m h w d e f g n k =
       let a = exceeds-few l t in
@@ -173,11 +189,15 @@ module _ (t before : ℕ) (samples : List ℤ) where
       let high : next / 65536 ≡ exceeds r t = omega arith in
       let u = w .left-few in
       let v = w .right-few in
-      let left-rise : (clicks + rise) % 65536 ≡ clicks % 65536 + exceeds (next % 65536) (last % 65536) = omega arith in
-      let right-rise : (clicks + rise) / 65536 ≡ clicks / 65536 + exceeds (next / 65536) (last / 65536) = omega arith in
+      let left-rise : (clicks + rise) % 65536 ≡ clicks % 65536 + exceeds (next % 65536) (last % 65536) =
+      omega arith in
+      let right-rise : (clicks + rise) / 65536 ≡ clicks / 65536 + exceeds (next / 65536) (last / 65536) =
+      omega arith in
       record {
-        left = found-more t (before % 65536) (lefts samples) _ _ lp (clicks % 65536) (last % 65536) l lp′ _ _ (rw (lefts-on samples i h) at (w .left)) d f low left-rise;
-        right = found-more t (before / 65536) (rights samples) _ _ rp (clicks / 65536) (last / 65536) r rp′ _ _ (rw (rights-on samples i h) at (w .right)) e g high right-rise;
+        left = found-more t (before % 65536) (lefts samples) _ _ lp (clicks % 65536) (last % 65536) l lp′ _ _
+            (rw (lefts-on samples i h) at (w .left)) d f low left-rise;
+        right = found-more t (before / 65536) (rights samples) _ _ rp (clicks / 65536)
+            (last / 65536) r rp′ _ _ (rw (rights-on samples i h) at (w .right)) e g high right-rise;
         left-few = omega arith;
         right-few = omega arith;
         flags = record { left = omega arith; right = omega arith };
@@ -185,15 +205,36 @@ module _ (t before : ℕ) (samples : List ℤ) where
       }
 
   -- after the last
-  pub walked-all : (lp rp clicks last i : ℕ) → length samples / 2 ≤ i → Walked t before samples lp rp clicks last i
-      → Heard t before samples (record { «left_peak» = lp; «right_peak» = rp; «left_clicks» = clicks % 65536; «right_clicks» = clicks / 65536; «last_loud» = last })
+  pub walked-all : (lp rp clicks last i : ℕ) → length samples / 2 ≤ i
+      → Walked t before samples lp rp clicks last i
+      → Heard t before samples
+      (record {
+        «left_peak» = lp;
+        «right_peak» = rp;
+        «left_clicks» = clicks % 65536;
+        «right_clicks» = clicks / 65536;
+        «last_loud» = last;
+      })
   walked-all lp rp clicks last i h w =
       let short : length (drop (2 * i) samples) < 2 = omega (arith, length-drop (2 * i) samples) in
-      let l = found-all t (before % 65536) (lefts samples) lp (clicks % 65536) (last % 65536) (rw (lefts-end (drop (2 * i) samples) short) at (w .left)) in
-      let r = found-all t (before / 65536) (rights samples) rp (clicks / 65536) (last / 65536) (rw (rights-end (drop (2 * i) samples) short) at (w .right)) in
-      record { left-peak = l .0; right-peak = r .0; left-clicks = l .1; right-clicks = r .1; flags = w .flags; left-loud = l .2; right-loud = r .2 }
+      let l = found-all t (before % 65536) (lefts samples) lp (clicks % 65536) (last % 65536)
+      (rw (lefts-end (drop (2 * i) samples) short) at (w .left)) in
+      let r = found-all t (before / 65536) (rights samples) rp (clicks / 65536) (last / 65536)
+      (rw (rights-end (drop (2 * i) samples) short) at (w .right)) in
+      record {
+        left-peak = l .0;
+        right-peak = r .0;
+        left-clicks = l .1;
+        right-clicks = r .1;
+        flags = w .flags;
+        left-loud = l .2;
+        right-loud = r .2;
+      }
 
 -- a block has at most as many clicks as samples
-pub heard-few : (t before : ℕ) (samples : List ℤ) (b : Block) → Heard t before samples b → (b .«left_clicks» ≤ length samples) × (b .«right_clicks» ≤ length samples)
-heard-few t before samples b h =
-    (omega (arith, h .left-clicks, rises-few t (before % 65536) (lefts samples), lefts-few samples), omega (arith, h .right-clicks, rises-few t (before / 65536) (rights samples), rights-few samples))
+pub heard-few : (t before : ℕ) (samples : List ℤ) (b : Block) → Heard t before samples b
+    → (b .«left_clicks» ≤ length samples) × (b .«right_clicks» ≤ length samples)
+heard-few t before samples b h = (
+  omega (arith, h .left-clicks, rises-few t (before % 65536) (lefts samples), lefts-few samples),
+  omega (arith, h .right-clicks, rises-few t (before / 65536) (rights samples), rights-few samples),
+)

@@ -27,7 +27,8 @@ rise-is-click t d e = go (ltb t d) (ltb t e)
 pub rises-are-clicks : (t d : ℕ) (vs : List ℤ) → rises t (exceeds d t) vs ≡ clicks t d vs
 unfolding rises clicks
 rises-are-clicks t d [] = refl
-rises-are-clicks t d (v ∷ vs) = ap₂ (λ (a b : ℕ). a + b) (rise-is-click t d (natAbs v)) (rises-are-clicks t (natAbs v) vs)
+rises-are-clicks t d (v ∷ vs) =
+    ap₂ (λ (a b : ℕ). a + b) (rise-is-click t d (natAbs v)) (rises-are-clicks t (natAbs v) vs)
 
 -- and the last sample is loud where its distance exceeds the threshold
 pub last-is-loud : (t d : ℕ) (vs : List ℤ) → lastLoud t (exceeds d t) vs ≡ exceeds (lastDistance d vs) t

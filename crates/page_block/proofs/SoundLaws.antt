@@ -51,7 +51,8 @@ rights-few (l ∷ r ∷ samples) = omega (arith, rights-few samples)
 -- ---- clicks
 
 -- the clicks of samples and of others after them
-pub clicks-append : (t d : ℕ) (a b : List ℤ) → clicks t d (a ++ b) ≡ clicks t d a + clicks t (lastDistance d a) b
+pub clicks-append : (t d : ℕ) (a b : List ℤ)
+    → clicks t d (a ++ b) ≡ clicks t d a + clicks t (lastDistance d a) b
 unfolding clicks lastDistance
 clicks-append t d [] b = omega arith
 clicks-append t d (v ∷ a) b = omega (arith, clicks-append t (natAbs v) a b)
@@ -85,18 +86,22 @@ distance-small (pos n) h = omega arith
 distance-small (negsuc n) h = omega arith
 
 -- and so is the peak of the first of some
-pub left-peak-small : (m : ℕ) (samples : List ℤ) → ((i : ℕ) → mag (getD samples i (pos 0)) < 2147483648) → peak (lefts (take m samples)) ≤ 2147483648
+pub left-peak-small : (m : ℕ) (samples : List ℤ) → ((i : ℕ) → mag (getD samples i (pos 0)) < 2147483648)
+    → peak (lefts (take m samples)) ≤ 2147483648
 unfolding lefts peak
 left-peak-small zero samples h = omega arith
 left-peak-small (suc m) [] h = omega arith
 left-peak-small (suc zero) (l ∷ samples) h = omega arith
 left-peak-small (suc (suc m)) (l ∷ []) h = omega arith
-left-peak-small (suc (suc m)) (l ∷ r ∷ samples) h = omega (arith, distance-small l (h 0), left-peak-small m samples (λ i. h (suc (suc i))))
+left-peak-small (suc (suc m)) (l ∷ r ∷ samples) h =
+    omega (arith, distance-small l (h 0), left-peak-small m samples (λ i. h (suc (suc i))))
 
-pub right-peak-small : (m : ℕ) (samples : List ℤ) → ((i : ℕ) → mag (getD samples i (pos 0)) < 2147483648) → peak (rights (take m samples)) ≤ 2147483648
+pub right-peak-small : (m : ℕ) (samples : List ℤ) → ((i : ℕ) → mag (getD samples i (pos 0)) < 2147483648)
+    → peak (rights (take m samples)) ≤ 2147483648
 unfolding rights peak
 right-peak-small zero samples h = omega arith
 right-peak-small (suc m) [] h = omega arith
 right-peak-small (suc zero) (l ∷ samples) h = omega arith
 right-peak-small (suc (suc m)) (l ∷ []) h = omega arith
-right-peak-small (suc (suc m)) (l ∷ r ∷ samples) h = omega (arith, distance-small r (h 1), right-peak-small m samples (λ i. h (suc (suc i))))
+right-peak-small (suc (suc m)) (l ∷ r ∷ samples) h =
+    omega (arith, distance-small r (h 1), right-peak-small m samples (λ i. h (suc (suc i))))

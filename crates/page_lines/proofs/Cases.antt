@@ -29,6 +29,8 @@ two-lines = refl
 -- `     0          4 2147483648       1       1` of two frames, above 3
 page-is :
     page 3 (pos 4 ∷ pos 3 ∷ pos 0 ∷ negsuc 2147483647 ∷ [])
-    ≡ replicate 5 32 ++ (48 ∷ replicate 10 32) ++ (52 ∷ 32 ∷ 50 ∷ 49 ∷ 52 ∷ 55 ∷ 52 ∷ 56 ∷ 51 ∷ 54 ∷ 52 ∷ 56 ∷ replicate 7 32) ++ (49 ∷ replicate 7 32) ++ 49 ∷ 10 ∷ []
+    ≡ replicate 5 32 ++ (48 ∷ replicate 10 32) ++
+    (52 ∷ 32 ∷ 50 ∷ 49 ∷ 52 ∷ 55 ∷ 52 ∷ 56 ∷ 51 ∷ 54 ∷ 52 ∷ 56 ∷ replicate 7 32) ++
+    (49 ∷ replicate 7 32) ++ 49 ∷ 10 ∷ []
 unfolding page lines line row lineCount column decimal digits lefts rights peak clicks click lastDistance
 page-is = refl

@@ -33,9 +33,11 @@ lines-few elements h = omega arith
 -- ---- the samples of a line
 
 -- as code cuts them out
-pub covered-is : (samples : List ℤ) (k end : ℕ) → 2048 * k ≤ length samples → end ≡ min (2048 * k + 2048) (length samples)
+pub covered-is : (samples : List ℤ) (k end : ℕ) → 2048 * k ≤ length samples
+    → end ≡ min (2048 * k + 2048) (length samples)
     → take (end - 2048 * k) (drop (2048 * k) samples) ≡ covered k samples
-covered-is samples k end h e = go (drop (2048 * k) samples) (end - 2048 * k) (omega (arith, length-drop (2048 * k) samples))
+covered-is samples k end h e =
+    go (drop (2048 * k) samples) (end - 2048 * k) (omega (arith, length-drop (2048 * k) samples))
   where
     go : (rest : List ℤ) (n : ℕ) → n ≡ min 2048 (length rest) → take n rest ≡ take 2048 rest
     go rest n e = which (decLt (length rest) 2048)
@@ -45,7 +47,8 @@ covered-is samples k end h e = go (drop (2048 * k) samples) (end - 2048 * k) (om
         which (no l) = let m : n ≡ 2048 = omega arith in ap (λ (k : ℕ). take k rest) m
 
 -- one line more is before the next
-pub earlier-more : (samples : List ℤ) (k : ℕ) → earlier (k + 1) samples ≡ earlier k samples ++ covered k samples
+pub earlier-more : (samples : List ℤ) (k : ℕ)
+    → earlier (k + 1) samples ≡ earlier k samples ++ covered k samples
 earlier-more samples k =
     let e : 2048 * (k + 1) ≡ 2048 * k + 2048 = omega arith in
     ap (λ (n : ℕ). take n samples) e ∙ take-add (2048 * k) 2048 samples
@@ -60,11 +63,18 @@ earlier-even samples k e = omega (arith, length-take (2048 * k) samples)
 abbrev pub Splits : (List ℤ → List ℤ) → Type 0
 Splits channel = (a b : List ℤ) → length a % 2 ≡ 0 → channel (a ++ b) ≡ channel a ++ channel b
 
-module _ (channel : List ℤ → List ℤ) (splits : Splits channel) (samples : List ℤ) (whole : length samples % 2 ≡ 0) where
+module _ (channel : List ℤ → List ℤ) (splits : Splits channel) (samples : List ℤ)
+    (whole : length samples % 2 ≡ 0) where
   -- its samples before the next line
-  pub channel-earlier : (k : ℕ) → channel (earlier (k + 1) samples) ≡ channel (earlier k samples) ++ channel (covered k samples)
-  channel-earlier k = ap channel (earlier-more samples k) ∙ splits (earlier k samples) (covered k samples) (earlier-even samples k whole)
+  pub channel-earlier : (k : ℕ)
+      → channel (earlier (k + 1) samples) ≡ channel (earlier k samples) ++ channel (covered k samples)
+  channel-earlier k = ap channel (earlier-more samples k)
+      ∙ splits (earlier k samples) (covered k samples) (earlier-even samples k whole)
 
   -- the distance that the next line goes on from
-  pub last-earlier : (k : ℕ) → lastDistance (lastDistance 0 (channel (earlier k samples))) (channel (covered k samples)) ≡ lastDistance 0 (channel (earlier (k + 1) samples))
-  last-earlier k = sym (ap (lastDistance 0) (channel-earlier k) ∙ last-append 0 (channel (earlier k samples)) (channel (covered k samples)))
+  pub last-earlier : (k : ℕ)
+      → lastDistance (lastDistance 0 (channel (earlier k samples))) (channel (covered k samples))
+      ≡ lastDistance 0 (channel (earlier (k + 1) samples))
+  last-earlier k =
+      sym (ap (lastDistance 0) (channel-earlier k)
+      ∙ last-append 0 (channel (earlier k samples)) (channel (covered k samples)))

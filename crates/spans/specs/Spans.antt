@@ -13,6 +13,8 @@ unfoldable pub within : ℕ → List ℤ → Bool
 within span [] = true
 within span (v ∷ vs) = ltb (mag v) span && within span vs
 
+-- ---- for the code alone
+
 -- 1 for a number outside the span
 abbrev pub excessOf : ℕ → ℤ → ℕ
 excessOf span v = cond (ltb (mag v) span) 0 1

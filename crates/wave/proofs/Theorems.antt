@@ -17,7 +17,8 @@ use Rattle.wave_data.specs.Data.{Bytes, fileSamples}
 use Rattle.wave_export.specs.Export.{exportRefusal}
 use Rattle.wave_header.specs.Wave.{alike, fileRate, isWave}
 use Rattle.wave_import.specs.Import.{importRefusal}
-use Rattle.wave.specs.SoundFile.{InSpan, ExportThenImport, EveryExport, OnlyExports, NoSecondFile, ExportsInSpan, NoTwoSoundsAlike}
+use Rattle.wave.specs.SoundFile.{InSpan, ExportThenImport, EveryExport, OnlyExports, NoSecondFile}
+use Rattle.wave.specs.SoundFile.{ExportsInSpan, NoTwoSoundsAlike}
 use Rattle.wave_file.proofs.FileLaws.{rate-in, rate-out, header-length, file-length}
 use Rattle.wave_header.proofs.AlikeLaws.{alike-same, alike-is}
 use Rattle.wave_data.proofs.SampleLaws.{file-samples, samples-back, data-back, samples-within}
@@ -50,14 +51,16 @@ module _ (rate : ℕ) (samples : List ℤ) (s : InSpan rate samples) where
   samples-are : fileSamples file ≡ samples
   unfolding waveFile
   samples-are =
-      rw (drop-at head (dataBytes samples) headerBytes (header-length rate (2 * length samples))) (samples-back samples (s .sixteen-bits))
+      rw (drop-at head (dataBytes samples) headerBytes (header-length rate (2 * length samples)))
+      (samples-back samples (s .sixteen-bits))
 
   -- and is a sound file
   is-wave : isWave file ≡ true
   is-wave =
       let n = file-length rate samples in
       let k = s .whole-frames in
-      sym (wave-compared file head rate true (omega arith) (omega arith) (sym rate-is) (rate-in rate (s .rate-above) (s .rate-below)) (rw size-is) (sym (rw head-is (alike-same head))))
+      sym (wave-compared file head rate true (omega arith) (omega arith) (sym rate-is)
+      (rate-in rate (s .rate-above) (s .rate-below)) (rw size-is) (sym (rw head-is (alike-same head))))
 
 -- Q1.6, one way
 pub every-export : EveryExport
@@ -66,7 +69,8 @@ every-export rate samples list s h =
     let f = s .few in
     let i : Importable (waveFile rate samples) (length list) =
     record { few = omega arith; wave = is-wave rate samples s; enough = rw (samples-are rate samples s) h } in
-    import-told (waveFile rate samples) list (sym (import-none (waveFile rate samples) (length list) i)) ∙ rw (rate-is rate samples s, samples-are rate samples s)
+    import-told (waveFile rate samples) list (sym (import-none (waveFile rate samples) (length list) i))
+    ∙ rw (rate-is rate samples s, samples-are rate samples s)
 
 -- what is in span is exported
 pub exports-in-span : ExportsInSpan
@@ -91,7 +95,13 @@ no-two-sounds-alike rate rate′ one other s s′ e = (
 ready-span : {rate : ℕ} {samples : List ℤ} {room : ℕ} → Ready rate samples room → InSpan rate samples
 ready-span {rate} {samples} {room} r =
     let b = rate-out rate (r .rate-taken) in
-    record { rate-above = b .0; rate-below = b .1; few = r .fitting .few; whole-frames = r .fitting .whole-frames; sixteen-bits = r .sixteen-bits }
+    record {
+      rate-above = b .0;
+      rate-below = b .1;
+      few = r .fitting .few;
+      whole-frames = r .fitting .whole-frames;
+      sixteen-bits = r .sixteen-bits;
+    }
 
 -- Q1.5
 pub export-then-import : ExportThenImport
@@ -113,7 +123,8 @@ module _ (file : List ℕ) (list : List ℤ) (b : Bytes file) (i : Importable fi
   data-is : dataBytes (fileSamples file) ≡ drop headerBytes file
   data-is =
       let k = w .whole-frames in
-      data-back (drop headerBytes file) (λ j. rw (getD-drop headerBytes file j 0) (b (headerBytes + j))) (rw (length-drop headerBytes file) (omega arith))
+      data-back (drop headerBytes file) (λ j. rw (getD-drop headerBytes file j 0) (b (headerBytes + j)))
+      (rw (length-drop headerBytes file) (omega arith))
 
   count-is : 2 * length (fileSamples file) ≡ size
   count-is = let k = w .whole-frames in let n = file-samples file in omega arith
@@ -124,7 +135,8 @@ module _ (file : List ℕ) (list : List ℤ) (b : Bytes file) (i : Importable fi
   file-is =
       sym (take-append-drop headerBytes file)
       ∙ ap₂ (λ (x y : List ℕ). x ++ y)
-      (alike-is (take headerBytes file) (waveHeader (fileRate file) size) (w .header) ∙ ap (waveHeader (fileRate file)) (sym count-is))
+      (alike-is (take headerBytes file) (waveHeader (fileRate file) size) (w .header)
+      ∙ ap (waveHeader (fileRate file)) (sym count-is))
       (sym data-is)
 
   -- which are in span
@@ -139,7 +151,8 @@ module _ (file : List ℕ) (list : List ℤ) (b : Bytes file) (i : Importable fi
         rate-below = r .1;
         few = omega arith;
         whole-frames = omega arith;
-        sixteen-bits = samples-within (drop headerBytes file) (λ j. rw (getD-drop headerBytes file j 0) (b (headerBytes + j)));
+        sixteen-bits = samples-within (drop headerBytes file)
+            (λ j. rw (getD-drop headerBytes file j 0) (b (headerBytes + j)));
       }
 
 -- Q1.6, the other way
@@ -156,4 +169,5 @@ only-exports file list b e =
 -- two files that tell the same sound are both its export
 pub no-second-file : NoSecondFile
 no-second-file one other list list′ b b′ e e′ r s =
-    only-exports one list b e .the-export ∙ ap₂ waveFile r s ∙ sym (only-exports other list′ b′ e′ .the-export)
+    only-exports one list b e .the-export ∙ ap₂ waveFile r s
+    ∙ sym (only-exports other list′ b′ e′ .the-export)

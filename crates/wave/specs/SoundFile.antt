@@ -24,7 +24,8 @@ pub record InSpan (rate : ℕ) (samples : List ℤ) : Type 0 where
 -- export writes the file of every rate and samples in span, into any buffer that is long enough
 abbrev pub ExportsInSpan : Type 0
 ExportsInSpan =
-    (rate : ℕ) (samples : List ℤ) (buffer : List ℕ) → InSpan rate samples → length (waveFile rate samples) ≤ length buffer
+    (rate : ℕ) (samples : List ℤ) (buffer : List ℕ) → InSpan rate samples
+    → length (waveFile rate samples) ≤ length buffer
     → exportEntry rate samples buffer ≡ tellExport buffer (waveFile rate samples)
 
 -- the bytes that export wrote
@@ -34,7 +35,8 @@ exported told = take (told .written) (told .bytes)
 -- "Export then import returns the same rate and frames" (Q1.5), into any list that is long enough
 abbrev pub ExportThenImport : Type 0
 ExportThenImport =
-    (rate : ℕ) (samples : List ℤ) (buffer : List ℕ) (list : List ℤ) → exportEntry rate samples buffer .refusal ≡ 0 → length samples ≤ length list
+    (rate : ℕ) (samples : List ℤ) (buffer : List ℕ) (list : List ℤ)
+    → exportEntry rate samples buffer .refusal ≡ 0 → length samples ≤ length list
     → importEntry (exported (exportEntry rate samples buffer)) list ≡ tellImport list rate samples
 
 -- Import accepts the export of every rate and samples in span (Q1.6) ..
@@ -54,16 +56,19 @@ pub record IsExport (file : List ℕ) (told : ImportTold) : Type 0 where
 
 abbrev pub OnlyExports : Type 0
 OnlyExports =
-    (file : List ℕ) (list : List ℤ) → Bytes file → importEntry file list .refusal ≡ 0 → IsExport file (importEntry file list)
+    (file : List ℕ) (list : List ℤ) → Bytes file → importEntry file list .refusal ≡ 0
+    → IsExport file (importEntry file list)
 
 -- so no second file stands for the same sound
 abbrev pub NoSecondFile : Type 0
 NoSecondFile =
     (one other : List ℕ) (list list′ : List ℤ) → Bytes one → Bytes other
     → importEntry one list .refusal ≡ 0 → importEntry other list′ .refusal ≡ 0
-    → importEntry one list .rate ≡ importEntry other list′ .rate → imported (importEntry one list) ≡ imported (importEntry other list′) → one ≡ other
+    → importEntry one list .rate ≡ importEntry other list′ .rate
+    → imported (importEntry one list) ≡ imported (importEntry other list′) → one ≡ other
 
 -- and no two different sounds have the same file
 abbrev pub NoTwoSoundsAlike : Type 0
 NoTwoSoundsAlike =
-    (rate rate′ : ℕ) (one other : List ℤ) → InSpan rate one → InSpan rate′ other → waveFile rate one ≡ waveFile rate′ other → (rate ≡ rate′) × (one ≡ other)
+    (rate rate′ : ℕ) (one other : List ℤ) → InSpan rate one → InSpan rate′ other
+    → waveFile rate one ≡ waveFile rate′ other → (rate ≡ rate′) × (one ≡ other)

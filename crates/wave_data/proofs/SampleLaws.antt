@@ -49,7 +49,8 @@ unfolding samplesOf dataBytes littleEndian
 samples-back [] h = refl
 samples-back (s ∷ samples) h =
     let p = within-parts 32768 s samples h in
-    ap₂ (λ (z : ℤ) (l : List ℤ). z ∷ l) (signed-back s (record { sfits = p .0 })) (samples-back samples (p .1))
+    ap₂ (λ (z : ℤ) (l : List ℤ). z ∷ l) (signed-back s (record { sfits = p .0 }))
+    (samples-back samples (p .1))
 
 -- whole samples of bytes go back to these bytes
 pub data-back : (bytes : List ℕ) → Bytes bytes → length bytes % 2 ≡ 0 → dataBytes (samplesOf bytes) ≡ bytes
@@ -57,7 +58,8 @@ unfolding samplesOf dataBytes
 data-back [] b e = refl
 data-back (lo ∷ []) b e = absurd (omega arith)
 data-back (lo ∷ hi ∷ bytes) b e =
-    ap₂ (λ (x y : List ℕ). x ++ y) (bytes-back lo hi (b 0) (b 1)) (data-back bytes (λ i. b (suc (suc i))) (omega arith))
+    ap₂ (λ (x y : List ℕ). x ++ y) (bytes-back lo hi (b 0) (b 1))
+    (data-back bytes (λ i. b (suc (suc i))) (omega arith))
 
 -- and have 16 bits
 pub samples-within : (bytes : List ℕ) → Bytes bytes → within16 (samplesOf bytes) ≡ true
@@ -67,4 +69,9 @@ samples-within (lo ∷ []) b = refl
 samples-within (lo ∷ hi ∷ bytes) b =
     let l = b 0 in
     let h = b 1 in
-    rw (lt-ltb (mag (signedWord lo hi)) 32768 (toZ-fits w16 (lo + 256 * hi) (record { fits = omega arith }) .sfits), samples-within bytes (λ i. b (suc (suc i))))
+    rw (
+      lt-ltb (mag (signedWord lo hi)) 32768
+          (toZ-fits w16 (lo + 256 * hi) (record { fits = omega arith }) .sfits),
+      samples-within bytes
+          (λ i. b (suc (suc i))),
+    )

@@ -25,30 +25,41 @@ pub record Taken (file : List ℕ) (before samples : List ℤ) (i : ℕ) : Type 
 module _ (file : List ℕ) (before : List ℤ) where
   -- none of them
   pub taken-none : Taken file before before 0
-  taken-none = record { here = omega arith; same-length = refl; copied = paste-zero before 0 (fileSamples file) }
+  taken-none = record {
+    here = omega arith;
+    same-length = refl;
+    copied = paste-zero before 0 (fileSamples file);
+  }
 
   -- the two bytes of one of them
   sample-at : (i : ℕ) → i < length (fileSamples file)
-      → signedWord (getD file (headerBytes + 2 * i) 0) (getD file (headerBytes + 2 * i + 1) 0) ≡ getD (fileSamples file) i (pos 0)
+      → signedWord (getD file (headerBytes + 2 * i) 0) (getD file (headerBytes + 2 * i + 1) 0)
+      ≡ getD (fileSamples file) i (pos 0)
   sample-at i h =
       let n = length-drop headerBytes file in
       let m = file-samples file in
       let e : headerBytes + (2 * i + 1) ≡ headerBytes + 2 * i + 1 = omega arith in
       let next = getD-drop headerBytes file (2 * i + 1) 0 ∙ ap (λ (n : ℕ). getD file n 0) e in
-      sym (samples-at (drop headerBytes file) i (omega arith) ∙ ap₂ signedWord (getD-drop headerBytes file (2 * i) 0) next)
+      sym (samples-at (drop headerBytes file) i (omega arith)
+      ∙ ap₂ signedWord (getD-drop headerBytes file (2 * i) 0) next)
 
   -- one more
-  pub taken-more : (samples : List ℤ) (i : ℕ) (z : ℤ) → length (fileSamples file) ≤ length before → i < length (fileSamples file) → Taken file before samples i
-      → z ≡ signedWord (getD file (headerBytes + 2 * i) 0) (getD file (headerBytes + 2 * i + 1) 0) → Taken file before (set samples i z) (i + 1)
+  pub taken-more : (samples : List ℤ) (i : ℕ) (z : ℤ) → length (fileSamples file) ≤ length before
+      → i < length (fileSamples file) → Taken file before samples i
+      → z ≡ signedWord (getD file (headerBytes + 2 * i) 0) (getD file (headerBytes + 2 * i + 1) 0)
+      → Taken file before (set samples i z) (i + 1)
   taken-more samples i z r h t e =
       record {
         here = omega arith;
         same-length = length-set samples i z ∙ t .same-length;
         copied = rw (e ∙ sample-at i h, t .copied, add-one i)
-            (ap (λ (n : ℕ). set (paste before 0 (fileSamples file) i) n (getD (fileSamples file) i (pos 0))) (sym (zero-add i))
+            (ap (λ (n : ℕ). set (paste before 0 (fileSamples file) i) n (getD (fileSamples file) i (pos 0)))
+            (sym (zero-add i))
             ∙ paste-suc before 0 (fileSamples file) i (pos 0) (omega arith) h);
       }
 
   -- all of them
-  pub taken-all : (samples : List ℤ) (i : ℕ) → length (fileSamples file) ≤ i → Taken file before samples i → samples ≡ overlay before 0 (fileSamples file)
-  taken-all samples i h t = t .copied ∙ overlay-copied before (fileSamples file) 0 i (let k = t .here in omega arith)
+  pub taken-all : (samples : List ℤ) (i : ℕ) → length (fileSamples file) ≤ i → Taken file before samples i
+      → samples ≡ overlay before 0 (fileSamples file)
+  taken-all samples i h t = t .copied
+      ∙ overlay-copied before (fileSamples file) 0 i (let k = t .here in omega arith)

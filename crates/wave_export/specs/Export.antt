@@ -31,7 +31,8 @@ soundRefusal rate samples = cond (rateTaken rate) (cond (within16 samples) 0 13)
 -- "a list of over 262,144 or an odd number of samples (5, 6) and a short lent buffer (11) come
 -- first" (Q1.3); the first refusal that applies, 0 for none
 unfoldable pub exportRefusal : ℕ → List ℤ → ℕ → ℕ
-exportRefusal rate samples room = orElse (framesRefusal (length samples) (fileBytes (length samples)) room) (soundRefusal rate samples)
+exportRefusal rate samples room =
+    orElse (framesRefusal (length samples) (fileBytes (length samples)) room) (soundRefusal rate samples)
 
 -- a refusal writes nothing: 13 is "tested before any byte is written"
 abbrev pub refuseExport : List ℕ → ℕ → ExportTold
@@ -44,4 +45,5 @@ tellExport buffer file = record { refusal = 0; written = length file; bytes = ov
 -- what export answers
 unfoldable pub exportEntry : ℕ → List ℤ → List ℕ → ExportTold
 exportEntry rate samples buffer =
-    unlessRefused (exportRefusal rate samples (length buffer)) (refuseExport buffer) (tellExport buffer (waveFile rate samples))
+    unlessRefused (exportRefusal rate samples (length buffer)) (refuseExport buffer)
+    (tellExport buffer (waveFile rate samples))

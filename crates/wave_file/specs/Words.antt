@@ -1,5 +1,6 @@
 -- What the code's array of the header's fields stands for: numbers of four bytes each.
 -- Assumes nothing.
+-- ---- for the code alone
 use Prim.Native.Nat.{ℕ, _+_, _*_}
 use mathlib.Core.List.{List, [], _∷_, _++_}
 use Rattle.little_endian.specs.LittleEndian.{littleEndian}
@@ -8,7 +9,8 @@ use Rattle.little_endian.specs.LittleEndian.{littleEndian}
 -- and bits a sample, data, its length
 abbrev pub headerWords : ℕ → ℕ → List ℕ
 headerWords rate size =
-    1179011410 ∷ (36 + size) ∷ 1163280727 ∷ 544501094 ∷ 16 ∷ 131073 ∷ rate ∷ (4 * rate) ∷ 1048580 ∷ 1635017060 ∷ size ∷ []
+    1179011410 ∷ (36 + size) ∷ 1163280727 ∷ 544501094 ∷ 16 ∷ 131073 ∷ rate ∷
+    (4 * rate) ∷ 1048580 ∷ 1635017060 ∷ size ∷ []
 
 -- their bytes
 unfoldable pub wordsBytes : List ℕ → List ℕ

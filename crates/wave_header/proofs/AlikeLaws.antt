@@ -25,7 +25,8 @@ unfolding alike
 alike-is [] [] h = refl
 alike-is [] (y ∷ b) h = clash refl (sym h)
 alike-is (x ∷ a) [] h = clash refl (sym h)
-alike-is (x ∷ a) (y ∷ b) h = let p = both (eqb x y) (alike a b) h in ap₂ (λ (z : ℕ) (l : List ℕ). z ∷ l) (eqb-true x y (p .0)) (alike-is a b (p .1))
+alike-is (x ∷ a) (y ∷ b) h = let p = both (eqb x y) (alike a b) h in
+    ap₂ (λ (z : ℕ) (l : List ℕ). z ∷ l) (eqb-true x y (p .0)) (alike-is a b (p .1))
 
 -- the first i bytes are alike
 pub record Compared (a b : List ℕ) (i : ℕ) : Type 0 where
@@ -34,7 +35,8 @@ pub record Compared (a b : List ℕ) (i : ℕ) : Type 0 where
   pub left : alike (drop i a) (drop i b) ≡ alike a b
 
 module _ (a b : List ℕ) (i : ℕ) (h : i < length a) (c : Compared a b i) where
-  parts : alike (drop i a) (drop i b) ≡ (eqb (getD a i 0) (getD b i 0) && alike (drop (suc i) a) (drop (suc i) b))
+  parts : alike (drop i a) (drop i b)
+      ≡ (eqb (getD a i 0) (getD b i 0) && alike (drop (suc i) a) (drop (suc i) b))
   unfolding alike
   parts = rw (drop-cons a i 0 h, drop-cons b i 0 (let s = c .same-length in omega arith))
 
@@ -55,4 +57,5 @@ module _ (a b : List ℕ) (i : ℕ) (h : i < length a) (c : Compared a b i) wher
 pub compared-all : (a b : List ℕ) (i : ℕ) → length a ≤ i → Compared a b i → true ≡ alike a b
 unfolding alike
 compared-all a b i h c =
-    rw (drop-of-length-le a {i = i} h, drop-of-length-le b {i = i} (let s = c .same-length in omega arith)) at (c .left)
+    rw (drop-of-length-le a {i = i} h, drop-of-length-le b {i = i} (let s = c .same-length in omega arith))
+    at (c .left)

@@ -23,16 +23,24 @@ module _ (file : List ℕ) where
   wave-half h n = rw (le-leb headerBytes (length file) h, ne-eqb ((length file - headerBytes) % 4) 0 n)
 
   -- a rate outside its span
-  pub wave-rate : headerBytes ≤ length file → (length file - headerBytes) % 4 ≡ 0 → rateTaken (fileRate file) ≡ false → false ≡ isWave file
+  pub wave-rate : headerBytes ≤ length file → (length file - headerBytes) % 4 ≡ 0
+      → rateTaken (fileRate file) ≡ false → false ≡ isWave file
   unfolding isWave
   wave-rate h e r = rw (le-leb headerBytes (length file) h, eq-eqb ((length file - headerBytes) % 4) 0 e, r)
 
   -- the header decides
-  pub wave-compared : (expected : List ℕ) (rate : ℕ) (r : Bool) → headerBytes ≤ length file → (length file - headerBytes) % 4 ≡ 0 → rate ≡ fileRate file
-      → rateTaken rate ≡ true → expected ≡ waveHeader rate (length file - headerBytes) → r ≡ alike (take headerBytes file) expected → r ≡ isWave file
+  pub wave-compared : (expected : List ℕ) (rate : ℕ) (r : Bool) → headerBytes ≤ length file
+      → (length file - headerBytes) % 4 ≡ 0 → rate ≡ fileRate file
+      → rateTaken rate ≡ true → expected ≡ waveHeader rate (length file - headerBytes)
+      → r ≡ alike (take headerBytes file) expected → r ≡ isWave file
   unfolding isWave
   wave-compared expected rate r h e f t x q =
-      q ∙ rw (x, f) (sym (rw (le-leb headerBytes (length file) h, eq-eqb ((length file - headerBytes) % 4) 0 e, ap rateTaken (sym f) ∙ t)))
+      q ∙ rw (x, f) (sym (rw (
+        le-leb headerBytes (length file) h,
+        eq-eqb ((length file - headerBytes) % 4) 0 e,
+        ap rateTaken
+            (sym f) ∙ t,
+      )))
 
 -- what a sound file is
 pub record Wave (file : List ℕ) : Type 0 where
@@ -46,7 +54,13 @@ pub wave-parts : (file : List ℕ) → isWave file ≡ true → Wave file
 unfolding isWave
 wave-parts file e =
     let size = length file - headerBytes in
-    let a = both (leb headerBytes (length file) && eqb (size % 4) 0 && rateTaken (fileRate file)) (alike (take headerBytes file) (waveHeader (fileRate file) size)) e in
+    let a = both (leb headerBytes (length file) && eqb (size % 4) 0 && rateTaken (fileRate file))
+    (alike (take headerBytes file) (waveHeader (fileRate file) size)) e in
     let b = both (leb headerBytes (length file) && eqb (size % 4) 0) (rateTaken (fileRate file)) (a .0) in
     let c = both (leb headerBytes (length file)) (eqb (size % 4) 0) (b .0) in
-    record { long = leb-true _ _ (c .0); whole-frames = eqb-true _ _ (c .1); rate-taken = b .1; header = a .1 }
+    record {
+      long = leb-true _ _ (c .0);
+      whole-frames = eqb-true _ _ (c .1);
+      rate-taken = b .1;
+      header = a .1;
+    }

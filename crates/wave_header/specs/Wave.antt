@@ -5,7 +5,7 @@ use mathlib.Core.Bool.{Bool, true, false, _&&_}
 use mathlib.Core.List.{List, [], _∷_}
 use lib.Dec.{leb, eqb}
 use lib.ListN.{length, take, drop}
-use Rattle.little_endian.specs.LittleEndian.{numberOf}
+use Rattle.little_endian.specs.LittleEndian.{fromLittleEndian}
 use Rattle.wave_file.specs.File.{headerBytes, rateTaken, waveHeader}
 
 -- two lists hold the same bytes
@@ -17,7 +17,7 @@ alike (a ∷ xs) [] = false
 
 -- the rate that a file's header holds: the four bytes from byte 24 on
 abbrev pub fileRate : List ℕ → ℕ
-fileRate file = numberOf (take 4 (drop 24 file))
+fileRate file = fromLittleEndian (take 4 (drop 24 file))
 
 -- "Import takes exactly this header with matching lengths": that of the file's rate and of the
 -- bytes after it, the rate in its span, and whole frames of 4 bytes (Q1.4)

@@ -40,58 +40,76 @@ module _ (file : List ℕ) (room : ℕ) where
   import-other f w = rw (le-ltb maxFileBytes (length file) f, w)
 
   -- 11: a short list
-  pub import-room : length file ≤ maxFileBytes → isWave file ≡ true → room < length (fileSamples file) → 11 ≡ importRefusal file room
+  pub import-room : length file ≤ maxFileBytes → isWave file ≡ true → room < length (fileSamples file)
+      → 11 ≡ importRefusal file room
   unfolding importRefusal
   import-room f w h = rw (le-ltb maxFileBytes (length file) f, w, lt-ltb room (length (fileSamples file)) h)
 
   -- none of them
   pub import-none : Importable file room → 0 ≡ importRefusal file room
   unfolding importRefusal
-  import-none i = rw (le-ltb maxFileBytes (length file) (i .few), i .wave, le-ltb room (length (fileSamples file)) (i .enough))
+  import-none i = rw (
+    le-ltb maxFileBytes (length file) (i .few),
+    i .wave,
+    le-ltb room (length (fileSamples file)) (i .enough),
+  )
 
   -- and then all of it holds
   pub importable : importRefusal file room ≡ 0 → Importable file room
   unfolding importRefusal
   importable e = long (ltb maxFileBytes (length file)) refl e
     where
-      short : length file ≤ maxFileBytes → isWave file ≡ true → (t : Bool) → ltb room (length (fileSamples file)) ≡ t → _≡_ {A = ℕ} (cond t 11 0) 0 → Importable file room
+      short : length file ≤ maxFileBytes → isWave file ≡ true → (t : Bool)
+          → ltb room (length (fileSamples file)) ≡ t → _≡_ {A = ℕ} (cond t 11 0) 0 → Importable file room
       short f w true q e = absurd (omega arith)
       short f w false q e = record { few = f; wave = w; enough = ltb-false _ _ q }
 
-      other : length file ≤ maxFileBytes → (t : Bool) → isWave file ≡ t → _≡_ {A = ℕ} (cond t (cond (ltb room (length (fileSamples file))) 11 0) 14) 0 → Importable file room
+      other : length file ≤ maxFileBytes → (t : Bool) → isWave file ≡ t
+          → _≡_ {A = ℕ} (cond t (cond (ltb room (length (fileSamples file))) 11 0) 14) 0
+          → Importable file room
       other f true q e = short f q (ltb room (length (fileSamples file))) refl e
       other f false q e = absurd (omega arith)
 
-      long : (t : Bool) → ltb maxFileBytes (length file) ≡ t → _≡_ {A = ℕ} (cond t 5 (cond (isWave file) (cond (ltb room (length (fileSamples file))) 11 0) 14)) 0
+      long : (t : Bool) → ltb maxFileBytes (length file) ≡ t
+          → _≡_ {A = ℕ}
+          (cond t 5 (cond (isWave file) (cond (ltb room (length (fileSamples file))) 11 0) 14)) 0
           → Importable file room
       long true q e = absurd (omega arith)
       long false q e = other (ltb-false _ _ q) (isWave file) refl e
 
 module _ (file : List ℕ) (list : List ℤ) where
   -- a refusal leaves the list
-  pub import-refused : (o : Outcome) (x : Refusal) → o ≡ Outcome.Refused x → outcomeNumber o ≡ importRefusal file (length list)
+  pub import-refused : (o : Outcome) (x : Refusal) → o ≡ Outcome.Refused x
+      → outcomeNumber o ≡ importRefusal file (length list)
       → record { refusal = outcomeNumber o; rate = 0; written = 0; samples = list } ≡ importEntry file list
   unfolding importEntry
   import-refused o x q e =
       ap (refuseImport list) e
-      ∙ sym (guard-refused (importRefusal file (length list)) (refuseImport list) (tellImport list (fileRate file) (fileSamples file)) (rw (sym e ∙ ap outcomeNumber q) (number-positive x)))
+      ∙ sym (guard-refused (importRefusal file (length list)) (refuseImport list)
+      (tellImport list (fileRate file) (fileSamples file))
+      (rw (sym e ∙ ap outcomeNumber q) (number-positive x)))
 
   -- the number that is told is that of the first refusal that applies
   pub import-number : importEntry file list .refusal ≡ importRefusal file (length list)
   unfolding importEntry
   import-number = go (importRefusal file (length list))
     where
-      go : (n : ℕ) → unlessRefused n (refuseImport list) (tellImport list (fileRate file) (fileSamples file)) .refusal ≡ n
+      go : (n : ℕ) → unlessRefused n (refuseImport list)
+          (tellImport list (fileRate file) (fileSamples file)) .refusal ≡ n
       go zero = refl
       go (suc n) = refl
 
   -- what is told where nothing is refused
-  pub import-told : importRefusal file (length list) ≡ 0 → importEntry file list ≡ tellImport list (fileRate file) (fileSamples file)
+  pub import-told : importRefusal file (length list) ≡ 0
+      → importEntry file list ≡ tellImport list (fileRate file) (fileSamples file)
   unfolding importEntry
-  import-told e = guard-accepted (importRefusal file (length list)) (refuseImport list) (tellImport list (fileRate file) (fileSamples file)) e
+  import-told e = guard-accepted (importRefusal file (length list)) (refuseImport list)
+      (tellImport list (fileRate file) (fileSamples file)) e
 
   -- the rate and the samples
-  pub import-accepted : (after : List ℤ) (rate w : ℕ) → Importable file (length list) → rate ≡ fileRate file → w ≡ (length file - headerBytes) / 2
-      → after ≡ overlay list 0 (fileSamples file) → record { refusal = 0; rate = rate; written = w; samples = after } ≡ importEntry file list
+  pub import-accepted : (after : List ℤ) (rate w : ℕ) → Importable file (length list) → rate ≡ fileRate file
+      → w ≡ (length file - headerBytes) / 2
+      → after ≡ overlay list 0 (fileSamples file)
+      → record { refusal = 0; rate = rate; written = w; samples = after } ≡ importEntry file list
   import-accepted after rate w i r l a =
       rw (a, r, l, ← file-samples file) (sym (import-told (sym (import-none file (length list) i))))

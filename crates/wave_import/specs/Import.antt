@@ -23,13 +23,15 @@ pub record ImportTold : Type 0 where
 
 -- the answer that the entry's struct holds, with the lent list as it is left
 abbrev pub viewImport : Imported → List ℤ → ImportTold
-viewImport r samples = record { refusal = outcomeNumber (r .outcome); rate = r .rate; written = r .written; samples = samples }
+viewImport r samples =
+    record { refusal = outcomeNumber (r .outcome); rate = r .rate; written = r .written; samples = samples }
 
 -- "a file of over 524,332 bytes is 5, first"; 14 for what is no such file; "a lent list shorter
 -- than the file's samples is 11, after 14" (Q1.4)
 unfoldable pub importRefusal : List ℕ → ℕ → ℕ
 importRefusal file room =
-    cond (ltb maxFileBytes (length file)) 5 (cond (isWave file) (cond (ltb room (length (fileSamples file))) 11 0) 14)
+    cond (ltb maxFileBytes (length file)) 5
+    (cond (isWave file) (cond (ltb room (length (fileSamples file))) 11 0) 14)
 
 -- a refusal writes nothing
 abbrev pub refuseImport : List ℤ → ℕ → ImportTold
@@ -38,9 +40,11 @@ refuseImport list number = record { refusal = number; rate = 0; written = 0; sam
 -- the file's samples from the first place on; "lent storage behind what is written keeps its
 -- values"
 abbrev pub tellImport : List ℤ → ℕ → List ℤ → ImportTold
-tellImport list rate samples = record { refusal = 0; rate = rate; written = length samples; samples = overlay list 0 samples }
+tellImport list rate samples =
+    record { refusal = 0; rate = rate; written = length samples; samples = overlay list 0 samples }
 
 -- what import answers
 unfoldable pub importEntry : List ℕ → List ℤ → ImportTold
 importEntry file list =
-    unlessRefused (importRefusal file (length list)) (refuseImport list) (tellImport list (fileRate file) (fileSamples file))
+    unlessRefused (importRefusal file (length list)) (refuseImport list)
+    (tellImport list (fileRate file) (fileSamples file))

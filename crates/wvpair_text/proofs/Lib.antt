@@ -1,8 +1,6 @@
 -- What other crates and the proofs of this one cite.
 pub mod Cases
-pub mod LineLaws
 pub mod ReadingLaws
 pub mod ShortLaws
-pub mod SignLaws
 pub mod StarredLaws
 pub mod TextLaws

@@ -10,12 +10,14 @@ use Rattle.answers.specs.Numbers.{outcomeNumber}
 use Rattle.samples.proofs.ToldBounds.{SmallTold, read-small}
 use Rattle.samples.specs.View.{ReadTold, viewReading}
 use Rattle.samples.specs.declared.ReadAnswer.{ReadAnswer}
-use Rattle.wvpair_text.specs.Lines.{report}
+use Rattle.wvpair_lines.specs.Lines.{report}
 use Rattle.wvpair_text.specs.Text.{frameCount, payloadOf, printed, readingOf}
 
 -- the numbers that are told of an input are small
-pub reading-small : (input : List ℕ) → SmallTold (length (payloadOf input)) (frameCount input) (readingOf input)
-reading-small input = read-small (take 12 input) (payloadOf input) (frameCount input) (replicate (2 * frameCount input) (pos 0))
+pub reading-small : (input : List ℕ)
+    → SmallTold (length (payloadOf input)) (frameCount input) (readingOf input)
+reading-small input =
+    read-small (take 12 input) (payloadOf input) (frameCount input) (replicate (2 * frameCount input) (pos 0))
 
 -- the samples that an answer tells of, and its numbers, are those of the reading
 pub printed-told : (told : ReadTold) (r : ReadAnswer) (list rest : List ℤ) (number : ℕ)

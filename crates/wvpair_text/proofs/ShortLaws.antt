@@ -10,18 +10,19 @@ use lib.Dec.{ltb}
 use lib.IntN.{ℤ, pos}
 use lib.ListN.{length, take, getD, length-append, length-take, length-drop}
 use lib.Signed.{mag}
-use Rattle.wvpair_text.specs.Signed.{signedDecimal}
+use Rattle.wvpair_lines.specs.Signed.{signedDecimal}
 use Rattle.wvpair_text.specs.Limits.{headBytes, mostFrames, largestInput, largestText}
-use Rattle.wvpair_text.specs.Lines.{frameLine, frameLines, endLine, report}
+use Rattle.wvpair_lines.specs.Lines.{frameLine, frameLines, endLine, report}
 use Rattle.wvpair_text.specs.Text.{frameCount, readingOf, printed, wvpairText, TextIs}
 use Rattle.wvpair_text.specs.declared.TextAnswer.{TextAnswer}
-use Rattle.wvpair_text.proofs.SignLaws.{signed-short}
-use Rattle.wvpair_text.proofs.LineLaws.{end-short}
+use Rattle.wvpair_lines.proofs.SignLaws.{signed-short}
+use Rattle.wvpair_lines.proofs.LineLaws.{end-short}
 use Rattle.wvpair_text.proofs.ReadingLaws.{reading-small}
 use Rattle.wvpair_text.proofs.TextLaws.{text-under, text-frames, text-payload, text-reading}
 
 -- the line of two 32-bit numbers is at most 24 bytes
-line-short : (left right : ℤ) → mag left < 2147483648 → mag right < 2147483648 → length (frameLine left right) ≤ 24
+line-short : (left right : ℤ) → mag left < 2147483648 → mag right < 2147483648
+    → length (frameLine left right) ≤ 24
 unfolding frameLine
 line-short left right h k =
     omega (
@@ -33,7 +34,8 @@ line-short left right h k =
     )
 
 -- the lines of 32-bit numbers are at most 12 bytes a number
-lines-short : (samples : List ℤ) → ((i : ℕ) → mag (getD samples i (pos 0)) < 2147483648) → length (frameLines samples) ≤ 12 * length samples
+lines-short : (samples : List ℤ) → ((i : ℕ) → mag (getD samples i (pos 0)) < 2147483648)
+    → length (frameLines samples) ≤ 12 * length samples
 unfolding frameLines
 lines-short [] h = omega arith
 lines-short (left ∷ []) h = omega arith
@@ -46,7 +48,8 @@ lines-short (left ∷ right ∷ rest) h =
     )
 
 -- what is printed of a reading within the limits
-printed-short : (input : List ℕ) → frameCount input ≤ mostFrames → length input ≤ largestInput → length (printed (readingOf input)) ≤ largestText
+printed-short : (input : List ℕ) → frameCount input ≤ mostFrames → length input ≤ largestInput
+    → length (printed (readingOf input)) ≤ largestText
 unfolding report
 printed-short input h k =
     let told = readingOf input in
@@ -57,21 +60,32 @@ printed-short input h k =
       length-append (frameLines samples) (endLine (told .refusal) (told .bits)),
       lines-short samples (s .samples),
       length-take (told .written) (told .list),
-      end-short (told .refusal) (told .bits) (omega (arith, s .refusal)) (s .refused-before) (omega (arith, s .bits, length-drop headBytes input)),
+      end-short (told .refusal) (told .bits) (omega (arith, s .refusal)) (s .refused-before)
+          (omega (arith, s .bits, length-drop headBytes input)),
     )
 
 -- and of any input
 pub text-short : (input : List ℕ) → length (wvpairText input) ≤ largestText
-text-short input = go (decLt (length input) headBytes) (decLt mostFrames (frameCount input)) (decLt largestInput (length input))
+text-short input = go (decLt (length input) headBytes) (decLt mostFrames (frameCount input))
+    (decLt largestInput (length input))
   where
-    go : Dec (length input < headBytes) → Dec (mostFrames < frameCount input) → Dec (largestInput < length input) → length (wvpairText input) ≤ largestText
-    go (yes a) b c = rw (text-under input a) (omega (arith, end-short 1 0 (omega arith) (λ h. refl) (omega arith)))
-    go (no a) (yes b) c = rw (text-frames input (omega arith) b) (omega (arith, end-short 5 0 (omega arith) (λ h. refl) (omega arith)))
-    go (no a) (no b) (yes c) = rw (text-payload input (omega arith) c) (omega (arith, end-short 5 0 (omega arith) (λ h. refl) (omega arith)))
-    go (no a) (no b) (no c) = rw (text-reading input (omega arith) (omega arith) (omega arith)) (printed-short input (omega arith) (omega arith))
+    go : Dec (length input < headBytes) → Dec (mostFrames < frameCount input)
+        → Dec (largestInput < length input) → length (wvpairText input) ≤ largestText
+    go (yes a) b c = rw (text-under input a)
+        (omega (arith, end-short 1 0 (omega arith) (λ h. refl) (omega arith)))
+    go (no a) (yes b) c =
+        rw (text-frames input (omega arith) b)
+        (omega (arith, end-short 5 0 (omega arith) (λ h. refl) (omega arith)))
+    go (no a) (no b) (yes c) =
+        rw (text-payload input (omega arith) c)
+        (omega (arith, end-short 5 0 (omega arith) (λ h. refl) (omega arith)))
+    go (no a) (no b) (no c) =
+        rw (text-reading input (omega arith) (omega arith) (omega arith))
+        (printed-short input (omega arith) (omega arith))
 
 -- so no call answers more bytes, and a buffer of that size holds what it prints
-pub answer-short : (input before after : List ℕ) (r : TextAnswer) → TextIs input before after r → r .length ≤ largestText
+pub answer-short : (input before after : List ℕ) (r : TextAnswer) → TextIs input before after r
+    → r .length ≤ largestText
 answer-short input before after r t = rw (t .size) (go (ltb (length before) largestText))
   where
     go : (b : Bool) → cond b 0 (length (wvpairText input)) ≤ largestText

@@ -19,8 +19,8 @@ use Rattle.word_state.specs.State.{paid, inRun, unbroken, cleared, flagged, aft
 use Rattle.samples.specs.View.{readRefusal, readEntry}
 use Rattle.words.specs.Word.{value, plain, fresh, word}
 use Rattle.decimal.specs.Decimal.{digits, decimal}
-use Rattle.wvpair_text.specs.Signed.{signedDecimal}
-use Rattle.wvpair_text.specs.Lines.{frameLine, frameLines, endLine, report}
+use Rattle.wvpair_lines.specs.Signed.{signedDecimal}
+use Rattle.wvpair_lines.specs.Lines.{frameLine, frameLines, endLine, report}
 use Rattle.wvpair_text.specs.Starred.{firstInput, firstText, secondInput, secondText}
 use Rattle.wvpair_text.specs.Text.{frameCount, overLimits, wvpairText}
 

@@ -9,7 +9,7 @@ use borrow.Author.Tests.{lt-ltb, le-ltb}
 use lib.Dec.{ltb}
 use lib.ListN.{length, length-drop}
 use Rattle.wvpair_text.specs.Limits.{headBytes, mostFrames, mostPayloadBytes, largestInput}
-use Rattle.wvpair_text.specs.Lines.{endLine}
+use Rattle.wvpair_lines.specs.Lines.{endLine}
 use Rattle.wvpair_text.specs.Text.{frameCount, payloadOf, overLimits, printed, readingOf, wvpairText}
 
 -- under 14 bytes
@@ -32,21 +32,30 @@ over-payload input h = go (ltb mostFrames (frameCount input))
     go false = lt-ltb mostPayloadBytes (length (payloadOf input)) h
 
 -- over the limits
-text-over : (input : List ℕ) → headBytes ≤ length input → overLimits input ≡ true → wvpairText input ≡ endLine 5 0
+text-over : (input : List ℕ) → headBytes ≤ length input → overLimits input ≡ true
+    → wvpairText input ≡ endLine 5 0
 unfolding wvpairText
 text-over input h e = rw (le-ltb (length input) headBytes h, e)
 
 -- more than 1,024 frames
-pub text-frames : (input : List ℕ) → headBytes ≤ length input → mostFrames < frameCount input → wvpairText input ≡ endLine 5 0
+pub text-frames : (input : List ℕ) → headBytes ≤ length input → mostFrames < frameCount input
+    → wvpairText input ≡ endLine 5 0
 text-frames input h l = text-over input h (over-frames input l)
 
 -- more than 28,672 payload bytes
-pub text-payload : (input : List ℕ) → headBytes ≤ length input → largestInput < length input → wvpairText input ≡ endLine 5 0
+pub text-payload : (input : List ℕ) → headBytes ≤ length input → largestInput < length input
+    → wvpairText input ≡ endLine 5 0
 text-payload input h l = text-over input h (over-payload input (omega (arith, length-drop headBytes input)))
 
 -- within the limits
-pub text-reading : (input : List ℕ) → headBytes ≤ length input → frameCount input ≤ mostFrames → length input ≤ largestInput → wvpairText input ≡ printed (readingOf input)
+pub text-reading : (input : List ℕ) → headBytes ≤ length input → frameCount input ≤ mostFrames
+    → length input ≤ largestInput → wvpairText input ≡ printed (readingOf input)
 unfolding wvpairText overLimits
 text-reading input h l m =
     let k : length (payloadOf input) ≤ mostPayloadBytes = omega (arith, length-drop headBytes input) in
-    rw (le-ltb (length input) headBytes h, le-ltb mostFrames (frameCount input) l, le-ltb mostPayloadBytes (length (payloadOf input)) k)
+    rw (
+      le-ltb (length input) headBytes h,
+      le-ltb mostFrames (frameCount input) l,
+      le-ltb mostPayloadBytes
+          (length (payloadOf input)) k,
+    )

@@ -11,7 +11,7 @@ use lib.ListN.{length, take, drop, getD, replicate}
 use Rattle.answers.specs.Numbers.{outcomeNumber}
 use Rattle.overlay.specs.Overlay.{overlay}
 use Rattle.samples.specs.View.{ReadTold, readEntry}
-use Rattle.wvpair_text.specs.Lines.{endLine, report}
+use Rattle.wvpair_lines.specs.Lines.{endLine, report}
 use Rattle.wvpair_text.specs.Limits.{headBytes, mostFrames, mostPayloadBytes, largestText}
 use Rattle.wvpair_text.specs.declared.TextAnswer.{TextAnswer}
 
@@ -29,7 +29,8 @@ overLimits input = ltb mostFrames (frameCount input) || ltb mostPayloadBytes (le
 
 -- the reading of an input: a list of zeros, two for each frame, is lent
 abbrev pub readingOf : List ℕ → ReadTold
-readingOf input = readEntry (take 12 input) (payloadOf input) (frameCount input) (replicate (2 * frameCount input) (pos 0))
+readingOf input = readEntry (take 12 input) (payloadOf input) (frameCount input)
+    (replicate (2 * frameCount input) (pos 0))
 
 -- the samples written are a line for each whole frame, then comes the `end` line
 abbrev pub printed : ReadTold → List ℕ
@@ -37,7 +38,8 @@ printed told = report (take (told .written) (told .list)) (told .refusal) (told 
 
 -- document 01 (C7): "Under 14 bytes it prints `end 1 bits 0`, over its limits `end 5 bits 0`"
 unfoldable pub wvpairText : List ℕ → List ℕ
-wvpairText input = cond (ltb (length input) headBytes) (endLine 1 0) (cond (overLimits input) (endLine 5 0) (printed (readingOf input)))
+wvpairText input = cond (ltb (length input) headBytes) (endLine 1 0)
+    (cond (overLimits input) (endLine 5 0) (printed (readingOf input)))
 
 -- a buffer shorter than that is refused with 11 and keeps its bytes; any other holds the text
 -- first, and after it what it held

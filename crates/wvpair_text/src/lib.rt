@@ -1,6 +1,6 @@
 // Implements document 01, "Proved cases" (C6, C7): what `wvpair` prints, as a function from its
-// input bytes to its output bytes. `signed` lays samples into a buffer, `lines` the lines of a
-// reading; here an input is taken apart, read and printed.
+// input bytes to its output bytes. `wvpair_lines` lays the lines of a reading; here an input is taken
+// apart, read and printed.
 ghost use mathlib.Core.Path.{_≡_};
 ghost use Prim.Native.Nat.{_≤_};
 ghost use lib.IntN.{pos};
@@ -11,17 +11,15 @@ ghost use Rattle.wvpair_text.specs.Text.{frameCount, printed, readingOf,
 use crate::limits::HEAD_BYTES;
 use crate::limits::MOST_FRAMES;
 use crate::limits::MOST_SAMPLES;
-use crate::lines::put_end;
-use crate::lines::put_report;
 use answers::Outcome;
 use answers::Refusal;
 use answers::outcome_number;
 use samples::reading::decode_packed_samples_stereo_from_entropy;
 use wrapping::casts::u8_to_usize;
+use wvpair_lines::put_end;
+use wvpair_lines::put_report;
 
 mod limits;
-mod lines;
-mod signed;
 
 pub use crate::limits::LARGEST_INPUT;
 pub use crate::limits::LARGEST_TEXT;

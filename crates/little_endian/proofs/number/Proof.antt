@@ -1,12 +1,12 @@
 -- `little_endian::number` meets its contract.
 -- Assumes nothing.
 use borrow.Author.Needs.{needs}
-use Rattle.little_endian.specs.LittleEndian.{numberOf}
+use Rattle.little_endian.specs.LittleEndian.{fromLittleEndian}
 use Rattle.little_endian.proofs.number.Statement.{statement}
 use Rattle.little_endian.proofs.number.Tie as tie
 
 returns : tie.Need-returns
-unfolding numberOf
+unfolding fromLittleEndian
 returns c = search needs
 
 pub number-spec : {M : Type 1} → statement M

@@ -22,7 +22,8 @@ abbrev start : tie.After-enum-told → tie.Start
 start t = t .before .before .before .before
 
 -- nothing was refused
-accepted : (t : tie.After-enum-told) → let a = start t .args in pageRefusal (length (now (a .samples))) (length (now (a .page))) ≡ 0
+accepted : (t : tie.After-enum-told) → let a = start t .args in
+    pageRefusal (length (now (a .samples))) (length (now (a .page))) ≡ 0
 accepted t = sym (t .before .before .page-refusal .ensures) ∙ ap outcomeNumber (t .enum-told .given .1)
 
 put-lines-requires : tie.Need-put-lines-requires

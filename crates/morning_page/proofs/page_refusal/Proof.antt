@@ -28,8 +28,10 @@ returns-3 c =
     let few : tie.Else1 = search needs in
     let whole : tie.Else2 = search needs in
     let counted : tie.After-line-count = search needs in
-    let short : start .args .room < lineBytes * lineCount (start .args .elements) = rw (← counted .line-count .ensures) (c .if3 .taken) in
-    sym (frames-room (start .args .elements) (lineBytes * lineCount (start .args .elements)) (start .args .room) (few .if1 .left) (whole .if2 .left) short)
+    let short : start .args .room < lineBytes * lineCount (start .args .elements) =
+    rw (← counted .line-count .ensures) (c .if3 .taken) in
+    sym (frames-room (start .args .elements) (lineBytes * lineCount (start .args .elements))
+    (start .args .room) (few .if1 .left) (whole .if2 .left) short)
 
 returns-4 : tie.Need-returns-4
 returns-4 c =
@@ -37,8 +39,11 @@ returns-4 c =
     let few : tie.Else1 = search needs in
     let whole : tie.Else2 = search needs in
     let counted : tie.After-line-count = search needs in
-    let enough : lineBytes * lineCount (start .args .elements) ≤ start .args .room = rw (← counted .line-count .ensures) (c .if3 .left) in
-    sym (frames-none (start .args .elements) (lineBytes * lineCount (start .args .elements)) (start .args .room) (record { few = few .if1 .left; whole-frames = whole .if2 .left; enough = enough }))
+    let enough : lineBytes * lineCount (start .args .elements) ≤ start .args .room =
+    rw (← counted .line-count .ensures) (c .if3 .left) in
+    sym (frames-none (start .args .elements) (lineBytes * lineCount (start .args .elements))
+    (start .args .room) (record
+    { few = few .if1 .left; whole-frames = whole .if2 .left; enough = enough }))
 
 pub page-refusal-spec : {M : Type 1} → statement M
 page-refusal-spec = tie.close (tie.spec returns returns-2 (λ c κs. search needs) mul-if3 returns-3 returns-4)

@@ -4,7 +4,7 @@ use mathlib.Core.Path.{sym, ap, _∙_}
 use native.Mathlib.Omega.{arith}
 use borrow.Author.Needs.{needs}
 use denote.Ref.{now}
-use Rattle.little_endian.specs.LittleEndian.{numberOf}
+use Rattle.little_endian.specs.LittleEndian.{fromLittleEndian}
 use Rattle.little_endian.proofs.StoreLaws.{four-taken}
 use Rattle.morning_text.proofs.frame_count.Statement.{statement}
 use Rattle.morning_text.proofs.frame_count.Tie as tie
@@ -14,7 +14,7 @@ returns c =
     let start : tie.Start = search needs in
     let read : tie.After-number = search needs in
     let h = start .pre in
-    read .number .ensures ∙ ap numberOf (sym (four-taken (now (start .args .input)) 12 (omega arith)))
+    read .number .ensures ∙ ap fromLittleEndian (sym (four-taken (now (start .args .input)) 12 (omega arith)))
 
 pub frame-count-spec : {M : Type 1} → statement M
 frame-count-spec =

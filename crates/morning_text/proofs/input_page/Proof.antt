@@ -15,4 +15,6 @@ returns-2 c =
     input-frames _ _ _ (long .if1 .left) (rw (← counted .frame-count .ensures) (c .if2 .taken))
 
 pub input-page-spec : {M : Type 1} → statement M
-input-page-spec = tie.close (tie.spec returns (λ c κs. search needs) returns-2 (λ c κs. search needs) (λ c. search needs) (λ c. search needs))
+input-page-spec = tie.close
+    (tie.spec returns (λ c κs. search needs) returns-2 (λ c κs. search needs) (λ c. search needs)
+    (λ c. search needs))

@@ -21,4 +21,5 @@ add-result c =
     omega arith
 
 pub flags-spec : {M : Type 1} → statement M
-flags-spec = tie.close (tie.spec (λ c κs. search needs) (λ c κs. search needs) mul-result add-result (λ c. search needs))
+flags-spec = tie.close
+    (tie.spec (λ c κs. search needs) (λ c κs. search needs) mul-result add-result (λ c. search needs))

@@ -11,7 +11,8 @@ use lib.ListN.{length, getD}
 use mir.Facts.{toZ-ofZ}
 use mir.Syntax.{w32}
 use mir.Val.{SFits}
-use Rattle.page_block.proofs.HearLaws.{rises-small, flags-are, Walked, walked-none, walked-more, walked-all}
+use Rattle.page_block.proofs.HearLaws.{rises-small, flags-are, Walked, walked-none, walked-more}
+use Rattle.page_block.proofs.HearLaws.{walked-all}
 use Rattle.page_block.proofs.RiseLaws.{exceeds-few}
 use Rattle.page_block.proofs.hear.Statement.{statement}
 use Rattle.page_block.proofs.hear.Tie as tie

@@ -14,7 +14,8 @@ use Rattle.page_lines.proofs.put_line.Statement.{statement}
 use Rattle.page_lines.proofs.put_line.Tie as tie
 
 -- the numbers fit their columns
-wide : (s : tie.Start) → let b = s .args .block in Wide (s .args .k) (b .«left_peak») (b .«right_peak») (b .«left_clicks») (b .«right_clicks»)
+wide : (s : tie.Start) → let b = s .args .block in
+    Wide (s .args .k) (b .«left_peak») (b .«right_peak») (b .«left_clicks») (b .«right_clicks»)
 wide s =
     let b = s .args .block in
     let l : Fits w32 (b .«left_peak») = search needs in

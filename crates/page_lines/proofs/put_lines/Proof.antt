@@ -17,7 +17,8 @@ use Rattle.page_lines.proofs.put_lines.Statement.{statement}
 use Rattle.page_lines.proofs.put_lines.Tie as tie
 
 abbrev Inv-loop : tie.InvT-loop
-Inv-loop samples threshold page₀ lines place₀ last₀ k₀ page place last k = Laid threshold samples page₀ page place last k
+Inv-loop samples threshold page₀ lines place₀ last₀ k₀ page place last k =
+    Laid threshold samples page₀ page place last k
 
 abbrev μ-loop : tie.MeasureT-loop
 μ-loop samples threshold page₀ lines place₀ last₀ k₀ page place last k = lines - k
@@ -37,8 +38,14 @@ turn : (c : tie.In-loop Inv-loop μ-loop) → Turn (now (start c .args .samples)
 turn c =
     let counted : tie.After-line-count Inv-loop μ-loop = search needs in
     let samples = now (start c .args .samples) in
-    let h : c .before .loop .k < lineCount (length samples) = rw (← counted .line-count .ensures) (c .loop-test .taken) in
-    record { is-line = h; begins = line-begins (length samples) _ h; most = lines-few (length samples) (start c .pre .few); few = start c .pre .few }
+    let h : c .before .loop .k < lineCount (length samples) =
+    rw (← counted .line-count .ensures) (c .loop-test .taken) in
+    record {
+      is-line = h;
+      begins = line-begins (length samples) _ h;
+      most = lines-few (length samples) (start c .pre .few);
+      few = start c .pre .few;
+    }
 
 -- the turn of the loop that a line is laid in
 abbrev inside : tie.After-hear Inv-loop μ-loop → tie.In-loop Inv-loop μ-loop
@@ -46,18 +53,23 @@ inside c = c .before .before .before
 
 -- the samples that were looked at are those of the line
 heard : (c : tie.After-hear Inv-loop μ-loop)
-    → let l = inside c in let s = start l in Heard (s .args .threshold) (l .before .loop .last) (covered (l .before .loop .k) (now (s .args .samples))) (c .hear .result)
+    → let l = inside c in let s = start l in
+    Heard (s .args .threshold) (l .before .loop .last) (covered (l .before .loop .k) (now (s .args .samples)))
+    (c .hear .result)
 heard c =
     let ended : tie.After-line-end Inv-loop μ-loop = search needs in
     let t = turn (inside c) in
-    rw (covered-is (now (start (inside c) .args .samples)) (inside c .before .loop .k) _ (omega (arith, t .begins)) (ended .line-end .ensures .1)) at (c .hear .ensures)
+    rw (covered-is (now (start (inside c) .args .samples)) (inside c .before .loop .k) _
+    (omega (arith, t .begins)) (ended .line-end .ensures .1)) at (c .hear .ensures)
 
 hear-requires : tie.Need-hear-requires Inv-loop μ-loop
 hear-requires c κs =
     let l : tie.In-loop Inv-loop μ-loop = search needs in
     let ended : tie.After-line-end Inv-loop μ-loop = search needs in
-    let t = turn l in
-    (simp (length-take, length-drop) (omega (arith, ended .line-end .ensures .1)), l .before .loop .inv .flags)
+    let t = turn l in (
+      simp (length-take, length-drop) (omega (arith, ended .line-end .ensures .1)),
+      l .before .loop .inv .flags,
+    )
 
 put-line-requires : tie.Need-put-line-requires Inv-loop μ-loop
 put-line-requires c κs =
@@ -66,15 +78,24 @@ put-line-requires c κs =
     let t = turn l in
     let samples = now (start l .args .samples) in
     let f = heard-few _ _ _ _ (heard h) in
-    let part = length-take 2048 (drop (2048 * l .before .loop .k) samples) in
-    (omega (arith, t .is-line, l .before .loop .inv .place-is, l .before .loop .inv .kept, start l .pre .enough), (omega (arith, t .is-line, t .most), (omega (arith, f .0), omega (arith, f .1))))
+    let part = length-take 2048 (drop (2048 * l .before .loop .k) samples) in (
+      omega (
+        arith,
+        t .is-line,
+        l .before .loop .inv .place-is,
+        l .before .loop .inv .kept,
+        start l .pre .enough,
+      ),
+      (omega (arith, t .is-line, t .most), (omega (arith, f .0), omega (arith, f .1))),
+    )
 
 loop-again : tie.Need-loop-again Inv-loop μ-loop
 loop-again c =
     let h : tie.After-hear Inv-loop μ-loop = search needs in
     let p = c .before .before .put-line in
     let l = inside h in
-    laid-more _ _ _ _ _ _ _ _ _ _ (start l .pre .whole-frames) (turn l .is-line) (l .before .loop .inv) (heard h) (p .ensures .0) (p .ensures .1) (p .kept .0)
+    laid-more _ _ _ _ _ _ _ _ _ _ (start l .pre .whole-frames) (turn l .is-line) (l .before .loop .inv)
+    (heard h) (p .ensures .0) (p .ensures .1) (p .kept .0)
 
 returns : tie.Need-returns Inv-loop μ-loop
 returns c =

@@ -27,8 +27,10 @@ returns c =
     let s : tie.Start = search needs in
     let first : tie.After-put-column = search needs in
     let one = first .put-column .ensures in
-    let two = c .before .before .put-column2 .ensures in
-    (put-on (omega (arith, s .pre .0)) one two, omega (arith, one .place, two .place, left-wide s, right-wide s))
+    let two = c .before .before .put-column2 .ensures in (
+      put-on (omega (arith, s .pre .0)) one two,
+      omega (arith, one .place, two .place, left-wide s, right-wide s),
+    )
 
 pub put-stems-spec : {M : Type 1} → statement M
 put-stems-spec = tie.close (tie.spec (λ c κs. search needs) put-column-requires-2 (λ c. search needs) returns)

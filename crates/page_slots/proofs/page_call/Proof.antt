@@ -12,7 +12,8 @@ returns-2 : tie.Need-returns-2
 returns-2 c =
     let x : tie.After-morning-page = search needs in
     let enough : tie.Else1 = search needs in
-    page-refused _ _ _ _ _ _ _ _ _ (enough .if1 .left) (x .morning-page .ensures) (c .before .enum-told2 .given .1) (c .outcome-number .ensures)
+    page-refused _ _ _ _ _ _ _ _ _ (enough .if1 .left) (x .morning-page .ensures)
+    (c .before .enum-told2 .given .1) (c .outcome-number .ensures)
 
 returns-3 : tie.Need-returns-3
 returns-3 c =
@@ -20,7 +21,8 @@ returns-3 c =
     let enough : tie.Else1 = search needs in
     let told : tie.After-enum-told = search needs in
     let laid : tie.After-lay-words = search needs in
-    page-laid _ _ _ _ _ _ _ _ (enough .if1 .left) (x .morning-page .ensures) (told .enum-told .given .1) (laid .lay-words .ensures)
+    page-laid _ _ _ _ _ _ _ _ (enough .if1 .left) (x .morning-page .ensures) (told .enum-told .given .1)
+    (laid .lay-words .ensures)
 
 pub page-call-spec : {M : Type 1} → statement M
 page-call-spec =

@@ -19,7 +19,8 @@ returns c =
     let l : SFits w16 (start .args .left) = search needs in
     let r : SFits w16 (start .args .right) = search needs in
     four-laid _ _ _ _ _ _ _ (start .pre)
-    (frame-is (start .args .left) (start .args .right) _ _ (rw (toZ-ofZ l) at (x .signed-bytes .ensures)) (rw (toZ-ofZ r) at (y .signed-bytes2 .ensures)))
+    (frame-is (start .args .left) (start .args .right) _ _ (rw (toZ-ofZ l) at (x .signed-bytes .ensures))
+    (rw (toZ-ofZ r) at (y .signed-bytes2 .ensures)))
 
 pub lay-frame-spec : {M : Type 1} → statement M
 lay-frame-spec =

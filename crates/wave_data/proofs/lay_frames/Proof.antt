@@ -22,7 +22,8 @@ abbrev μ-loop : tie.MeasureT-loop
 μ-loop samples out₀ i₀ out i = length samples / 2 - i
 
 -- a sample that was read has 16 bits
-sixteen : (s : tie.Start Inv-loop μ-loop) → (i : ℕ) → i < length (now (s .args .samples)) → SFits w16 (getD (now (s .args .samples)) i (pos 0))
+sixteen : (s : tie.Start Inv-loop μ-loop) → (i : ℕ) → i < length (now (s .args .samples))
+    → SFits w16 (getD (now (s .args .samples)) i (pos 0))
 sixteen s i h = record { sfits = within-at 32768 _ i (s .pre .1) h }
 
 cast-left : tie.Need-cast-left Inv-loop μ-loop
@@ -55,7 +56,13 @@ loop-again c =
     let samples = now (start .args .samples) in
     let f : SFits w32 (getD samples (2 * l .i) (pos 0)) = search needs in
     let g : SFits w32 (getD samples (2 * l .i + 1) (pos 0)) = search needs in
-    let e = rw (toZ-ofZ f, toZ-ofZ (sixteen start (2 * l .i) (omega arith)), toZ-ofZ g, toZ-ofZ (sixteen start (2 * l .i + 1) (omega arith))) at (laid .lay-frame .ensures) in
+    let e = rw (
+      toZ-ofZ f,
+      toZ-ofZ (sixteen start (2 * l .i) (omega arith)),
+      toZ-ofZ g,
+      toZ-ofZ
+          (sixteen start (2 * l .i + 1) (omega arith)),
+    ) at (laid .lay-frame .ensures) in
     laid-more samples _ (start .pre .0) (l .out) _ (l .i) (omega arith) (l .inv) e
 
 returns : tie.Need-returns Inv-loop μ-loop

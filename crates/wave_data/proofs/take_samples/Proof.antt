@@ -17,7 +17,8 @@ use Rattle.wave_data.proofs.take_samples.Statement.{statement}
 use Rattle.wave_data.proofs.take_samples.Tie as tie
 
 abbrev Inv-loop : tie.InvT-loop
-Inv-loop file samples₀ count i₀ samples i = (count ≡ (length file - headerBytes) / 2) × Taken file samples₀ samples i
+Inv-loop file samples₀ count i₀ samples i = (count ≡ (length file - headerBytes) / 2)
+    × Taken file samples₀ samples i
 
 abbrev μ-loop : tie.MeasureT-loop
 μ-loop file samples₀ count i₀ samples i = count - i
@@ -42,7 +43,11 @@ loop-again c =
     let n = file-samples (now (start .args .file)) in
     let f : SFits w16 (c .signed-word .result) = search needs in
     let g : SFits w32 (c .signed-word .result) = record { sfits = omega (arith, f .sfits) } in
-    rw (toZ-ofZ f, toZ-ofZ g) (l .inv .0, taken-more _ _ (l .samples) (l .i) _ (start .pre .1) (omega arith) (l .inv .1) (c .signed-word .ensures))
+    rw (toZ-ofZ f, toZ-ofZ g) (
+      l .inv .0,
+      taken-more _ _ (l .samples) (l .i) _ (start .pre .1) (omega arith) (l .inv .1)
+          (c .signed-word .ensures),
+    )
 
 returns : tie.Need-returns Inv-loop μ-loop
 returns c =

@@ -18,11 +18,16 @@ returns-2 : tie.Need-returns-2
 returns-2 c = export-lengths _ _ _ 6 (frames-odd _ _ _ (c .before .if1 .left) (c .if2 .taken)) (omega arith)
 
 returns-3 : tie.Need-returns-3
-returns-3 c = export-lengths _ _ _ 11 (frames-room _ _ _ (c .before .before .if1 .left) (c .before .if2 .left) (c .if3 .taken)) (omega arith)
+returns-3 c = export-lengths _ _ _ 11
+    (frames-room _ _ _ (c .before .before .if1 .left) (c .before .if2 .left) (c .if3 .taken)) (omega arith)
 
 -- the list and the buffer are right
 fitting : (c : tie.Else3) → let a = c .before .before .before .args in Fits (now (a .samples)) (a .room)
-fitting c = record { few = c .before .before .if1 .left; whole-frames = c .before .if2 .left; enough = c .if3 .left }
+fitting c = record {
+  few = c .before .before .if1 .left;
+  whole-frames = c .before .if2 .left;
+  enough = c .if3 .left;
+}
 
 returns-4 : tie.Need-returns-4
 returns-4 c =
@@ -33,7 +38,9 @@ returns-5 : tie.Need-returns-5
 returns-5 c =
     let looked = c .before in
     let asked = looked .before .before in
-    export-span _ _ _ (fitting (asked .before)) (sym (asked .is-rate .ensures) ∙ not-false _ (looked .before .if4 .left)) (sym (looked .is-within .ensures) ∙ not-true _ (c .if5 .taken))
+    export-span _ _ _ (fitting (asked .before))
+    (sym (asked .is-rate .ensures) ∙ not-false _ (looked .before .if4 .left))
+    (sym (looked .is-within .ensures) ∙ not-true _ (c .if5 .taken))
 
 returns-6 : tie.Need-returns-6
 returns-6 c =

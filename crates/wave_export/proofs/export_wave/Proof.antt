@@ -23,8 +23,10 @@ abbrev start : tie.After-enum-told → tie.Start
 start t = t .before .before .before .before
 
 -- what holds where nothing is refused
-ready : (t : tie.After-enum-told) → let a = start t .args in Ready (a .rate) (now (a .samples)) (length (now (a .out)))
-ready t = export-ready _ _ _ (sym (t .before .before .export-refusal .ensures) ∙ ap outcomeNumber (t .enum-told .given .1))
+ready : (t : tie.After-enum-told) → let a = start t .args in
+    Ready (a .rate) (now (a .samples)) (length (now (a .out)))
+ready t = export-ready _ _ _
+    (sym (t .before .before .export-refusal .ensures) ∙ ap outcomeNumber (t .enum-told .given .1))
 
 cast-lay-header : tie.Need-cast-lay-header
 cast-lay-header c = let r = ready c .fitting in omega arith
@@ -43,14 +45,16 @@ lay-frames-requires c κs =
     let r = ready t in
     let f = r .fitting in
     let n = header-length (start t .args .rate) (2 * length (now (start t .args .samples))) in
-    let same = ap length (h .lay-header .ensures) ∙ overlay-length (now (start t .args .out)) 0 _ (omega arith) in
+    let same = ap length (h .lay-header .ensures)
+    ∙ overlay-length (now (start t .args .out)) 0 _ (omega arith) in
     (record { few = f .few; whole-frames = f .whole-frames; enough = omega (arith, same) }, r .sixteen-bits)
 
 returns-2 : tie.Need-returns-2
 returns-2 c =
     let t : tie.After-enum-told = search needs in
     let h : tie.After-lay-header = search needs in
-    export-accepted _ _ _ _ _ _ (ready t) (h .lay-header .ensures) (c .before .before .lay-frames .ensures) refl
+    export-accepted _ _ _ _ _ _ (ready t) (h .lay-header .ensures)
+    (c .before .before .lay-frames .ensures) refl
 
 pub export-wave-spec : {M : Type 1} → statement M
 export-wave-spec =

@@ -38,7 +38,8 @@ returns c =
     let l = at-loop .loop in
     let file = now (start .args .file) in
     let cut : length (take headerBytes file) ≡ headerBytes = length-take-le headerBytes file (start .pre) in
-    compared-apart _ _ (l .place) (omega arith) (l .inv) (λ e. c .if1 .taken (sym (byte-at file (l .place) (omega arith)) ∙ e))
+    compared-apart _ _ (l .place) (omega arith) (l .inv)
+    (λ e. c .if1 .taken (sym (byte-at file (l .place) (omega arith)) ∙ e))
 
 loop-again : tie.Need-loop-again Inv-loop μ-loop
 loop-again c =
@@ -48,7 +49,8 @@ loop-again c =
     let file = now (start .args .file) in
     let cut : length (take headerBytes file) ≡ headerBytes = length-take-le headerBytes file (start .pre) in
     let other : tie.Else1 Inv-loop μ-loop = search needs in
-    compared-more _ _ (l .place) (omega arith) (l .inv) (byte-at file (l .place) (omega arith) ∙ other .if1 .left)
+    compared-more _ _ (l .place) (omega arith) (l .inv)
+    (byte-at file (l .place) (omega arith) ∙ other .if1 .left)
 
 returns-2 : tie.Need-returns-2 Inv-loop μ-loop
 returns-2 c =

@@ -30,7 +30,8 @@ returns-3 c =
     let read = c .before .before in
     let half = read .before in
     wave-rate _ (half .before .if1 .left) (half .if2 .left)
-    (ap rateTaken (sym (read .rate-of .ensures)) ∙ sym (c .before .is-rate .ensures) ∙ not-true _ (c .if3 .taken))
+    (ap rateTaken (sym (read .rate-of .ensures)) ∙ sym (c .before .is-rate .ensures)
+    ∙ not-true _ (c .if3 .taken))
 
 lay-header-requires : tie.Need-lay-header-requires
 lay-header-requires c κs =
@@ -45,8 +46,10 @@ returns-4 c =
     let read = tested .before .before in
     let half = read .before in
     let size = length (now (half .before .before .before .args .file)) - headerBytes in
-    let is = laid .lay-header .ensures ∙ overlay-whole _ (waveHeader (read .rate-of .result) size) (header-length _ size) in
-    wave-compared _ _ _ _ (half .before .if1 .left) (half .if2 .left) (read .rate-of .ensures) (taken tested) is (c .begins-with .ensures)
+    let is = laid .lay-header .ensures
+    ∙ overlay-whole _ (waveHeader (read .rate-of .result) size) (header-length _ size) in
+    wave-compared _ _ _ _ (half .before .if1 .left) (half .if2 .left) (read .rate-of .ensures)
+    (taken tested) is (c .begins-with .ensures)
 
 pub is-wave-spec : {M : Type 1} → statement M
 is-wave-spec =

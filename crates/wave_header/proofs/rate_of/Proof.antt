@@ -4,7 +4,7 @@ use mathlib.Core.Path.{sym, ap, _∙_}
 use native.Mathlib.Omega.{arith}
 use denote.Ref.{now}
 use borrow.Author.Needs.{needs}
-use Rattle.little_endian.specs.LittleEndian.{numberOf}
+use Rattle.little_endian.specs.LittleEndian.{fromLittleEndian}
 use Rattle.little_endian.proofs.StoreLaws.{four-taken}
 use Rattle.wave_header.proofs.rate_of.Statement.{statement}
 use Rattle.wave_header.proofs.rate_of.Tie as tie
@@ -13,7 +13,7 @@ returns : tie.Need-returns
 returns c =
     let start : tie.Start = search needs in
     let h = start .pre in
-    c .number .ensures ∙ ap numberOf (sym (four-taken (now (start .args .file)) 24 (omega arith)))
+    c .number .ensures ∙ ap fromLittleEndian (sym (four-taken (now (start .args .file)) 24 (omega arith)))
 
 pub rate-of-spec : {M : Type 1} → statement M
 rate-of-spec =

@@ -40,7 +40,8 @@ returns-3 c =
 returns-4 : tie.Need-returns-4
 returns-4 c =
     let n = file-samples (now (c .before .before .before .before .before .args .file)) in
-    import-none _ _ (record { few = c .before .before .before .if1 .left; wave = wave (c .before); enough = omega arith })
+    import-none _ _ (record
+    { few = c .before .before .before .if1 .left; wave = wave (c .before); enough = omega arith })
 
 pub import-refusal-spec : {M : Type 1} → statement M
 import-refusal-spec =

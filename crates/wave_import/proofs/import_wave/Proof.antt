@@ -23,8 +23,10 @@ abbrev start : tie.After-enum-told → tie.Start
 start t = t .before .before .before .before
 
 -- what holds where nothing is refused
-ready : (t : tie.After-enum-told) → let a = start t .args in Importable (now (a .file)) (length (now (a .samples)))
-ready t = importable _ _ (sym (t .before .before .import-refusal .ensures) ∙ ap outcomeNumber (t .enum-told .given .1))
+ready : (t : tie.After-enum-told) → let a = start t .args in
+    Importable (now (a .file)) (length (now (a .samples)))
+ready t = importable _ _
+    (sym (t .before .before .import-refusal .ensures) ∙ ap outcomeNumber (t .enum-told .given .1))
 
 -- the file has a header
 long : (t : tie.After-enum-told) → headerBytes ≤ length (now (start t .args .file))

@@ -23,7 +23,8 @@ main-spec =
     (λ c. search needs)
     (λ c. search needs)
     (λ c κs. search needs)
-    (λ c. let told : tie.After-wvpair-text = search needs in omega (arith, answer-short _ _ _ _ (told .wvpair-text .ensures)))
+    (λ c. let told : tie.After-wvpair-text = search needs in
+    omega (arith, answer-short _ _ _ _ (told .wvpair-text .ensures)))
     slice-aggregate-write-all
     (λ c κs. search needs)
     (λ c. search needs))

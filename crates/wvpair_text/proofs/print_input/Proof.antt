@@ -3,7 +3,7 @@
 use mathlib.Core.Path.{refl}
 use native.Mathlib.Omega.{arith}
 use denote.Ref.{now}
-use Rattle.wvpair_text.proofs.LineLaws.{end-short}
+use Rattle.wvpair_lines.proofs.LineLaws.{end-short}
 use Rattle.wvpair_text.proofs.TextLaws.{text-under, text-frames, text-payload, text-reading}
 use borrow.Author.Needs.{needs}
 use Rattle.wvpair_text.proofs.print_input.Statement.{statement}
@@ -23,7 +23,8 @@ put-end-requires-2 c κs = omega (arith, end-short 5 0 (omega arith) (λ h. refl
 returns-2 : tie.Need-returns-2
 returns-2 c =
     let start : tie.Start = search needs in
-    rw (text-frames (now (start .args .input)) (omega arith) (omega arith)) (c .before .before .put-end2 .ensures)
+    rw (text-frames (now (start .args .input)) (omega arith) (omega arith))
+    (c .before .before .put-end2 .ensures)
 
 put-end-requires-3 : tie.Need-put-end-requires-3
 put-end-requires-3 c κs = omega (arith, end-short 5 0 (omega arith) (λ h. refl) (omega arith))
@@ -31,12 +32,14 @@ put-end-requires-3 c κs = omega (arith, end-short 5 0 (omega arith) (λ h. refl
 returns-3 : tie.Need-returns-3
 returns-3 c =
     let start : tie.Start = search needs in
-    rw (text-payload (now (start .args .input)) (omega arith) (omega arith)) (c .before .before .put-end3 .ensures)
+    rw (text-payload (now (start .args .input)) (omega arith) (omega arith))
+    (c .before .before .put-end3 .ensures)
 
 returns-4 : tie.Need-returns-4
 returns-4 c =
     let start : tie.Start = search needs in
-    rw (text-reading (now (start .args .input)) (omega arith) (omega arith) (omega arith)) (c .before .before .print-reading .ensures)
+    rw (text-reading (now (start .args .input)) (omega arith) (omega arith) (omega arith))
+    (c .before .before .print-reading .ensures)
 
 pub print-input-spec : {M : Type 1} → statement M
 print-input-spec =

@@ -13,9 +13,9 @@ use Rattle.decimal.proofs.PutLaws.{put-as}
 use Rattle.samples.proofs.SilenceLaws.{take-zeros}
 use Rattle.samples.specs.View.{ReadTold, viewReading}
 use Rattle.samples.specs.declared.ReadAnswer.{ReadAnswer}
-use Rattle.wvpair_text.specs.Lines.{endLine}
+use Rattle.wvpair_lines.specs.Lines.{endLine}
 use Rattle.wvpair_text.specs.Text.{readingOf}
-use Rattle.wvpair_text.proofs.LineLaws.{end-short}
+use Rattle.wvpair_lines.proofs.LineLaws.{end-short}
 use Rattle.wvpair_text.proofs.ReadingLaws.{reading-small, printed-told}
 use borrow.Author.Needs.{needs}
 use Rattle.wvpair_text.proofs.print_reading.Statement.{statement}
@@ -73,12 +73,15 @@ room : (k : Read) → Room (answer k) (frames k) (list k)
 room k =
     let s = k .before .before .before .before .before .before .before in
     let zeros = k .before .before .before .before .silence in
-    let part : length (take (2 * frames k) (zeros .result)) ≡ 2 * frames k = length-take-le (2 * frames k) (zeros .result) (omega (arith, ap length (zeros .ensures))) in
+    let part : length (take (2 * frames k) (zeros .result)) ≡ 2 * frames k =
+    length-take-le (2 * frames k) (zeros .result) (omega (arith, ap length (zeros .ensures))) in
     let e = reading-small (input k) in
     let w : answer k .written ≡ readingOf (input k) .written = ap (λ (t : ReadTold). t .written) (known k) in
-    let c : outcomeNumber (answer k .outcome) ≡ readingOf (input k) .refusal = ap (λ (t : ReadTold). t .refusal) (known k) in
+    let c : outcomeNumber (answer k .outcome) ≡ readingOf (input k) .refusal =
+    ap (λ (t : ReadTold). t .refusal) (known k) in
     let b : answer k .bits ≡ readingOf (input k) .bits = ap (λ (t : ReadTold). t .bits) (known k) in
-    let l : length (list k) ≡ 2 * frames k = k .decode-packed-samples-stereo-from-entropy .kept .1 .1 .1 .0 ∙ part in
+    let l : length (list k) ≡ 2 * frames k = k .decode-packed-samples-stereo-from-entropy .kept .1 .1 .1 .0
+    ∙ part in
     record {
       within = omega (arith, e .written, s .pre .1 .0 .0);
       lent = l;
@@ -89,24 +92,30 @@ room k =
     }
 
 -- the `end` line of what was read is short
-end : (c : tie.After-outcome-number) → length (endLine (c .outcome-number .result) (answer (c .before .before .before .before) .bits)) ≤ 18
+end : (c : tie.After-outcome-number)
+    → length (endLine (c .outcome-number .result) (answer (c .before .before .before .before) .bits)) ≤ 18
 end c =
     let k : tie.After-decode-packed-samples-stereo-from-entropy = search needs in
     let r = room k in
-    end-short (c .outcome-number .result) (answer k .bits) (omega (arith, c .outcome-number .ensures, r .refusal)) (λ h. r .refused-before (omega (arith, c .outcome-number .ensures))) (r .bits)
+    end-short (c .outcome-number .result) (answer k .bits)
+    (omega (arith, c .outcome-number .ensures, r .refusal))
+    (λ h. r .refused-before (omega (arith, c .outcome-number .ensures))) (r .bits)
 
 array-share-prefix-samples : tie.Need-array-share-prefix-samples
 array-share-prefix-samples c = let r = room (c .before .before) in simp length-append (omega arith)
 
 slice-aggregate-put-report : tie.Need-slice-aggregate-put-report
 slice-aggregate-put-report c =
-    let after-decode-packed-samples-stereo-from-entropy : tie.After-decode-packed-samples-stereo-from-entropy = search needs in
-    let r = room after-decode-packed-samples-stereo-from-entropy in simp (length-take, length-append) (omega arith)
+    let after-decode-packed-samples-stereo-from-entropy :
+    tie.After-decode-packed-samples-stereo-from-entropy = search needs in
+    let r = room after-decode-packed-samples-stereo-from-entropy in
+    simp (length-take, length-append) (omega arith)
 
 put-report-requires : tie.Need-put-report-requires
 put-report-requires c κs =
     let start : tie.Start = search needs in
-    let after-decode-packed-samples-stereo-from-entropy : tie.After-decode-packed-samples-stereo-from-entropy = search needs in
+    let after-decode-packed-samples-stereo-from-entropy :
+    tie.After-decode-packed-samples-stereo-from-entropy = search needs in
     let r = room after-decode-packed-samples-stereo-from-entropy in
     simp (length-take, length-append) (omega (arith, start .pre .1 .1, r .within, r .lent, r .most, end c))
 
@@ -114,7 +123,8 @@ returns : tie.Need-returns
 returns c =
     let k : tie.After-decode-packed-samples-stereo-from-entropy = search needs in
     let after-outcome-number : tie.After-outcome-number = search needs in
-    put-as (printed-told (readingOf (input k)) (answer k) (list k) _ _ (known k) (room k .within) (after-outcome-number .outcome-number .ensures)) (c .before .before .put-report .ensures)
+    put-as (printed-told (readingOf (input k)) (answer k) (list k) _ _ (known k) (room k .within)
+    (after-outcome-number .outcome-number .ensures)) (c .before .before .put-report .ensures)
 
 pub print-reading-spec : {M : Type 1} → statement M
 print-reading-spec =

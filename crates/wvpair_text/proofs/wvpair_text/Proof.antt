@@ -25,7 +25,8 @@ returns-2 c =
     let else1 : tie.Else1 = search needs in
     let t : ltb (length (now (start .args .out))) largestText ≡ false = le-ltb _ _ (else1 .if1 .left) in
     let p = c .before .before .print-input .ensures in
-    let n : c .before .before .print-input .result ≡ length (wvpairText (now (start .args .input))) = p .place ∙ zero-add _ in
+    let n : c .before .before .print-input .result ≡ length (wvpairText (now (start .args .input))) = p .place
+    ∙ zero-add _ in
     record { outcome = rw t; size = rw t n; bytes = rw t (p .bytes) }
 
 pub wvpair-text-spec : {M : Type 1} → statement M
