@@ -1,12 +1,13 @@
 -- `page_slots::page_call` meets its contract: one law for each of its three answers.
 -- Assumes nothing.
+use native.Mathlib.Omega.{arith}
 use borrow.Author.Needs.{needs}
 use Rattle.page_slots.proofs.PageSlotLaws.{page-short, page-refused, page-laid}
 use Rattle.page_slots.proofs.page_call.Statement.{statement}
 use Rattle.page_slots.proofs.page_call.Tie as tie
 
 returns : tie.Need-returns
-returns c = page-short _ _ _ _ _ (c .number .ensures) (c .before .if1 .taken)
+returns c = page-short _ _ _ _ _ (c .number .ensures) (omega (arith, c .before .if1 .taken))
 
 returns-2 : tie.Need-returns-2
 returns-2 c =
