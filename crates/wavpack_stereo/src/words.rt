@@ -2,7 +2,7 @@
 // what these two answer is laid into its slots on refusal too; only lists with too few slots are
 // left alone.
 ghost use mathlib.Core.Path.{_≡_};
-ghost use Rattle.word_slots.specs.Calls.{readCall, wordCall};
+ghost use Rattle.word_calls.specs.Calls.{readCall, wordCall};
 
 // The samples of `frames` frames into `samples`, left then right; bits used, left medians, right
 // medians and samples written into 8 slots of `answer`. Refuses 6 for `answer`, with nothing
@@ -21,7 +21,7 @@ pub extern "C" fn wv_read(
         (now (samples .entry)) (now (answer .entry))
         ⌝ }
 {
-    word_slots::calls::read_call(entropy, payload, frames, samples, answer)
+    word_calls::read_call(entropy, payload, frames, samples, answer)
 }
 
 // The word at a place of the payload, in the state that the 13 slots of `state` hold; its sample
@@ -44,5 +44,5 @@ pub extern "C" fn wv_word(
         ≡ wordCall (now (payload .entry)) (now (state .entry)) (now (sample .entry)) (now (report .entry))
         ⌝ }
 {
-    word_slots::calls::word_call(payload, state, sample, report)
+    word_calls::word_call(payload, state, sample, report)
 }

@@ -1,4 +1,2 @@
 -- What other crates cite.
 pub mod WordSlotLaws
-pub mod CallLaws
-pub mod Cases

@@ -1,2 +1,1 @@
 pub mod WordSlots
-pub mod Calls

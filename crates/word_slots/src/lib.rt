@@ -1,7 +1,5 @@
 // Medians, word states and reports in lists of slots: what the C interface's callers hold of
-// reading, packing and one word. `calls` has the two calls that read.
-pub mod calls;
-
+// reading, packing and one word.
 use answers::Outcome;
 use answers::outcome_number;
 use entropy::AdaptiveMedians;
@@ -59,7 +57,7 @@ fn flag_slot(flag: bool) -> u32
 }
 
 // The state that 12 slots behind the place hold.
-fn state_in(slots: &[u32]) -> StereoDecodeState
+pub fn state_in(slots: &[u32]) -> StereoDecodeState
     requires { ⌜ 13 ≤ length (now slots) ⌝ }
     ensures { λ r. ⌜ stateOf r ≡ slotsState (now (slots .entry)) ⌝ }
 {
@@ -124,7 +122,7 @@ fn report_slots(zone: MaybeZone) -> [u32; 2]
 
 // Lays what one word told: its sample and its report, and where it was accepted its place and
 // state. Answers its number.
-fn lay_word(word: WordAnswer, state: &mut [u32], sample: &mut [i32], report: &mut [u32]) -> u32
+pub fn lay_word(word: WordAnswer, state: &mut [u32], sample: &mut [i32], report: &mut [u32]) -> u32
     requires place { ⌜ word .place < 4294967296 ⌝ }
     requires state { ⌜ 13 ≤ length (now state) ⌝ }
     requires sample { ⌜ 1 ≤ length (now sample) ⌝ }

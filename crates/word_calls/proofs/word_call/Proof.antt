@@ -1,4 +1,4 @@
--- `word_slots::calls::word_call` meets its contract: too few slots, or what the word told, whose
+-- `word_calls::word_call` meets its contract: too few slots, or what the word told, whose
 -- place fits 32 bits.
 -- Assumes nothing.
 use borrow.Author.Tests.{lt-ltb, le-ltb}
@@ -7,10 +7,10 @@ use native.Mathlib.Omega.{arith}
 use lib.ListN.{length, getD}
 use Rattle.word_state.specs.View.{stateOf}
 use Rattle.one_word.proofs.PlaceLaws.{place-fits}
-use Rattle.word_slots.proofs.CallLaws.{word-short, word-told}
+use Rattle.word_calls.proofs.CallLaws.{word-short, word-told}
 use borrow.Author.Needs.{needs}
-use Rattle.word_slots.proofs.calls.word_call.Statement.{statement}
-use Rattle.word_slots.proofs.calls.word_call.Tie as tie
+use Rattle.word_calls.proofs.word_call.Statement.{statement}
+use Rattle.word_calls.proofs.word_call.Tie as tie
 
 returns : tie.Need-returns
 returns c =

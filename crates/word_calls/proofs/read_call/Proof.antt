@@ -1,12 +1,12 @@
--- `word_slots::calls::read_call` meets its contract: too few slots, or what reading told, whose
+-- `word_calls::read_call` meets its contract: too few slots, or what reading told, whose
 -- counts fit 32 bits.
 -- Assumes nothing.
 use native.Mathlib.Omega.{arith}
 use Rattle.samples.proofs.ToldBounds.{read-fits}
-use Rattle.word_slots.proofs.CallLaws.{read-short, read-laid}
+use Rattle.word_calls.proofs.CallLaws.{read-short, read-laid}
 use borrow.Author.Needs.{needs}
-use Rattle.word_slots.proofs.calls.read_call.Statement.{statement}
-use Rattle.word_slots.proofs.calls.read_call.Tie as tie
+use Rattle.word_calls.proofs.read_call.Statement.{statement}
+use Rattle.word_calls.proofs.read_call.Tie as tie
 
 returns : tie.Need-returns
 returns c =

@@ -18,8 +18,8 @@ use Rattle.samples.specs.View.{viewReading, readEntry}
 use Rattle.one_word.specs.View.{viewWord, oneWord}
 use Rattle.samples.specs.declared.ReadAnswer.{ReadAnswer}
 use Rattle.one_word.specs.declared.WordAnswer.{WordAnswer}
 use Rattle.word_slots.specs.WordSlots.{countSlots, slotsPlace, slotsState, leaveWord}
-use Rattle.word_slots.specs.Calls.{readCall, wordCall}
+use Rattle.word_calls.specs.Calls.{readCall, wordCall}
 
 -- ---- reading
 

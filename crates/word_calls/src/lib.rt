@@ -1,17 +1,17 @@
 // Reading, and one word for a caller that holds the state in a list of slots. Unlike the values,
 // what these two answer is laid into its slots on refusal too; only lists with too few slots are
 // left alone.
-use crate::lay_counts;
-use crate::lay_word;
-use crate::state_in;
 use answers::Refusal;
 use answers::number;
 use answers::outcome_number;
 use one_word::decode_sample_stateful_stereo;
 use samples::reading::decode_packed_samples_stereo_from_entropy;
 use slots::lay_words;
+use word_slots::lay_counts;
+use word_slots::lay_word;
+use word_slots::state_in;
 ghost use mathlib.Core.Path.{_≡_};
-ghost use Rattle.word_slots.specs.Calls.{readCall, wordCall};
+ghost use Rattle.word_calls.specs.Calls.{readCall, wordCall};
 
 // `wv_read`: the samples, and into 8 slots bits used, left medians, right medians and samples
 // written.

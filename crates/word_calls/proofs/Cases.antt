@@ -21,7 +21,7 @@ use Rattle.readings.specs.Reading.{reading}
 use Rattle.samples.specs.View.{readRefusal, readEntry}
 use Rattle.one_word.specs.View.{oneWord}
 use Rattle.overlay.specs.Overlay.{overlay}
-use Rattle.word_slots.specs.Calls.{readCall, wordCall}
+use Rattle.word_calls.specs.Calls.{readCall, wordCall}
 
 -- one frame: 3 and -1 in 10 bits; the left medians went up from 1, and a ninth element stays
 pub frame-read :

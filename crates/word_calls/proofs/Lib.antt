@@ -1,0 +1,3 @@
+-- What the proofs of several functions use, and worked cases.
+pub mod CallLaws
+pub mod Cases
