@@ -57,7 +57,7 @@ analysis ps l = listed Analysis ps l
 abbrev pub followed : List DecorrPass → Chain → Chain
 followed rest c = record { passes = c .passes ++ rest; buffer = c .buffer }
 
--- the first n passes of an array: those behind keep their values, and more than the array has are
+-- the first n passes of an array: those after them keep their values, and more than the array has are
 -- refused by their number
 unfoldable pub arrayAnswer : Direction → List DecorrPass → ℕ → List ℤ → Answer
 arrayAnswer d ps n l =

@@ -17,7 +17,7 @@ use list_tests::list_outcome;
 use passes::DecorrPass;
 use passes::Direction;
 
-// What the entries of an array answer: the passes behind the first `count` keep their values.
+// What the entries of an array answer: the passes after the first `count` keep their values.
 pub struct ListAnswer {
     pub outcome: Outcome,
     pub passes: [DecorrPass; MAX_PASSES],

@@ -12,7 +12,8 @@ use lib.ListN.{length, getD, take, drop, length-append, length-drop, List·getD-
 use lib.Seq.{take-append-le, drop-append-le}
 use Rattle.passes.specs.declared.DecorrPass.{DecorrPass}
 use Rattle.decorrelation.specs.Lists.{Answer}
-use Rattle.pass_slots.specs.PassSlots.{passSlots, slotTerm, passOf, passesOf, listSlots, PassesLeft, leavePasses, passesCall}
+use Rattle.made_slots.specs.MadeSlots.{passSlots}
+use Rattle.pass_slots.specs.PassSlots.{slotTerm, passOf, passesOf, listSlots, PassesLeft, leavePasses, passesCall}
 
 -- what stands in a slot of the first list
 slot-first : (xs ys : List ℤ) (i : ℕ) → i < length xs → getD (xs ++ ys) i (pos 0) ≡ getD xs i (pos 0)

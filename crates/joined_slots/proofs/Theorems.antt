@@ -13,7 +13,8 @@ use Rattle.decorrelation.specs.Lists.{Answer, decorrelation, analysis}
 use Rattle.joined_lists.specs.Joined.{TwoCalls, decorrelatedApart, analysedApart, Joinable, Same}
 use Rattle.joined_lists.proofs.AcceptLaws.{zero-accepts}
 use Rattle.joined_lists.proofs.Together.{decorrelation-joined, analysis-joined}
-use Rattle.pass_slots.specs.PassSlots.{passSlots, listSlots, PassesLeft, passesCall}
+use Rattle.made_slots.specs.MadeSlots.{passSlots}
+use Rattle.pass_slots.specs.PassSlots.{listSlots, PassesLeft, passesCall}
 use Rattle.pass_slots.proofs.PassSlotLaws.{passes-length, slots-append}
 use Rattle.joined_slots.specs.JoinedSlots.{SlotCalls, decorrelateApart, analyseApart, JoinableSlots, SameSlots, DecorrelateJoined, AnalyseJoined}
 use Rattle.joined_slots.proofs.SlotLaws.{passesIn, inSlots, AcceptedCall, call-leaves, call-accepts, passes-in-joined}

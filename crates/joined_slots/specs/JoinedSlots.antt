@@ -8,7 +8,8 @@ use lib.IntN.{ℤ}
 use lib.ListN.{length}
 use Rattle.answers.specs.Limits.{maxPasses}
 use Rattle.decorrelation.specs.Lists.{decorrelation, analysis}
-use Rattle.pass_slots.specs.PassSlots.{passSlots, PassesLeft, passesCall}
+use Rattle.made_slots.specs.MadeSlots.{passSlots}
+use Rattle.pass_slots.specs.PassSlots.{PassesLeft, passesCall}
 
 -- what the first list's call and the second list's call left, and the buffer that both left
 pub record SlotCalls : Type 0 where

@@ -70,7 +70,7 @@ fn run_back(lag: usize, start: DecorrPass, buffer: &mut [i32]) -> Weights
     }
 }
 
-// The pass behind a buffer of at least eight frames: its ring holds the last eight samples.
+// The pass after a buffer of at least eight frames: its ring holds the last eight samples.
 fn ring_behind(lag: usize, start: DecorrPass, weights: Weights, buffer: &[i32]) -> DecorrPass
     requires most { ⌜ lag ≤ 8 ⌝ }
     requires eight { ⌜ 16 ≤ length (now buffer) ⌝ }

@@ -24,7 +24,8 @@ use Rattle.list_runs.specs.Chained.{chained}
 use Rattle.decorrelation.specs.Lists.{numberBy, Answer, done, refuseList, listed, arrayAnswer}
 use Rattle.decorrelation.proofs.Answers.{number-by, many-number, many-positive}
 use Rattle.decorrelation.proofs.Theorems.{listed-count, extended, array-as-list}
-use Rattle.pass_slots.specs.PassSlots.{passSlots, passesOf, listSlots, PassesLeft, leavePasses, passesCall}
+use Rattle.made_slots.specs.MadeSlots.{passSlots}
+use Rattle.pass_slots.specs.PassSlots.{passesOf, listSlots, PassesLeft, leavePasses, passesCall}
 use Rattle.pass_slots.proofs.PassSlotLaws.{passes-length}
 
 -- ---- the calls

@@ -1,4 +1,3 @@
 -- What the proofs of the functions and other crates cite.
 pub mod PassSlotLaws
-pub mod MakePassLaws
 pub mod CallLaws

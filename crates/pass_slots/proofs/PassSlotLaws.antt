@@ -1,5 +1,4 @@
--- Passes and their slots: the term of a slot, one pass and its 20 slots, lists of passes pass by
--- pass. Assumes nothing.
+-- Passes and their slots: the term of a slot, one pass, lists of passes pass by pass. Assumes nothing.
 use mathlib.Core.Path.{_≡_, refl, sym, ap, _∙_}
 use mathlib.Core.Bool.{true, false}
 use mathlib.Core.List.{List, [], _∷_, _++_, append-assoc, append-nil}
@@ -15,7 +14,8 @@ use borrow.Author.Tests.{ltb-true, ltb-false, le-leb, lt-leb}
 use Rattle.passes.specs.declared.DecorrPass.{DecorrPass}
 use Rattle.overlay.specs.Overlay.{overlay}
 use Rattle.overlay.proofs.OverlayLaws.{overlay-none, overlay-length, overlay-on, overlay-whole}
-use Rattle.pass_slots.specs.PassSlots.{passSlots, slotTerm, passOf, slotsOf, passesOf, listSlots}
+use Rattle.made_slots.specs.MadeSlots.{passSlots, slotsOf}
+use Rattle.pass_slots.specs.PassSlots.{slotTerm, passOf, passesOf, listSlots}
 
 -- ---- the term of a slot
 
@@ -57,22 +57,6 @@ pub pass-held : (s h g : List ℤ) (t : ℤ) (a b : List ℤ) → passSlots ≤ 
     → record { term = t; delta = getD s 1 (pos 0); «weight_a» = getD s 2 (pos 0); «weight_b» = getD s 3 (pos 0); «history_a» = a; «history_b» = b } ≡ passOf s
 unfolding passOf
 pass-held s h g t a b long i j e f k = rw (e, f, k, history-held s h 4 (omega arith) i, history-held s g 12 (omega arith) j)
-
--- four numbers laid into 20 slots leave 20
-pub head-laid : (none head first : List ℤ) → first ≡ overlay none 0 head → length none ≡ passSlots → length head ≡ 4 → length first ≡ passSlots
-head-laid none head first e n h = ap length e ∙ overlay-length none 0 head (omega arith) ∙ n
-
--- the 20 slots of a pass: four numbers, then the two histories
-pub twenty : (p : DecorrPass) (head none first second third : List ℤ) → first ≡ overlay none 0 head → second ≡ overlay first 4 (p .«history_a») → third ≡ overlay second 12 (p .«history_b») → length none ≡ passSlots
-    → length (p .«history_a») ≡ 8 → length (p .«history_b») ≡ 8 → head ≡ p .term ∷ p .delta ∷ p .«weight_a» ∷ p .«weight_b» ∷ [] → third ≡ slotsOf p
-unfolding slotsOf
-twenty p head none first second third e f g n la lb h =
-    let a = p .«history_a» in
-    let b = p .«history_b» in
-    let four : length head ≡ 4 = ap length h in
-    let twelve : length (head ++ a) ≡ 12 = rw (length-append head a, four, la) in
-    let all : length ((head ++ a) ++ b) ≡ length none = rw (length-append (head ++ a) b, twelve, lb, n) in
-    g ∙ rw (f, e, overlay-on none 0 4 head a (omega arith) (omega arith), overlay-on none 0 12 (head ++ a) b (omega arith) (omega arith), overlay-whole none ((head ++ a) ++ b) all, append-assoc head a b, h)
 
 -- the slots of a pass hold that pass
 pub pass-again : (p : DecorrPass) → SFits w8 (p .term) → length (p .«history_a») ≡ 8 → length (p .«history_b») ≡ 8 → passOf (slotsOf p) ≡ p

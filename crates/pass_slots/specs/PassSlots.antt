@@ -1,21 +1,15 @@
--- A pass as 20 slots, a list of passes as 20 slots each: what pass making answers and lays into
--- slots, and what decorrelation and analysis answer and leave in the lent lists, on refusal too.
--- Assumes nothing.
+-- A list of passes as 20 slots each: what decorrelation and analysis answer and leave in the lent
+-- lists, on refusal too. Assumes nothing.
 use Prim.Native.Nat.{ℕ, zero, suc, _/_, _%_}
 use mathlib.Core.Bool.{cond}
 use mathlib.Core.List.{List, [], _∷_, _++_}
 use lib.Dec.{eqb, leb}
 use lib.IntN.{ℤ, pos, negsuc}
 use lib.ListN.{length, getD, take, drop}
-use Rattle.answers.specs.Guard.{orElse, unlessRefused}
+use Rattle.answers.specs.Guard.{unlessRefused}
 use Rattle.passes.specs.declared.DecorrPass.{DecorrPass}
-use Rattle.passes.specs.Making.{makingRefusal, made}
 use Rattle.decorrelation.specs.Lists.{Answer}
-use Rattle.slots.specs.Slots.{slotRefusal}
-
--- "20 slots a pass": its term, delta and weights, and two histories of eight
-abbrev pub passSlots : ℕ
-passSlots = 20
+use Rattle.made_slots.specs.MadeSlots.{passSlots, slotsOf}
 
 -- the term in a slot: a number outside 8 bits is read as 0, which is no valid term either
 abbrev pub slotTerm : ℤ → ℤ
@@ -35,11 +29,7 @@ passOf slots =
       «history_b» = take 8 (drop 12 slots);
     }
 
--- the same 20 slots of a pass
-unfoldable pub slotsOf : DecorrPass → List ℤ
-slotsOf p = p .term ∷ p .delta ∷ p .«weight_a» ∷ p .«weight_b» ∷ (p .«history_a» ++ p .«history_b»)
-
--- n passes, one behind the other
+-- n passes, one after the other
 abbrev pub passesOf : ℕ → List ℤ → List DecorrPass
 passesOf zero slots = []
 passesOf (suc n) slots = passOf slots ∷ passesOf n (drop passSlots slots)
@@ -48,16 +38,6 @@ passesOf (suc n) slots = passOf slots ∷ passesOf n (drop passSlots slots)
 abbrev pub listSlots : List DecorrPass → List ℤ
 listSlots [] = []
 listSlots (p ∷ ps) = slotsOf p ++ listSlots ps
-
--- ---- pass making
-
--- 6 before what pass making refuses
-abbrev pub passAnswer : ℤ → List ℤ → List ℤ → List ℤ → ℕ
-passAnswer term seedA seedB slots = orElse (slotRefusal passSlots slots) (makingRefusal term seedA seedB)
-
--- the pass that is made
-abbrev pub passValues : ℤ → ℤ → ℤ → ℤ → List ℤ → List ℤ → List ℤ
-passValues term delta weightA weightB seedA seedB = slotsOf (made term delta weightA weightB seedA seedB .pass)
 
 -- ---- decorrelation and analysis
 

@@ -9,18 +9,17 @@ use answers::outcome_number;
 use decorrelation::DecorrPass;
 use decorrelation::Direction;
 use decorrelation::array_answer;
-use decorrelation::list_outcome;
+use list_tests::list_outcome;
+use made_slots::PASS_SLOTS;
+use made_slots::pass_slots;
 use slots::lay;
 ghost use mathlib.Core.Path.{_≡_};
 ghost use Prim.Native.Nat.{_*_, _≤_};
 ghost use lib.ListN.{length, take};
 ghost use Rattle.answers.specs.Limits.{maxPasses};
 ghost use Rattle.decorrelation.specs.Lists.{listed};
-ghost use Rattle.slots.specs.Slots.{leaveValues};
-ghost use Rattle.pass_slots.specs.PassSlots.{passSlots, slotTerm, passOf, slotsOf, passesOf, listSlots, passAnswer, passValues, passesCall};
-
-// Slots of a pass: its term, delta and weights, and two histories of eight.
-pub const PASS_SLOTS: usize = 20;
+ghost use Rattle.made_slots.specs.MadeSlots.{passSlots};
+ghost use Rattle.pass_slots.specs.PassSlots.{slotTerm, passOf, passesOf, listSlots, passesCall};
 
 // The term in a slot; 0, which is no valid one, for a number outside 8 bits.
 fn slot_term(slot: i32) -> i8
@@ -53,21 +52,6 @@ fn pass_in(slots: &[i32]) -> DecorrPass
         history_a: history_a,
         history_b: history_b,
     }
-}
-
-// A pass as 20 slots hold it.
-fn pass_slots(p: DecorrPass) -> [i32; PASS_SLOTS]
-    ensures { λ r. ⌜ r ≡ slotsOf p ⌝ }
-{
-    let term = p.term;
-    let a = p.history_a;
-    let b = p.history_b;
-    let head = [term as i32, p.delta, p.weight_a, p.weight_b];
-    let mut slots = [0i32; PASS_SLOTS];
-    lay(&head, 0, &mut slots);
-    lay(&a, 4, &mut slots);
-    lay(&b, 12, &mut slots);
-    slots
 }
 
 // The first `count` passes of a list of slots, in an array.
@@ -107,41 +91,6 @@ fn lay_passes(passes: [DecorrPass; MAX_PASSES], count: usize, slots: &mut [i32])
         lay(&values, at, slots);
         i += 1;
     }
-}
-
-// A pass made from its parts, into 20 slots. Refuses 6, then 7 and 8 as pass making does, with
-// nothing written.
-pub fn make_pass(
-    term: i8,
-    delta: i32,
-    weight_a: i32,
-    weight_b: i32,
-    seed_a: &[i32],
-    seed_b: &[i32],
-    pass: &mut [i32],
-) -> u32
-    ensures answer { λ r.
-        ⌜ r
-        ≡ passAnswer term (now («seed_a» .entry)) (now («seed_b» .entry)) (now (pass .entry)) ⌝ }
-    ensures pass { λ r. ⌜
-        now (pass .exit)
-        ≡ leaveValues r
-        (passValues term delta «weight_a» «weight_b» (now («seed_a» .entry)) (now («seed_b» .entry)))
-        (now (pass .entry))
-        ⌝ }
-{
-    if pass.len() < PASS_SLOTS {
-        return number(Refusal::ListLength);
-    }
-    let answer = DecorrPass::new(term, delta, weight_a, weight_b, seed_a, seed_b);
-    let outcome = answer.outcome;
-    let made = answer.pass;
-    let Outcome::Accepted = outcome else {
-        return outcome_number(outcome);
-    };
-    let values = pass_slots(made);
-    lay(&values, 0, pass);
-    0
 }
 
 // Decorrelation or analysis by passes of 20 slots each, which then hold the passes after. Refuses 6

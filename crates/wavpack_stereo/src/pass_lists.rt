@@ -1,12 +1,13 @@
 // Pass making, decorrelation and analysis for a caller that holds its passes in lists of slots, 20
 // to a pass.
 use decorrelation::Direction;
-use pass_slots::make_pass;
+use made_slots::make_pass;
 use pass_slots::run_slots;
 ghost use mathlib.Core.Path.{_≡_};
 ghost use Rattle.decorrelation.specs.Lists.{decorrelation, analysis};
 ghost use Rattle.slots.specs.Slots.{leaveValues};
-ghost use Rattle.pass_slots.specs.PassSlots.{passAnswer, passValues, passesCall};
+ghost use Rattle.made_slots.specs.MadeSlots.{passAnswer, passValues};
+ghost use Rattle.pass_slots.specs.PassSlots.{passesCall};
 
 // A pass made from its parts, into 20 slots. Refuses 6, then 7 and 8 as pass making does, with
 // nothing written.

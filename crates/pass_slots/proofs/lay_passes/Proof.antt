@@ -7,7 +7,7 @@ use native.Mathlib.Omega.{arith}
 use borrow.Author.Needs.{needs}
 use lib.ListN.{length}
 use Rattle.overlay.proofs.OverlayLaws.{overlay-length}
-use Rattle.pass_slots.specs.PassSlots.{passSlots}
+use Rattle.made_slots.specs.MadeSlots.{passSlots}
 use Rattle.pass_slots.proofs.PassSlotLaws.{Laying, laying-none, laying-more, laying-all}
 use Rattle.pass_slots.proofs.lay_passes.Statement.{statement}
 use Rattle.pass_slots.proofs.lay_passes.Tie as tie

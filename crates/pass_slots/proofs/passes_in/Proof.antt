@@ -6,7 +6,8 @@ use native.Mathlib.Numerals.{add-one}
 use native.Mathlib.Omega.{arith}
 use borrow.Author.Needs.{needs}
 use lib.ListN.{length, take, length-set, length-drop}
-use Rattle.pass_slots.specs.PassSlots.{passSlots, passesOf}
+use Rattle.made_slots.specs.MadeSlots.{passSlots}
+use Rattle.pass_slots.specs.PassSlots.{passesOf}
 use Rattle.pass_slots.proofs.PassSlotLaws.{part-is, taken-more}
 use Rattle.pass_slots.proofs.passes_in.Statement.{statement}
 use Rattle.pass_slots.proofs.passes_in.Tie as tie

@@ -16,7 +16,7 @@ use Rattle.passes.specs.Making.{makingRefusal, Made, noPass, made}
 use Rattle.passes.specs.declared.DecorrPass.{DecorrPass}
 use Rattle.overlay.specs.Overlay.{overlay}
 use Rattle.slots.specs.Slots.{leaveValues}
-use Rattle.pass_slots.specs.PassSlots.{passSlots, slotsOf, passAnswer, passValues}
+use Rattle.made_slots.specs.MadeSlots.{passSlots, slotsOf, passAnswer, passValues}
 
 -- pass making tells the number that it is given
 by-refusal : (n : ℕ) (p : DecorrPass) → unlessRefused {A = Made} n (λ k. record { refusal = k; pass = noPass }) (record { refusal = 0; pass = p }) .refusal ≡ n

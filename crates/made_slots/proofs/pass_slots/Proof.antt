@@ -1,4 +1,4 @@
--- `pass_slots::pass_slots` meets its contract.
+-- `pass_slots` meets its contract.
 -- Assumes nothing.
 use mathlib.Core.Path.{_≡_, refl, ap, _∙_}
 use mathlib.Core.List.{[], _∷_}
@@ -11,11 +11,11 @@ use mir.ValLaws.{toZ-ofZ}
 use Rattle.wrapping.proofs.ReadBack.{reread}
 use Rattle.overlay.proofs.OverlayLaws.{overlay-length}
 use Rattle.slots.proofs.SlotLaws.{wider}
-use Rattle.pass_slots.specs.PassSlots.{passSlots}
-use Rattle.pass_slots.proofs.PassSlotLaws.{head-laid, twenty}
+use Rattle.made_slots.specs.MadeSlots.{passSlots}
+use Rattle.made_slots.proofs.LaidLaws.{head-laid, twenty}
 use borrow.Author.Needs.{needs}
-use Rattle.pass_slots.proofs.pass_slots.Statement.{statement}
-use Rattle.pass_slots.proofs.pass_slots.Tie as tie
+use Rattle.made_slots.proofs.pass_slots.Statement.{statement}
+use Rattle.made_slots.proofs.pass_slots.Tie as tie
 
 cast-t7 : tie.Need-cast-t7
 cast-t7 c = rw (toZ-ofZ w8 (c .before .before .before .args .p .term) (search needs)) (wider (search needs))

@@ -1,14 +1,14 @@
--- `pass_slots::make_pass` meets its contract: one law for each of its three answers.
+-- `make_pass` meets its contract: one law for each of its three answers.
 -- Assumes nothing.
 use mathlib.Core.Path.{_≡_}
 use mir.Syntax.{w8, w32}
 use mir.ValLaws.{toZ-ofZ}
 use Rattle.answers.specs.Numbers.{outcomeNumber}
 use Rattle.passes.specs.Making.{made}
-use Rattle.pass_slots.proofs.MakePassLaws.{pass-short, pass-refused, pass-made}
+use Rattle.made_slots.proofs.MakePassLaws.{pass-short, pass-refused, pass-made}
 use borrow.Author.Needs.{needs}
-use Rattle.pass_slots.proofs.make_pass.Statement.{statement}
-use Rattle.pass_slots.proofs.make_pass.Tie as tie
+use Rattle.made_slots.proofs.make_pass.Statement.{statement}
+use Rattle.made_slots.proofs.make_pass.Tie as tie
 
 returns : tie.Need-returns
 returns c =
