@@ -28,7 +28,8 @@ signed-back z f =
 pub bytes-back : (lo hi : ℕ) → lo < 256 → hi < 256 → signedBytes (signedWord lo hi) ≡ lo ∷ hi ∷ []
 unfolding littleEndian
 bytes-back lo hi l h =
-    let e : ofZ w16 (signedWord lo hi) ≡ lo + 256 * hi = ofZ-toZ w16 (lo + 256 * hi) (record { fits = omega arith }) in
+    let e : ofZ w16 (signedWord lo hi) ≡ lo + 256 * hi =
+    ofZ-toZ w16 (lo + 256 * hi) (record { fits = omega arith }) in
     let a : (lo + 256 * hi) % 256 ≡ lo = omega arith in
     let q : (lo + 256 * hi) / 256 ≡ hi = omega arith in
     let b : (lo + 256 * hi) / 256 % 256 ≡ hi = rw q (omega arith) in

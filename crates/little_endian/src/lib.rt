@@ -7,7 +7,8 @@ ghost use lib.ListN.{length};
 ghost use mir.Syntax.{w16};
 ghost use mir.Val.{toZ, ofZ};
 ghost use Rattle.overlay.specs.Overlay.{overlay};
-ghost use Rattle.little_endian.specs.LittleEndian.{littleEndian, fromLittleEndian, signedWord, signedBytes};
+ghost use Rattle.little_endian.specs.LittleEndian.{littleEndian, fromLittleEndian};
+ghost use Rattle.little_endian.specs.LittleEndian.{signedWord, signedBytes};
 
 // The four bytes of a number.
 pub fn number_bytes(number: u32) -> [u8; 4]
