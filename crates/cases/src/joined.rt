@@ -102,24 +102,30 @@ fn run_both(name: &[u8], direction: Direction, buffer: &mut [i32]) {
     print_state(after[2]);
 }
 
-// Two frames and an odd last element by both lists, in two calls and in one, and back.
-pub fn run_joined() {
-    let mut apart = [1, -1, 100, 50, 7];
-    let mut joined = [1, -1, 100, 50, 7];
-    run_microphone(b"microphone's list", Direction::Decorrelation, &mut apart);
-    run_stem(b"then stem's list", Direction::Decorrelation, &mut apart);
-    run_both(b"both lists joined", Direction::Decorrelation, &mut joined);
-    run_stem(b"stem's list undone", Direction::Analysis, &mut apart);
+// Two frames and an odd last element by both lists, in two calls and in one.
+fn run_apart(buffer: &mut [i32], joined: &mut [i32]) {
+    run_microphone(b"microphone's list", Direction::Decorrelation, buffer);
+    run_stem(b"then stem's list", Direction::Decorrelation, buffer);
+    run_both(b"both lists joined", Direction::Decorrelation, joined);
+}
+
+// And back.
+fn run_undone(buffer: &mut [i32], joined: &mut [i32]) {
+    run_stem(b"stem's list undone", Direction::Analysis, buffer);
     run_microphone(
         b"then microphone's list undone",
         Direction::Analysis,
-        &mut apart,
+        buffer,
     );
-    run_both(
-        b"both lists undone, joined",
-        Direction::Analysis,
-        &mut joined,
-    );
+    run_both(b"both lists undone, joined", Direction::Analysis, joined);
+}
+
+// Both lists in two calls and in one, and back.
+pub fn run_joined() {
+    let mut apart = [1, -1, 100, 50, 7];
+    let mut joined = [1, -1, 100, 50, 7];
+    run_apart(&mut apart, &mut joined);
+    run_undone(&mut apart, &mut joined);
 }
 
 // 17 passes in two calls: one call refuses them (`run_passes` of the main file).

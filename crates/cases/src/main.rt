@@ -73,9 +73,9 @@ pub(crate) fn run_entropy(name: &[u8], payload: &[u8]) {
     let info = answer.info;
     let left = info.medians_left;
     let right = info.medians_right;
-    let values = [left[0], left[1], left[2], right[0], right[1], right[2]];
     print_case(name, outcome_number(outcome));
-    print_values(&values);
+    print_list(&left);
+    print_values(&right);
 }
 
 // One frame of a packed payload: the bits used, the samples written, and the list, which held 77
@@ -165,33 +165,56 @@ fn run_trip(name: &[u8], entropy: &[u8]) {
     }
 }
 
-fn main() {
+// Entropy payloads of 11 and 12 bytes.
+fn run_entropies() {
     let payload = [0, 1, 0, 2, 0, 3, 0, 4, 0, 5, 0, 255];
     run_entropy(b"11 entropy bytes", &payload[..11]);
     run_entropy(b"12 entropy bytes", &payload);
-    // A run length of 0, which is one zero; 16 ones and a zero; the second ones, 32 or 33, and a
-    // zero; then zeros: 31 bits of the prefix and the signs of two words.
+}
+
+// A run length of 0, which is one zero; 16 ones and a zero; the second ones, 32 or 33, and a zero;
+// then zeros: 31 bits of the prefix and the signs of two words.
+fn run_escapes() {
     let escape_32 = [254, 255, 253, 255, 255, 255, 3, 0, 0, 0, 0];
     run_reading(b"escape with 32 second ones", &escape_32);
     let escape_33 = [254, 255, 253, 255, 255, 255, 7, 0, 0, 0, 0];
     run_reading(b"escape with 33 second ones", &escape_33);
-    // 32 or 33 ones and a zero, then zeros: 31 bits of the run length.
+}
+
+// 32 or 33 ones and a zero, then zeros: 31 bits of the run length.
+fn run_runs() {
     let run_32 = [255, 255, 255, 255, 0, 0, 0, 0];
     run_reading(b"run of 32 ones", &run_32);
     let run_33 = [255, 255, 255, 255, 1, 0, 0, 0, 0];
     run_reading(b"run of 33 ones", &run_33);
+}
+
+// Fields of one payload.
+fn run_fields(word: &[u8]) {
+    run_field(b"9 bits at place 1", word, 1, 9);
+    run_field(b"9 bits at place 8", word, 8, 9);
+    run_field(b"33 bits at place 0", word, 0, 33);
+}
+
+// A payload under a right set of zeros, and under the left set alone.
+fn run_silent(word: &[u8]) {
+    let left_only = [0, 1, 0, 1, 0, 1, 0, 0, 0, 0, 0, 0];
+    run_reading_from(b"right medians 0, read", &left_only, word);
+    run_packing(b"right medians 0, packed", &left_only);
+    run_trip(b"right medians 0, round trip", &left_only);
+    run_reading_from(b"6 entropy bytes, read", &left_only[..6], word);
+    run_packing(b"6 entropy bytes, packed", &left_only[..6]);
+}
+
+fn main() {
+    run_entropies();
+    run_escapes();
+    run_runs();
     run_passes(b"16 passes", 16);
     run_passes(b"17 passes", 17);
     let word = [126, 2];
-    run_field(b"9 bits at place 1", &word, 1, 9);
-    run_field(b"9 bits at place 8", &word, 8, 9);
-    run_field(b"33 bits at place 0", &word, 0, 33);
-    let left_only = [0, 1, 0, 1, 0, 1, 0, 0, 0, 0, 0, 0];
-    run_reading_from(b"right medians 0, read", &left_only, &word);
-    run_packing(b"right medians 0, packed", &left_only);
-    run_trip(b"right medians 0, round trip", &left_only);
-    run_reading_from(b"6 entropy bytes, read", &left_only[..6], &word);
-    run_packing(b"6 entropy bytes, packed", &left_only[..6]);
+    run_fields(&word);
+    run_silent(&word);
     run_reach();
     run_joined();
     run_seventeen();

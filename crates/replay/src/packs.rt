@@ -44,8 +44,6 @@ pub fn packing_agrees(record: &[u8]) -> bool {
     let mut answer = [0u32; 7];
     let frames = number_at(record, 0) as usize;
     let refusal = pack(&residuals, &record[4..16], frames, &mut out, &mut answer);
-    if refusal != number_at(record, 20) {
-        return false;
-    }
-    holds(&record[84..], &answer) && holds_bytes(&record[112..], &out)
+    let told = (refusal == number_at(record, 20)) & holds(&record[84..], &answer);
+    told & holds_bytes(&record[112..], &out)
 }

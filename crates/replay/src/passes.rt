@@ -34,7 +34,7 @@ pub fn making_agrees(record: &[u8]) -> bool {
         part_signed(&seed_b, number_at(record, 5)),
         &mut pass,
     );
-    refusal == number_at(record, 24) && holds_signed(stored, &pass)
+    (refusal == number_at(record, 24)) & holds_signed(stored, &pass)
 }
 
 // Analysis, or decorrelation, of a buffer by passes of 20 slots each.
@@ -82,8 +82,6 @@ pub fn passes_agree(record: &[u8]) -> bool {
         &mut buffer,
         length,
     );
-    if refusal != number_at(record, 107) {
-        return false;
-    }
-    holds_signed(&record[432..], &passes) && holds_signed(&record[752..], &buffer)
+    let told = (refusal == number_at(record, 107)) & holds_signed(&record[432..], &passes);
+    told & holds_signed(&record[752..], &buffer)
 }

@@ -4,6 +4,7 @@ use crate::numbers::holds_signed;
 use crate::numbers::load;
 use crate::numbers::number_at;
 use crate::numbers::part;
+use crate::numbers::signed_at;
 
 // Whether a word, read from the state that a record of 140 bytes holds, is refused or given as
 // stored.
@@ -17,15 +18,11 @@ pub fn word_agrees(record: &[u8]) -> bool {
     let mut report = [0u32; 2];
     let payload = part(&record[56..72], number_at(record, 0));
     let refusal = wavpack_stereo::wv_word(payload, &mut state, &mut sample, &mut report);
-    if refusal != number_at(record, 18) {
-        return false;
-    }
-    holds_signed(&record[76..], &sample)
-        && holds(&record[80..], &state)
-        && holds(&record[132..], &report)
+    let told = (refusal == number_at(record, 18)) & (sample[0] == signed_at(record, 19));
+    told & holds(&record[80..], &state) & holds(&record[132..], &report)
 }
 
-// Reads into the first two numbers a frame of a list; into all of a list that has fewer.
+// Reads into the first two numbers a frame of a list; 0, with nothing read, where it has fewer.
 fn read(
     entropy: &[u8],
     payload: &[u8],
@@ -34,16 +31,16 @@ fn read(
     answer: &mut [u32],
 ) -> u32 {
     let count = 2 * (frames as usize);
-    if count < samples.len() {
-        return wavpack_stereo::wv_read(
-            entropy,
-            payload,
-            frames as usize,
-            &mut samples[..count],
-            answer,
-        );
+    if count > samples.len() {
+        return 0;
     }
-    wavpack_stereo::wv_read(entropy, payload, frames as usize, samples, answer)
+    wavpack_stereo::wv_read(
+        entropy,
+        payload,
+        frames as usize,
+        &mut samples[..count],
+        answer,
+    )
 }
 
 // Whether a reading of up to 16 frames, as a record of 232 bytes holds it, is answered as stored.
@@ -61,8 +58,6 @@ pub fn reading_agrees(record: &[u8]) -> bool {
         &mut samples,
         &mut answer,
     );
-    if refusal != number_at(record, 17) {
-        return false;
-    }
-    holds(&record[72..], &answer) && holds_signed(&record[104..], &samples)
+    let told = (refusal == number_at(record, 17)) & holds(&record[72..], &answer);
+    told & holds_signed(&record[104..], &samples)
 }

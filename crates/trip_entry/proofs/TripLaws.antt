@@ -166,7 +166,7 @@ module _ (ps : List DecorrPass) (n : ℕ) (x : List ℤ) (entropy : List ℕ) (s
       let size : length v ≤ maxElements = omega (arith, f .size, M .size) in (
         array-runs Decorrelation ps n v (record { few = M .few; size = size; valid = M .valid }),
         ap (λ (t : List ℤ). decorrelated (take n ps) t .buffer) (f .is)
-        ∙ ap (λ (t : Chain). t .buffer) (decorrelated-analysed (take n ps) x fit),
+            ∙ ap (λ (t : Chain). t .buffer) (decorrelated-analysed (take n ps) x fit),
       )
 
   -- the recording is back

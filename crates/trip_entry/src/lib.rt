@@ -67,6 +67,14 @@ pub fn round_trip(
     TripAnswer {
         outcome: Outcome::Accepted,
         bits: bits,
-        same: read_back(passes, count, entropy, &packed[..end], bits, recording, scratch),
+        same: read_back(
+            passes,
+            count,
+            entropy,
+            &packed[..end],
+            bits,
+            recording,
+            scratch,
+        ),
     }
 }
