@@ -40,8 +40,8 @@ pub record AfterRun (before after : List ℤ) (t : Turn) (owed next : ℕ) (r : 
 
 -- a sample of count k is written, the medians due are adapted to k, and short words took the reading
 -- on from there
-pub record AfterSample (payload : List ℕ) (before after : List ℤ) (t : Turn) (v : ℤ) (k next : ℕ) (zero one : Bool)
-    (r : Turn) : Type 0 where
+pub record AfterSample (payload : List ℕ) (before after : List ℤ) (t : Turn) (v : ℤ) (k next : ℕ)
+    (zero one : Bool) (r : Turn) : Type 0 where
   pub due : AdaptiveMedians
   pub adapted : mediansOf due ≡ adapt (mediansOf (getD (t .medians) (t .written % 2) zeroSet)) k
   pub to : Standing

@@ -45,19 +45,24 @@ module _ (payload : List ℕ) (out₀ : List ℤ) (s₀ : State) (out : List ℤ
       }
 
   -- a zero that is owed
-  pub words-paid : 0 < owed → i < length out → Words payload out₀ s₀ (set out i (pos 0)) ms (owed - 1) b z o p (i + 1)
+  pub words-paid : 0 < owed → i < length out
+      → Words payload out₀ s₀ (set out i (pos 0)) ms (owed - 1) b z o p (i + 1)
   words-paid n h =
       let e = word-paid (bitsOf payload) p (l .state) (omega (arith, l .held .debt-is)) in
       let d : l .state .debt - 1 ≡ owed - 1 = omega (arith, l .held .debt-is) in
       step (pos 0) p (paid (owed - 1) (l .state)) _ ms (owed - 1) b z o h (rw d at e) (held-paid (l .state) ms owed b z o i (l .held) (owed - 1))
 
   -- the word where none is owed, as it was read
-  module _ (r : Coded) (h : i < length out) (c : codedWord (l .state) r ≡ word (bitsOf payload) p (l .state)) where
-    pub words-run : (d q : ℕ) → r ≡ Coded.Run d q → Words payload out₀ s₀ (set out i (pos 0)) (zeroSet ∷ zeroSet ∷ []) d true z o q (i + 1)
+  module _ (r : Coded) (h : i < length out) (c : codedWord (l .state) r ≡ word (bitsOf payload) p
+      (l .state)) where
+    pub words-run : (d q : ℕ) → r ≡ Coded.Run d q
+        → Words payload out₀ s₀ (set out i (pos 0)) (zeroSet ∷ zeroSet ∷ []) d true z o q (i + 1)
     words-run d q e =
-        step (pos 0) q _ _ (zeroSet ∷ zeroSet ∷ []) d true z o h (sym c ∙ ap (codedWord (l .state)) e) (held-run (l .state) ms owed b z o i (l .held) d)
+        step (pos 0) q _ _ (zeroSet ∷ zeroSet ∷ []) d true z o h (sym c ∙ ap (codedWord (l .state)) e)
+        (held-run (l .state) ms owed b z o i (l .held) d)
 
     pub words-sample : (v : ℤ) (k q : ℕ) (z' o' : Bool) (x : AdaptiveMedians) → r ≡ Coded.Sample v k q z' o' → mediansOf x ≡ adapt (mediansOf (getD ms (i % 2) noSet)) k
         → Words payload out₀ s₀ (set out i v) (set ms (i % 2) x) owed false z' o' q (i + 1)
     words-sample v k q z' o' x e a =
-        step v q _ _ (set ms (i % 2) x) owed false z' o' h (sym c ∙ ap (codedWord (l .state)) e) (held-sample (l .state) ms owed b z o i (l .held) k x z' o' a)
+        step v q _ _ (set ms (i % 2) x) owed false z' o' h (sym c ∙ ap (codedWord (l .state)) e)
+        (held-sample (l .state) ms owed b z o i (l .held) k x z' o' a)

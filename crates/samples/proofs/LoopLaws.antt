@@ -54,7 +54,8 @@ module _ (payload : List ℕ) (out₀ : List ℤ) (s₀ : State) (out : List ℤ
 
   -- a refused word
   words-stop : (w : ℕ) → i < length out → word (bitsOf payload) p (l .state) ≡ refused w
-      → record { refusal = w; bits = p; medians = pairOf ms; written = i; list = out } ≡ tellReading out₀ (reading (bitsOf payload) (length out₀) 0 s₀)
+      → record { refusal = w; bits = p; medians = pairOf ms; written = i; list = out }
+      ≡ tellReading out₀ (reading (bitsOf payload) (length out₀) 0 s₀)
   words-stop w h e =
       let n = length out₀ - (i + 1) in
       let m : length out₀ - i ≡ suc n = omega (arith, l .same) in
@@ -89,12 +90,20 @@ two-sets (a ∷ b ∷ c ∷ ms) e = absurd (omega arith)
 -- between two turns zeros are owed only where the list ends
 pub record Loop (payload : List ℕ) (out₀ : List ℤ) (s₀ : State) (out : List ℤ) (t : Turn) : Type 0 where
   pub owed : ℕ
-  pub words : Words payload out₀ s₀ out (t .medians) owed (t .«run_break») (t .«last_zero») (t .«last_one») (t .bits) (t .written)
+  pub words : Words payload out₀ s₀ out (t .medians) owed (t .«run_break») (t .«last_zero») (t .«last_one»)
+      (t .bits) (t .written)
   pub settled : t .written < length out → owed ≡ 0
 
 -- the turn before the first word
 abbrev pub first : List AdaptiveMedians → Turn
-first ms = record { bits = 0; written = 0; medians = ms; «run_break» = false; «last_zero» = false; «last_one» = false }
+first ms = record {
+  bits = 0;
+  written = 0;
+  medians = ms;
+  «run_break» = false;
+  «last_zero» = false;
+  «last_one» = false;
+}
 
 -- it holds the start
 pub loop-start : (payload : List ℕ) (out : List ℤ) (ms : List AdaptiveMedians) → length ms ≡ 2
@@ -104,17 +113,32 @@ loop-start payload out ms l =
     let s = start (pairOf ms .left) (pairOf ms .right) in
     record {
       owed = 0;
-      words = record { state = s; held = held-start ms l; here = omega arith; same = refl; is = rw e; others = refl };
+      words = record {
+        state = s;
+        held = held-start ms l;
+        here = omega arith;
+        same = refl;
+        is = rw e;
+        others = refl;
+      };
       settled = λ h. refl;
     }
 
 -- the answer of a loop that ends there, with the refusal c
 abbrev pub ended : ℕ → Turn → List ℤ → ReadTold
-ended c t out = record { refusal = c; bits = t .bits; medians = pairOf (t .medians); written = t .written; list = out }
+ended c t out = record {
+  refusal = c;
+  bits = t .bits;
+  medians = pairOf (t .medians);
+  written = t .written;
+  list = out;
+}
 
-module _ (payload : List ℕ) (out₀ : List ℤ) (s₀ : State) (out : List ℤ) (t : Turn) (l : Loop payload out₀ s₀ out t) where
+module _ (payload : List ℕ) (out₀ : List ℤ) (s₀ : State) (out : List ℤ) (t : Turn)
+    (l : Loop payload out₀ s₀ out t) where
   -- the end of the list
-  pub loop-end : length out ≤ t .written → ended 0 t out ≡ tellReading out₀ (reading (bitsOf payload) (length out₀) 0 s₀)
+  pub loop-end : length out ≤ t .written
+      → ended 0 t out ≡ tellReading out₀ (reading (bitsOf payload) (length out₀) 0 s₀)
   loop-end h = words-end payload out₀ s₀ out _ (l .owed) _ _ _ _ _ (l .words) h
 
   module _ (r : Coded) (h : t .written < length out) (c : WordAt payload t r) where
@@ -134,9 +158,11 @@ module _ (payload : List ℕ) (out₀ : List ℤ) (s₀ : State) (out : List ℤ
         let k : j - i ≡ suc n = omega (arith, zs .some) in
         let m : i + 1 + n ≡ j = omega (arith, zs .some) in
         let y : zeroed (set out i (pos 0)) (i + 1) n ≡ after = zeroed-first out i n h ∙ ap (zeroed out i) (sym k) ∙ sym (zs .list-is) in
-        let u = words-zeros payload out₀ s₀ (set out i (pos 0)) (zeroSet ∷ zeroSet ∷ []) d true _ _ q (i + 1) n w (omega (arith, zs .most))
+        let u = words-zeros payload out₀ s₀ (set out i (pos 0)) (zeroSet ∷ zeroSet ∷ []) d true _ _ q
+        (i + 1) n w (omega (arith, zs .most))
         (omega (arith, zs .some, zs .within, length-set out i (pos 0))) in
-        let g : length after ≡ length out = ap length (zs .list-is) ∙ zeroed-length out i (j - i) (omega (arith, zs .some, zs .within)) in
+        let g : length after ≡ length out =
+        ap length (zs .list-is) ∙ zeroed-length out i (j - i) (omega (arith, zs .some, zs .within)) in
         subst (λ (y : Turn). Loop payload out₀ s₀ after y) (sym (a .turn-is)) (record {
           owed = d - n;
           words = rw (y, m) at u;
@@ -144,17 +170,20 @@ module _ (payload : List ℕ) (out₀ : List ℤ) (s₀ : State) (out : List ℤ
         })
 
     -- a sample, and the short words after it
-    pub loop-sample : (v : ℤ) (k q : ℕ) (z' o' : Bool) (after : List ℤ) (x : Turn) → r ≡ Coded.Sample v k q z' o'
+    pub loop-sample : (v : ℤ) (k q : ℕ) (z' o' : Bool) (after : List ℤ) (x : Turn)
+        → r ≡ Coded.Sample v k q z' o'
         → AfterSample payload out after t v k q z' o' x → Loop payload out₀ s₀ after x
     loop-sample v k q z' o' after x e a =
         let i = t .written in
         let ms = t .medians in
         let due : mediansOf (a .due) ≡ adapt (mediansOf (getD ms (i % 2) noSet)) k =
         rw (there ms (i % 2) (l .words .held .pair) (omega arith)) (a .adapted) in
-        let w = words-sample payload out₀ s₀ out ms (l .owed) _ _ _ _ i (l .words) r h read v k q z' o' (a .due) e due in
+        let w = words-sample payload out₀ s₀ out ms (l .owed) _ _ _ _ i (l .words) r h read
+        v k q z' o' (a .due) e due in
         subst (λ (y : Turn). Loop payload out₀ s₀ after y) (sym (a .turn-is)) (record {
           owed = 0;
-          words = a .onward .goes out₀ s₀ (rw (two-sets (set ms (i % 2) (a .due)) (w .held .pair), l .settled h) at w);
+          words = a .onward .goes out₀ s₀
+              (rw (two-sets (set ms (i % 2) (a .due)) (w .held .pair), l .settled h) at w);
           settled = λ f. refl;
         })
 

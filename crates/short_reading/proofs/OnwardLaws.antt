@@ -39,10 +39,12 @@ onward-then payload a b c x y z f g = record {
   same = g .same ∙ f .same;
 }
 
-module _ (payload : List ℕ) (out : List ℤ) (x : Standing) (w : ℕ) (h : x .written < length out) (v : Ready payload x w) (y : ShortWord) where
+module _ (payload : List ℕ) (out : List ℤ) (x : Standing) (w : ℕ) (h : x .written < length out)
+    (v : Ready payload x w) (y : ShortWord) where
   -- the word of the channel c, whose medians are due, and the two sets after it
   onward-word : (c : ℕ) (due left right : AdaptiveMedians) (other : Medians) → x .written % 2 ≡ c → getD (x .left ∷ x .right ∷ []) c noSet ≡ due
-      → set (x .left ∷ x .right ∷ []) c (y .medians) ≡ left ∷ right ∷ [] → ShortWordIs w (mediansOf due) other (x .«last_zero») (x .«last_one») y
+      → set (x .left ∷ x .right ∷ []) c (y .medians) ≡ left ∷ right ∷ []
+      → ShortWordIs w (mediansOf due) other (x .«last_zero») (x .«last_one») y
       → Onward payload out (set out (x .written) (y .value)) x (behind x y left right)
   onward-word c due left right other e d f t =
       let bits = bitsOf payload in
@@ -51,7 +53,8 @@ module _ (payload : List ℕ) (out : List ℤ) (x : Standing) (w : ℕ) (h : x .
       let k = coded-word bits (x .place) (mediansOf due) (x .«last_zero») (x .«last_one») false (x .place) _ (run-skipped bits (x .place)) (t .is bits (x .place) (v .window)) in
       record {
         goes = λ out₀ s₀ l.
-            let n = held-coded (l .state) sets 0 false (x .«last_zero») (x .«last_one») (x .written) (l .held) in
+            let n = held-coded (l .state) sets 0 false (x .«last_zero») (x .«last_one»)
+            (x .written) (l .held) in
             let c = n bits (x .place) word false refl (sym (v .no-run)) (rw (e, d) k) in
             rw (e, f) at (words-sample payload out₀ s₀ out sets 0 false _ _ _ (x .written) l word h c
             (y .value) (t .count) (x .place + y .used) _ _ (y .medians) refl (rw (e, d) (t .adapted)));
@@ -60,11 +63,13 @@ module _ (payload : List ℕ) (out : List ℤ) (x : Standing) (w : ℕ) (h : x .
         same = length-set out (x .written) (y .value);
       }
 
-  pub onward-left : x .written % 2 ≡ 0 → ShortWordIs w (mediansOf (x .left)) (mediansOf (x .right)) (x .«last_zero») (x .«last_one») y
+  pub onward-left : x .written % 2 ≡ 0
+      → ShortWordIs w (mediansOf (x .left)) (mediansOf (x .right)) (x .«last_zero») (x .«last_one») y
       → Onward payload out (set out (x .written) (y .value)) x (behind x y (y .medians) (x .right))
   onward-left e t = onward-word 0 (x .left) (y .medians) (x .right) (mediansOf (x .right)) e refl refl t
 
-  pub onward-right : x .written % 2 ≡ 1 → ShortWordIs w (mediansOf (x .right)) (mediansOf (x .left)) (x .«last_zero») (x .«last_one») y
+  pub onward-right : x .written % 2 ≡ 1
+      → ShortWordIs w (mediansOf (x .right)) (mediansOf (x .left)) (x .«last_zero») (x .«last_one») y
       → Onward payload out (set out (x .written) (y .value)) x (behind x y (x .left) (y .medians))
   onward-right e t = onward-word 1 (x .right) (x .left) (y .medians) (mediansOf (x .left)) e refl refl t
 
@@ -74,7 +79,8 @@ module _ (payload : List ℕ) (out : List ℤ) (x : Standing) (w : ℕ) (h : x .
 pub step-none : (payload : List ℕ) (out : List ℤ) (x : Standing) (w : ℕ) → x .written ≤ length out → StepIs payload out out x (record { on = false; w = w; at = x })
 step-none payload out x w h = record { onward = onward-none payload out x h; ready = λ e. clash e refl; next = λ e. clash e refl; near = omega arith }
 
-module _ (payload : List ℕ) (out after : List ℤ) (x : Standing) (w : ℕ) (h : x .written < length out) (v : Ready payload x w) (y : ShortWord) (r : Step) where
+module _ (payload : List ℕ) (out after : List ℤ) (x : Standing) (w : ℕ) (h : x .written < length out)
+    (v : Ready payload x w) (y : ShortWord) (r : Step) where
   -- a word, with the two sets after it
   stepped-on : (left right : AdaptiveMedians) → Onward payload out (set out (x .written) (y .value)) x (behind x y left right) → y .used ≤ 57
       → (y .on ≡ true → runDue (mediansOf left) (mediansOf right) (y .«last_zero») (y .«last_one») ≡ false) → SteppedIs payload out after x y left right r
@@ -86,11 +92,13 @@ module _ (payload : List ℕ) (out after : List ℤ) (x : Standing) (w : ℕ) (h
     near = rw (s .at-is) (omega arith);
   }
 
-  pub left-step : x .written % 2 ≡ 0 → ShortWordIs w (mediansOf (x .left)) (mediansOf (x .right)) (x .«last_zero») (x .«last_one») y
+  pub left-step : x .written % 2 ≡ 0
+      → ShortWordIs w (mediansOf (x .left)) (mediansOf (x .right)) (x .«last_zero») (x .«last_one») y
       → SteppedIs payload out after x y (y .medians) (x .right) r → StepIs payload out after x r
   left-step e t s = stepped-on (y .medians) (x .right) (onward-left payload out x w h v y e t) (t .most) (t .unbroken) s
 
-  pub right-step : x .written % 2 ≡ 1 → ShortWordIs w (mediansOf (x .right)) (mediansOf (x .left)) (x .«last_zero») (x .«last_one») y
+  pub right-step : x .written % 2 ≡ 1
+      → ShortWordIs w (mediansOf (x .right)) (mediansOf (x .left)) (x .«last_zero») (x .«last_one») y
       → SteppedIs payload out after x y (x .left) (y .medians) r → StepIs payload out after x r
   right-step e t s = stepped-on (x .left) (y .medians) (onward-right payload out x w h v y e t) (t .most) (λ o. due-either _ _ _ _ ∙ t .unbroken o) s
 

@@ -33,7 +33,8 @@ behind x word left right = record {
 }
 
 -- the sample of a word is written, and the reading stands behind it
-pub record SteppedIs (payload : List ℕ) (before after : List ℤ) (from : Standing) (word : ShortWord) (left right : AdaptiveMedians) (r : Step) : Type 0 where
+pub record SteppedIs (payload : List ℕ) (before after : List ℤ) (from : Standing) (word : ShortWord)
+    (left right : AdaptiveMedians) (r : Step) : Type 0 where
   pub list-is : after ≡ set before (from .written) (word .value)
   pub at-is : r .at ≡ behind from word left right
   pub on-is : r .on ≡ word .on

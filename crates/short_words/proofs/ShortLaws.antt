@@ -119,7 +119,8 @@ module _ (w n lo hi : ℕ) (h : ShortPrefix w n lo hi) (after : AdaptiveMedians)
       }
 
 -- fewer than two ones: the count is 1 where last_one is set, and 0 elsewhere
-pub few-counted : (w n lo hi : ℕ) (after : AdaptiveMedians) (r : ShortWord) → CountedIs w n lo hi after r → n < 2 → (due other : Medians) (o : Bool) → IntervalIs due (val o) lo hi
+pub few-counted : (w n lo hi : ℕ) (after : AdaptiveMedians) (r : ShortWord) → CountedIs w n lo hi after r
+    → n < 2 → (due other : Medians) (o : Bool) → IntervalIs due (val o) lo hi
     → mediansOf after ≡ adapt due (val o) → ShortWordIs w due other false o r
 few-counted w n lo hi after r c h due other o i a = let k : n / 2 + val o ≡ val o = omega arith in c .is due other o (rw k i) (rw k a)
 
@@ -152,13 +153,16 @@ module _ (w lo hi : ℕ) (due other : Medians) (o : Bool) (i : IntervalIs due 0 
 -- ---- given or not
 
 -- behind an announced zero
-pub given-announced : (w : ℕ) (due other : Medians) (o : Bool) (r : ShortWord) → ShortWordIs w due other true o r → WordIs w due other true o r
+pub given-announced : (w : ℕ) (due other : Medians) (o : Bool) (r : ShortWord)
+    → ShortWordIs w due other true o r → WordIs w due other true o r
 given-announced w due other o r p = record { fits = p .given; word = λ t. p }
 
 -- with fewer than 16 ones
-pub given-counted : (w n : ℕ) (due other : Medians) (o : Bool) (r : ShortWord) → n ≡ onesOf w → n < 16 → ShortWordIs w due other false o r → WordIs w due other false o r
+pub given-counted : (w n : ℕ) (due other : Medians) (o : Bool) (r : ShortWord) → n ≡ onesOf w → n < 16
+    → ShortWordIs w due other false o r → WordIs w due other false o r
 given-counted w n due other o r e h p = record { fits = p .given ∙ sym (rw (sym e) (lt-ltb n _ (omega arith))); word = λ t. p }
 
 -- with more
-pub not-given : (w n : ℕ) (due other : Medians) (o : Bool) (r : ShortWord) → n ≡ onesOf w → 16 ≤ n → r .fit ≡ false → WordIs w due other false o r
+pub not-given : (w n : ℕ) (due other : Medians) (o : Bool) (r : ShortWord) → n ≡ onesOf w → 16 ≤ n
+    → r .fit ≡ false → WordIs w due other false o r
 not-given w n due other o r e h f = record { fits = f ∙ sym (rw (sym e) (le-ltb n _ (omega arith))); word = λ t. clash t f }

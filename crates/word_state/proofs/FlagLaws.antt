@@ -17,7 +17,8 @@ swapped false true = refl
 swapped false false = refl
 
 -- the flags are shared (S1): what a word of one channel leaves is what the next, of the other, finds
-pub flags-shared : (k : ℕ) (z o : Bool) (s : State) → let t = after k (withFlags z o s) in (t .lastZero ≡ z) × (t .lastOne ≡ o)
+pub flags-shared : (k : ℕ) (z o : Bool) (s : State) →
+    let t = after k (withFlags z o s) in (t .lastZero ≡ z) × (t .lastOne ≡ o)
 unfolding after
 flags-shared k z o s = (refl, refl)
 

@@ -28,7 +28,8 @@ record Zeroing (before : List ℤ) (first owed end : ℕ) (out : List ℤ) (i : 
   here : i ≤ end
   ends : Ends (length before) first owed end
 
-same : (before : List ℤ) (first owed end : ℕ) (out : List ℤ) (i : ℕ) → Zeroing before first owed end out i → length out ≡ length before
+same : (before : List ℤ) (first owed end : ℕ) (out : List ℤ) (i : ℕ) → Zeroing before first owed end out i
+    → length out ≡ length before
 same before first owed end out i l =
     ap length (l .list-is) ∙ zeroed-length before first (i - first) (omega (arith, l .from, l .here, l .ends .within))
 
@@ -38,7 +39,8 @@ Inv-loop out₀ first owed run end i₀ out i = Zeroing out₀ first owed end ou
 abbrev μ-loop : tie.MeasureT-loop
 μ-loop out₀ first owed run end i₀ out i = end - i
 
-ends-are : (c : tie.Joined1 Inv-loop μ-loop) → let a = c .before .args in Ends (length (now (a .out))) (a .first) (a .owed) (c .if1 .end)
+ends-are : (c : tie.Joined1 Inv-loop μ-loop) →
+    let a = c .before .args in Ends (length (now (a .out))) (a .first) (a .owed) (c .if1 .end)
 ends-are c =
     let s = c .before .pre in
     ⊎-elim

@@ -48,7 +48,8 @@ loop-again c =
     let w : tie.After-word-at Inv-loop μ-loop = search needs in
     let y : tie.After-owed Inv-loop μ-loop = search needs in
     let a = c .before .after-run .ensures in
-    loop-run _ _ _ _ _ (i .before .before .loop .inv) _ (room i) (w .word-at .ensures) _ _ _ _ (y .owed .given .1) a
+    loop-run _ _ _ _ _ (i .before .before .loop .inv) _ (room i) (w .word-at .ensures)
+    _ _ _ _ (y .owed .given .1) a
 
 loop-less-2 : tie.Need-loop-less-2 Inv-loop μ-loop
 loop-less-2 c =
@@ -56,7 +57,8 @@ loop-less-2 c =
     let l = i .before .before .loop in
     let a = c .before .after-sample .ensures in
     let g = a .onward .since in
-    let e : c .before .after-sample .result .written ≡ a .to .written = ap (λ (t : Turn). t .written) (a .turn-is) in
+    let e : c .before .after-sample .result .written ≡ a .to .written =
+    ap (λ (t : Turn). t .written) (a .turn-is) in
     omega (arith, room i, l .inv .words .same)
 
 loop-again-2 : tie.Need-loop-again-2 Inv-loop μ-loop
@@ -67,7 +69,8 @@ loop-again-2 c =
     let v = y .value .given .0 .0 in
     let f : SFits w32 v = search needs in
     let a = rw (toZ-ofZ f) at (c .before .after-sample .ensures) in
-    loop-sample _ _ _ _ _ (i .before .before .loop .inv) _ (room i) (w .word-at .ensures) v _ _ _ _ _ _ (y .value .given .1) a
+    loop-sample _ _ _ _ _ (i .before .before .loop .inv) _ (room i) (w .word-at .ensures)
+    v _ _ _ _ _ _ (y .value .given .1) a
 
 returns : tie.Need-returns Inv-loop μ-loop
 returns c =
