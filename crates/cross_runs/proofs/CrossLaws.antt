@@ -37,11 +37,13 @@ cross-step Analysis false p u v k m x y = refl
 module _ (d : Direction) (f : Bool) (p : DecorrPass) (whole : List ℤ) where
   -- a turn of the loop
   pub cross-turn : (u v k : ℤ) {X Y C D : ℤ} {l after : List ℤ} {i : ℕ} {r : Frame} (A B : Turned)
-      → Done (turn d (crossTerm f)) p whole (crossAt f p u v k) l (i / 2) i → i + 1 < length l → r ≡ frameAt l i
+      → Done (turn d (crossTerm f)) p whole (crossAt f p u v k) l (i / 2) i → i + 1 < length l
+      → r ≡ frameAt l i
       → X ≡ cond f (reread (r .b)) (reread (r .a)) → Y ≡ cond f (reread (r .a)) (reread (r .b))
       → A ≡ turned d true u (reread (p .delta)) k (reread X)
       → B ≡ turned d true v (reread (p .delta)) (reread (A .sample)) (reread Y)
-      → C ≡ cond f (reread (B .element)) (reread (A .element)) → D ≡ cond f (reread (A .element)) (reread (B .element))
+      → C ≡ cond f (reread (B .element)) (reread (A .element))
+      → D ≡ cond f (reread (A .element)) (reread (B .element))
       → after ≡ frameStored l i (reread C) (reread D)
       → FrameFits r → SFits w32 X → SFits w32 Y → TurnedFits A → TurnedFits B → SFits w32 C → SFits w32 D
       → let q = crossAt f p (reread (A .weight)) (reread (B .weight)) (reread (B .sample)) in
@@ -63,10 +65,12 @@ module _ (d : Direction) (f : Bool) (p : DecorrPass) (whole : List ℤ) where
       (rw (toZ-ofZ w32 C fC, toZ-ofZ w32 D fD) at es)))
 
 -- where the loop starts
-pub cross-start : (f : Bool) (p : DecorrPass) {A B U W K : ℤ} → A ≡ slot (p .«history_a») 0 → B ≡ slot (p .«history_b») 0
+pub cross-start : (f : Bool) (p : DecorrPass) {A B U W K : ℤ} → A ≡ slot (p .«history_a») 0
+    → B ≡ slot (p .«history_b») 0
     → U ≡ cond f (reread (p .«weight_b»)) (reread (p .«weight_a»))
     → W ≡ cond f (reread (p .«weight_a»)) (reread (p .«weight_b»)) → K ≡ cond f (reread B) (reread A)
-    → length (p .«history_a») ≡ 8 → length (p .«history_b») ≡ 8 → SFits w32 (p .«weight_a») → SFits w32 (p .«weight_b»)
+    → length (p .«history_a») ≡ 8 → length (p .«history_b») ≡ 8 → SFits w32 (p .«weight_a»)
+    → SFits w32 (p .«weight_b»)
     → SFits w32 A → SFits w32 B → SFits w32 U → SFits w32 W → SFits w32 K
     → crossAt f p (reread U) (reread W) (reread K) ≡ p
 cross-start true p {A} {B} {U} {W} {K} eA eB eu ev ek ha hb fa fb fA fB fu fv fk =
@@ -100,7 +104,8 @@ cross-start false p {A} {B} {U} {W} {K} eA eB eu ev ek ha hb fa fb fA fB fu fv f
 
 -- the pass that is put together after the loop
 pub cross-end : (f : Bool) (p : DecorrPass) (u v k : ℤ) {U W A B : ℤ}
-    → A ≡ cond f (reread (slot (p .«history_a») 0)) (reread k) → B ≡ cond f (reread k) (reread (slot (p .«history_b») 0))
+    → A ≡ cond f (reread (slot (p .«history_a») 0)) (reread k)
+    → B ≡ cond f (reread k) (reread (slot (p .«history_b») 0))
     → U ≡ cond f (reread v) (reread u) → W ≡ cond f (reread u) (reread v)
     → length (p .«history_a») ≡ 8 → length (p .«history_b») ≡ 8 → SFits w32 u → SFits w32 v → SFits w32 k
     → SFits w32 (slot (p .«history_a») 0) → SFits w32 (slot (p .«history_b») 0)

@@ -36,10 +36,12 @@ swap-step Analysis p wa wb ha hb m x y = refl
 module _ (d : Direction) (p : DecorrPass) (whole : List ℤ) where
   -- a turn of the loop
   pub swap-turn : {wa wb ha hb : ℤ} {l after : List ℤ} {i : ℕ} {f : Frame} (A B : Turned)
-      → Done (turn d MinusThree) p whole (swapAt p wa wb ha hb) l (i / 2) i → i + 1 < length l → f ≡ frameAt l i
+      → Done (turn d MinusThree) p whole (swapAt p wa wb ha hb) l (i / 2) i → i + 1 < length l
+      → f ≡ frameAt l i
       → A ≡ turned d true wa (reread (p .delta)) hb (reread (f .a))
       → B ≡ turned d true wb (reread (p .delta)) ha (reread (f .b))
-      → after ≡ frameStored l i (reread (A .element)) (reread (B .element)) → FrameFits f → TurnedFits A → TurnedFits B
+      → after ≡ frameStored l i (reread (A .element)) (reread (B .element)) → FrameFits f → TurnedFits A
+      → TurnedFits B
       → let q = swapAt p (reread (A .weight)) (reread (B .weight)) (reread (A .sample)) (reread (B .sample)) in
       Done (turn d MinusThree) p whole q after ((i + 2) / 2) (i + 2)
   swap-turn {wa} {wb} {ha} {hb} {l} {after} {i} {f} A B done h ef ea eb es ff fa fb =
@@ -57,8 +59,10 @@ module _ (d : Direction) (p : DecorrPass) (whole : List ℤ) where
 
 -- where the loop starts
 pub swap-start : (p : DecorrPass) {A B : ℤ} → A ≡ slot (p .«history_a») 0 → B ≡ slot (p .«history_b») 0
-    → length (p .«history_a») ≡ 8 → length (p .«history_b») ≡ 8 → SFits w32 (p .«weight_a») → SFits w32 (p .«weight_b»)
-    → SFits w32 A → SFits w32 B → swapAt p (reread (p .«weight_a»)) (reread (p .«weight_b»)) (reread A) (reread B) ≡ p
+    → length (p .«history_a») ≡ 8 → length (p .«history_b») ≡ 8 → SFits w32 (p .«weight_a»)
+    → SFits w32 (p .«weight_b»)
+    → SFits w32 A → SFits w32 B
+    → swapAt p (reread (p .«weight_a»)) (reread (p .«weight_b»)) (reread A) (reread B) ≡ p
 swap-start p {A} {B} ea eb ha hb fa fb gA gB =
     kept p (rw (toZ-ofZ w32 A gA, ea) (head-back _ (omega (arith, ha)))) (rw (toZ-ofZ w32 B gB, eb) (head-back _ (omega (arith, hb)))) fa fb
 

@@ -67,8 +67,10 @@ module _ {M : Type 1} (𝓤 : URA M) (H : Heap 𝓤) (A : Atoms 𝓤) (W : Given
 
   goes-run-list : ent 𝓤 (⋆ 𝓤 H A (Tokens ∷ Passes (named 0) ∷ Buffer (named 1) ∷ [])) (RunList 𝓤 H A mem run .pre to-run-list)
   goes-run-list =
-      qed W (Tokens ∷ Passes (named 0) ∷ Buffer (named 1) ∷ []) ∵ nothing ! $ move ! (3 ∷ 0 ∷ []) $ fjoin ! $ move ! (2 ∷ 0 ∷ []) $ fjoin ! $
-      owned ! D.the-row (Is D.the-row) ((EL.makes D.the-type D′.the-plain) 𝓤 H A) dir _ dv-is $ fjoin ! $ move ! (1 ∷ 0 ∷ []) $ join ! $ frame ! $ done !
+      qed W (Tokens ∷ Passes (named 0) ∷ Buffer (named 1) ∷ []) ∵ nothing ! $ move ! (3 ∷ 0 ∷ []) $ fjoin ! $
+      move ! (2 ∷ 0 ∷ []) $ fjoin ! $
+      owned ! D.the-row (Is D.the-row) ((EL.makes D.the-type D′.the-plain) 𝓤 H A) dir _ dv-is $ fjoin ! $
+      move ! (1 ∷ 0 ∷ []) $ join ! $ frame ! $ done !
 
   -- the step itself
   pub calls-run-list : {Γ : List (Item 𝓤)} {E : Env 𝓤 H} {C : Calls 𝓤 H} {Λ : Loops 𝓤 H} {Q : Post 𝓤 H} {xs : List Operand} {d : Place}
@@ -85,7 +87,10 @@ module _ {M : Type 1} (𝓤 : URA M) (H : Heap 𝓤) (A : Atoms 𝓤) (W : Given
       split ! $ move ! (1 ∷ []) $ use1 W (some (λ (zs : Unit {0} × (List DecorrPass × (List ℤ × Unit {0}))). ‵ (lasts run-list.ended (κ, (κ′, tt)) (dir, (list-at b o γ P, (buf b′ o′ γ′ B, tt))) zs) ⊛ raw (fact 𝓤 (_≡_ {A = Chain} (record { passes = zs .1 .0; buffer = zs .1 .1 .0 }) (chained dir P B))))) (id⊢ 𝓤 _) $ pick ! (λ zs.
       split ! $ move ! (1 ∷ []) $ heard ! (_≡_ {A = Chain} (record { passes = zs .1 .0; buffer = zs .1 .1 .0 }) (chained dir P B)) (λ e. fsplit ! $ drop ! $ fsplit ! $ fsplit ! $ move ! (1 ∷ []) $ feqL ! (λ long. move ! (1 ∷ []) $ fsplit ! $ fsplit ! $ move ! (1 ∷ []) $ feqL ! (λ wide.
       -- [the buffer's last list; true; the passes' last list; the tokens and the result; Γ]
-      move ! (3 ∷ []) $ split ! $ move ! (1 ∷ []) $ peeks ! unit (Is unit) (shows 𝓤 H A unit) x (w ∷ []) (λ is. drop ! $ split ! $ move ! (1 ∷ []) $ split ! $
+      move ! (3 ∷ []) $ split ! $ move ! (1 ∷ []) $
+      peeks ! unit (Is unit) (shows 𝓤 H A unit) x (w ∷ []) (λ is. drop ! $ split ! $ move ! (1 ∷ []) $
+      split ! $
       -- [the buffer's token; true; the list's token; the buffer's last list; true; the passes' last
       -- list; Γ]
-      move ! (1 ∷ 4 ∷ []) $ drop ! $ drop ! $ move ! (3 ∷ 2 ∷ 1 ∷ 0 ∷ []) $ k w x (zs .1 .0) (zs .1 .1 .0) is long wide e)))))))
+      move ! (1 ∷ 4 ∷ []) $ drop ! $ drop ! $ move ! (3 ∷ 2 ∷ 1 ∷ 0 ∷ []) $
+      k w x (zs .1 .0) (zs .1 .1 .0) is long wide e)))))))

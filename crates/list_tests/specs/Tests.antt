@@ -21,7 +21,8 @@ allValid (p ∷ ps) = validPass p && allValid ps
 -- "5, over 262,144 elements; 9, over 16 passes; 7, an invalid term in the list" (X5), by whether
 -- all are valid and how many there are of each; 0 for none
 unfoldable pub listNumber : Bool → ℕ → ℕ → ℕ
-listNumber valid passes elements = cond (ltb maxElements elements) 5 (cond (ltb maxPasses passes) 9 (cond valid 0 7))
+listNumber valid passes elements =
+    cond (ltb maxElements elements) 5 (cond (ltb maxPasses passes) 9 (cond valid 0 7))
 
 -- ---- how the code goes about it
 

@@ -10,12 +10,16 @@ use Rattle.overlay.proofs.OverlayLaws.{overlay-length, overlay-on, overlay-whol
 use Rattle.made_slots.specs.MadeSlots.{passSlots, slotsOf}
 
 -- four numbers laid into 20 slots leave 20
-pub head-laid : (none head first : List ℤ) → first ≡ overlay none 0 head → length none ≡ passSlots → length head ≡ 4 → length first ≡ passSlots
+pub head-laid : (none head first : List ℤ) → first ≡ overlay none 0 head → length none ≡ passSlots
+    → length head ≡ 4 → length first ≡ passSlots
 head-laid none head first e n h = ap length e ∙ overlay-length none 0 head (omega arith) ∙ n
 
 -- the 20 slots of a pass: four numbers, then the two histories
-pub twenty : (p : DecorrPass) (head none first second third : List ℤ) → first ≡ overlay none 0 head → second ≡ overlay first 4 (p .«history_a») → third ≡ overlay second 12 (p .«history_b») → length none ≡ passSlots
-    → length (p .«history_a») ≡ 8 → length (p .«history_b») ≡ 8 → head ≡ p .term ∷ p .delta ∷ p .«weight_a» ∷ p .«weight_b» ∷ [] → third ≡ slotsOf p
+pub twenty : (p : DecorrPass) (head none first second third : List ℤ) → first ≡ overlay none 0 head
+    → second ≡ overlay first 4 (p .«history_a») → third ≡ overlay second 12 (p .«history_b»)
+    → length none ≡ passSlots
+    → length (p .«history_a») ≡ 8 → length (p .«history_b») ≡ 8
+    → head ≡ p .term ∷ p .delta ∷ p .«weight_a» ∷ p .«weight_b» ∷ [] → third ≡ slotsOf p
 unfolding slotsOf
 twenty p head none first second third e f g n la lb h =
     let a = p .«history_a» in

@@ -73,12 +73,15 @@ turned-fits t vs g = record { weight = record { sfits = g .1 .1 .0 .1 }; element
 
 module _ (F : DecorrPass → ℕ → ℤ → ℤ → Stepped) (start : DecorrPass) (whole : List ℤ) where
   -- the loop starts with the pass
-  pub done-start : {p : DecorrPass} → p ≡ start → SFits w32 (start .delta) → length whole < 18446744073709551616 → Done F start whole p whole 0 0
+  pub done-start : {p : DecorrPass} → p ≡ start → SFits w32 (start .delta)
+      → length whole < 18446744073709551616 → Done F start whole p whole 0 0
   done-start e h n = record { within = omega arith; long = refl; index = omega arith; small = n; delta = h; same = ap (λ q. run F q 0 whole) e }
 
   -- a turn makes a step
-  pub done-turn : {p : DecorrPass} {l after : List ℤ} {m i : ℕ} (o : Stepped) → Done F start whole p l m i → i + 1 < length l
-      → o ≡ F p m (slot l i) (slot l (i + 1)) → after ≡ frameStored l i (o .a) (o .b) → Done F start whole (o .pass) after (m + 1) (i + 2)
+  pub done-turn : {p : DecorrPass} {l after : List ℤ} {m i : ℕ} (o : Stepped) → Done F start whole p l m i
+      → i + 1 < length l
+      → o ≡ F p m (slot l i) (slot l (i + 1)) → after ≡ frameStored l i (o .a) (o .b)
+      → Done F start whole (o .pass) after (m + 1) (i + 2)
   done-turn {p} {l} {after} {m} {i} o d h e s =
       let n : length after ≡ length l = ap length s ∙ simp length-set in
       record {
@@ -91,6 +94,7 @@ module _ (F : DecorrPass → ℕ → ℤ → ℤ → Stepped) (start : DecorrPas
       }
 
   -- less than a frame is left
-  pub done-end : {p q : DecorrPass} {l : List ℤ} {m i : ℕ} → Done F start whole p l m i → length l ≤ i + 1 → q ≡ p
+  pub done-end : {p q : DecorrPass} {l : List ℤ} {m i : ℕ} → Done F start whole p l m i → length l ≤ i + 1
+      → q ≡ p
       → _≡_ {A = Run} (record { pass = q; buffer = l }) (run F start 0 whole)
   done-end {p} {q} {l} {m} {i} d h e = rw e (sym (no-turn F p m i l (d .within) (rw add-one at h)) ∙ d .same)

@@ -48,7 +48,8 @@ last-fits t vs g = record { last = record { sfits = g .1 .1 .0 .1 }; before = re
 
 -- where the loop starts
 pub two-start : (p : DecorrPass) {A B : LastTwo} → A ≡ lastTwo (p .«history_a») → B ≡ lastTwo (p .«history_b»)
-    → length (p .«history_a») ≡ 8 → length (p .«history_b») ≡ 8 → SFits w32 (p .«weight_a») → SFits w32 (p .«weight_b»)
+    → length (p .«history_a») ≡ 8 → length (p .«history_b») ≡ 8 → SFits w32 (p .«weight_a»)
+    → SFits w32 (p .«weight_b»)
     → LastFits A → LastFits B
     → twoAt p (reread (p .«weight_a»)) (reread (p .«weight_b»))
     (reread (A .last)) (reread (A .before)) (reread (B .last)) (reread (B .before)) ≡ p
@@ -65,7 +66,8 @@ two-start p {A} {B} ea eb la lb fa fb ga gb =
     ) (kept p refl refl fa fb)
 
 -- the pass that is put together after the loop
-pub two-end : (p : DecorrPass) (wa wb a0 a1 b0 b1 : ℤ) → length (p .«history_a») ≡ 8 → length (p .«history_b») ≡ 8
+pub two-end : (p : DecorrPass) (wa wb a0 a1 b0 b1 : ℤ) → length (p .«history_a») ≡ 8
+    → length (p .«history_b») ≡ 8
     → SFits w32 wa → SFits w32 wb → SFits w32 a0 → SFits w32 a1 → SFits w32 b0 → SFits w32 b1
     → lagAt p (reread wa) (reread wb)
     (set (set (p .«history_a») 0 (reread a0)) 1 (reread a1)) (set (set (p .«history_b») 0 (reread b0)) 1 (reread b1))

@@ -16,9 +16,11 @@ returns c =
     let g = pass-fits (a .pass) _ (s .good .0) in
     let f = s .fits in
     rw (c .with-state .ensures)
-    (cross-end (a .second) (a .pass) (a .weight) (a .other) (a .last) (last-a .either .ensures) (last-b .either2 .ensures)
+    (cross-end (a .second) (a .pass) (a .weight) (a .other) (a .last)
+    (last-a .either .ensures) (last-b .either2 .ensures)
     (weight-a .either3 .ensures) (weight-b .either4 .ensures) (g .eight-a) (g .eight-b)
-    (f .weight) (f .other) (f .last) (search needs) (search needs) (search needs) (search needs) (search needs) (search needs))
+    (f .weight) (f .other) (f .last) (search needs) (search needs)
+    (search needs) (search needs) (search needs) (search needs))
 
 pub with-cross-spec : {M : Type 1} → statement M
 with-cross-spec =

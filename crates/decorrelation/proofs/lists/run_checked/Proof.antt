@@ -103,14 +103,17 @@ module _ {M : Type 1} (𝓤 : URA M) (H : Heap 𝓤) (A : Atoms 𝓤) (W : Given
   abbrev Buffer : Item 𝓤
   Buffer = ‵ (MutSlice (named 1) κ′ i32 .own (buf b′ o′ γ′ B) (s′ ∷ []))
 
-  exits : (zs : List DecorrPass) (cs : List ℤ) (r : Outcome) (w : Val) → length zs ≡ length P → length cs ≡ length B → Is S.the-row r (w ∷ [])
+  exits : (zs : List DecorrPass) (cs : List ℤ) (r : Outcome) (w : Val) → length zs ≡ length P
+      → length cs ≡ length B → Is S.the-row r (w ∷ [])
       → _≡_ {A = Answer} (record { refusal = outcomeNumber r; passes = zs; buffer = cs }) (listed dir P B)
       → ent 𝓤 (⋆ 𝓤 H A (‵ (finally R.the-row γ zs) ∷ ‵ (finally i32 γ′ cs) ∷ ‵ (flft κ q) ∷ ‵ (flft κ′ q′) ∷ [])) (Ends w)
   exits zs cs r w long wide is e =
       qed W (‵ (finally R.the-row γ zs) ∷ ‵ (finally i32 γ′ cs) ∷ ‵ (flft κ q) ∷ ‵ (flft κ′ q′) ∷ []) ∵
       suffices ! _ (ends-at 𝓤 H A f.ended stayed (f.clauses 𝓤 H A mem run) W (((κ, (κ′, tt)), (q, (q′, tt)), tt, a, at), tt) w r (tt, (zs, (cs, tt))) (tt, (long, (wide, tt)))) $ says ! e $
       nothing ! $ move ! (4 ∷ 0 ∷ []) $ join ! $ move ! (3 ∷ 0 ∷ []) $ join ! $ frame ! $
-      nothing ! $ move ! (2 ∷ 0 ∷ []) $ fjoin ! $ move ! (1 ∷ 0 ∷ []) $ fjoin ! $ owned ! D.the-row (Is D.the-row) ((EL.makes D.the-type D′.the-plain) 𝓤 H A) dir _ dv-is $ fjoin ! $ frame ! $
+      nothing ! $ move ! (2 ∷ 0 ∷ []) $ fjoin ! $ move ! (1 ∷ 0 ∷ []) $ fjoin ! $
+      owned ! D.the-row (Is D.the-row) ((EL.makes D.the-type D′.the-plain) 𝓤 H A) dir _ dv-is $ fjoin ! $
+      frame ! $
       owned ! S.the-row (Is S.the-row) ((EL.makes S.the-type S′.the-plain) 𝓤 H A) r _ is $ done !
 
   module _ (𝓣 : Tables 𝓤 H) (known-valid : Triple 𝓤 (𝓣 .C #list_tests·all-valid) (AllValid 𝓤 H A mem run)) (known-outcome : Triple 𝓤 (𝓣 .C #list_tests·list-outcome) (ListOutcome 𝓤 H A mem run))
@@ -182,17 +185,25 @@ module _ {M : Type 1} (𝓤 : URA M) (H : Heap 𝓤) (A : Atoms 𝓤) (W : Given
           ∷ ‵ (froom wayTy l₁ 0) ∷ ‵ (fdies wayTy l₁)
           ∷ ‵ (froom S′.mir l₀ 0) ∷ ‵ (fdies S′.mir l₀) ∷ []
 
-      leaves : (zs : List DecorrPass) (cs : List ℤ) (r : Outcome) (w : Val) → length zs ≡ length P → length cs ≡ length B → Is S.the-row r (w ∷ [])
+      leaves : (zs : List DecorrPass) (cs : List ℤ) (r : Outcome) (w : Val) → length zs ≡ length P
+          → length cs ≡ length B → Is S.the-row r (w ∷ [])
           → _≡_ {A = Answer} (record { refusal = outcomeNumber r; passes = zs; buffer = cs }) (listed dir P B)
           → Seq (Go {0}) W (After zs cs w) (runs (𝓣 .C) (𝓣 .Λ) E body.t-9 (atRet E Ends))
       leaves zs cs r w long wide is e =
           assigns ! (of-opd ! (load ! (from ! (stop !)) (look ! 24 refl))) (from ! (stop !)) (init ! 34 refl (EL.lawful S.the-type S′.the-laws 𝓤 H A W tt .typed r _ is .0)) $
           returns ! (look ! 34 refl) $ forget ! 24 refl $ forget ! 34 refl $
-          move ! (34 ∷ 35 ∷ []) $ free1 ! $ move ! (32 ∷ 33 ∷ []) $ free1 ! $ move ! (30 ∷ 31 ∷ []) $ free1 ! $ move ! (28 ∷ 29 ∷ []) $ free1 ! $ move ! (26 ∷ 27 ∷ []) $ free1 ! $ move ! (24 ∷ 25 ∷ []) $ free1 ! $ move ! (22 ∷ 23 ∷ []) $ free1 ! $ move ! (20 ∷ 21 ∷ []) $ free1 ! $ move ! (18 ∷ 19 ∷ []) $ free1 ! $ move ! (16 ∷ 17 ∷ []) $ free1 ! $ move ! (14 ∷ 15 ∷ []) $ free1 ! $ move ! (12 ∷ 13 ∷ []) $ free1 ! $ move ! (10 ∷ 11 ∷ []) $ free1 ! $ move ! (8 ∷ 9 ∷ []) $ free1 ! $ move ! (6 ∷ 7 ∷ []) $ free1 ! $ move ! (4 ∷ 5 ∷ []) $ free1 ! $ free0 ! $
+          move ! (34 ∷ 35 ∷ []) $ free1 ! $ move ! (32 ∷ 33 ∷ []) $ free1 ! $ move ! (30 ∷ 31 ∷ []) $
+          free1 ! $ move ! (28 ∷ 29 ∷ []) $ free1 ! $ move ! (26 ∷ 27 ∷ []) $ free1 ! $
+          move ! (24 ∷ 25 ∷ []) $ free1 ! $ move ! (22 ∷ 23 ∷ []) $ free1 ! $ move ! (20 ∷ 21 ∷ []) $
+          free1 ! $ move ! (18 ∷ 19 ∷ []) $ free1 ! $ move ! (16 ∷ 17 ∷ []) $ free1 ! $
+          move ! (14 ∷ 15 ∷ []) $ free1 ! $ move ! (12 ∷ 13 ∷ []) $ free1 ! $ move ! (10 ∷ 11 ∷ []) $
+          free1 ! $ move ! (8 ∷ 9 ∷ []) $ free1 ! $ move ! (6 ∷ 7 ∷ []) $ free1 ! $ move ! (4 ∷ 5 ∷ []) $
+          free1 ! $ free0 ! $
           by ! (exits zs cs r w long wide is e)
 
       -- an accepted list is run; of a refused one both slices are given up as they were
-      branch : (r : Outcome) (w : Val) → Is S.the-row r (w ∷ []) → outcomeNumber r ≡ listNumber (allValid P) (length P) (length B)
+      branch : (r : Outcome) (w : Val) → Is S.the-row r (w ∷ [])
+          → outcomeNumber r ≡ listNumber (allValid P) (length P) (length B)
           → Seq (Go {0}) W (Tested r w) (runs (𝓣 .C) (𝓣 .Λ) E body.t-8 (atRet E Ends))
       branch r w is e =
           first ! $ branches ! (load ! (from ! (stop !)) (look ! 14 refl))
@@ -206,12 +217,15 @@ module _ {M : Type 1} (𝓤 : URA M) (H : Heap 𝓤) (A : Atoms 𝓤) (W : Given
           calls-run-list 𝓤 H A W mem run κ κ′ q q′ b o γ dir dv dv-is P (length P) b′ o′ γ′ B (fmOf 𝓤 H (W .laws) 𝓣) known-list
           (and-then ! (load ! (from ! (stop !)) (look ! 29 refl)) (and-then ! (load ! (from ! (stop !)) (look ! 5 refl)) (and-then ! (load ! (from ! (stop !)) (look ! 1 refl)) (no-more !))))
           (λ u x zs cs is-unit long wide c.
-          land-last ! (from ! (stop !)) (init ! 12 refl (nothing-lawful 𝓤 H A W .typed x _ is-unit .0)) $ exec ! (𝓣 .C) (𝓣 .Λ) E body.t-9 (atRet E Ends) $
-          forget ! 4 refl $ forget ! 6 refl $ forget ! 8 refl $ forget ! 10 refl $ forget ! 12 refl $ forget ! 14 refl $ forget ! 28 refl $ forget ! 30 refl $ forget ! 32 refl $
+          land-last ! (from ! (stop !)) (init ! 12 refl (nothing-lawful 𝓤 H A W .typed x _ is-unit .0)) $
+          exec ! (𝓣 .C) (𝓣 .Λ) E body.t-9 (atRet E Ends) $
+          forget ! 4 refl $ forget ! 6 refl $ forget ! 8 refl $ forget ! 10 refl $ forget ! 12 refl $
+          forget ! 14 refl $ forget ! 28 refl $ forget ! 30 refl $ forget ! 32 refl $
           leaves zs cs r w long wide is (answer-accepted dir P B r zs cs e (is-true (acceptedBy r) held) c)))
           (λ failed.
           skips ! $ exec ! (𝓣 .C) (𝓣 .Λ) E body.t-9 (atRet E Ends) $
-          use1 W (‵ (finally R.the-row γ P)) (gives-up R.the-row κ κ q γ b o 𝓤 H A W (named 0) (named 0) P) $ move ! (2 ∷ []) $ use1 W (‵ (finally i32 γ′ B)) (gives-up i32 κ′ κ′ q′ γ′ b′ o′ 𝓤 H A W (named 1) (named 1) B) $ move ! (1 ∷ 0 ∷ []) $
+          use1 W (‵ (finally R.the-row γ P)) (gives-up R.the-row κ κ q γ b o 𝓤 H A W (named 0) (named 0) P) $
+          move ! (2 ∷ []) $ use1 W (‵ (finally i32 γ′ B)) (gives-up i32 κ′ κ′ q′ γ′ b′ o′ 𝓤 H A W (named 1) (named 1) B) $ move ! (1 ∷ 0 ∷ []) $
           forget ! 14 refl $ forget ! 28 refl $ forget ! 30 refl $ forget ! 32 refl $
           leaves P B r w refl refl is (answer-refused dir P B r e (is-false (acceptedBy r) failed)))
 
@@ -239,14 +253,17 @@ module _ {M : Type 1} (𝓤 : URA M) (H : Heap 𝓤) (A : Atoms 𝓤) (W : Given
         alloc1 ! (λ l₀. alloc1 ! (λ l₁. alloc1 ! (λ l₂. alloc1 ! (λ l₃. alloc1 ! (λ l₄. alloc1 ! (λ l₅. alloc1 ! (λ l₆. alloc1 ! (λ l₇. alloc1 ! (λ l₈. alloc1 ! (λ l₉. alloc1 ! (λ l₁₀. alloc1 ! (λ l₁₁. alloc1 ! (λ l₁₂. alloc1 ! (λ l₁₃. alloc1 ! (λ l₁₄. alloc1 ! (λ l₁₅. alloc0 ! $ params1 ! $
         pass1 ! (init ! 28 refl dv-typed) $ pass1 ! (init ! 26 refl (tt, (tt, (record { fits = gn .0 }, tt)))) $ pass1 ! (init ! 24 refl (tt, (tt, (record { fits = gm .0 }, tt)))) $ pass0 ! $
         -- [_15; …; _0; …; the tokens; what the parameters own]
-        move ! (33 ∷ []) $ fsplit ! $ drop ! $ fsplit ! $ move ! (1 ∷ []) $ fsplit ! $ move ! (35 ∷ []) $ split ! $ move ! (1 ∷ []) $ split ! $
+        move ! (33 ∷ []) $ fsplit ! $ drop ! $ fsplit ! $ move ! (1 ∷ []) $ fsplit ! $ move ! (35 ∷ []) $
+        split ! $ move ! (1 ∷ []) $ split ! $
         -- [the buffer's token; true; the list's token; the buffer; true; the list; _15; …]
         move ! (1 ∷ 4 ∷ []) $ drop ! $ drop ! $ move ! (3 ∷ 1 ∷ 2 ∷ 0 ∷ []) $
         tests l₀ l₁ l₂ l₃ l₄ l₅ l₆ l₇ l₈ l₉ l₁₀ l₁₁ l₁₂ l₁₃ l₁₄ l₁₅))))))))))))))))
 
 module _ {M : Type 1} (𝓤 : URA M) (H : Heap 𝓤) (A : Atoms 𝓤) (W : Given 𝓤 H A) (mem : Memory → SProp 𝓤) (run : Routine → Fun 𝓤) where
-  run-checked-walks : (𝓣 : Tables 𝓤 H) → Triple 𝓤 (𝓣 .C #list_tests·all-valid) (AllValid 𝓤 H A mem run) → Triple 𝓤 (𝓣 .C #list_tests·list-outcome) (ListOutcome 𝓤 H A mem run)
-      → Triple 𝓤 (𝓣 .C #list_tests·is-accepted) (IsAccepted 𝓤 H A mem run) → Triple 𝓤 (𝓣 .C #list_runs·run-list) (RunList 𝓤 H A mem run)
+  run-checked-walks : (𝓣 : Tables 𝓤 H) → Triple 𝓤 (𝓣 .C #list_tests·all-valid) (AllValid 𝓤 H A mem run)
+      → Triple 𝓤 (𝓣 .C #list_tests·list-outcome) (ListOutcome 𝓤 H A mem run)
+      → Triple 𝓤 (𝓣 .C #list_tests·is-accepted) (IsAccepted 𝓤 H A mem run)
+      → Triple 𝓤 (𝓣 .C #list_runs·run-list) (RunList 𝓤 H A mem run)
       → Walks 𝓤 H A f.ended stayed (WpFn 𝓤 H (𝓣 .C) (𝓣 .Λ) code.function) (f.clauses 𝓤 H A mem run)
   run-checked-walks 𝓣 known-valid known-outcome known-accepted known-list = walked 𝓤 H A f.ended stayed (f.clauses 𝓤 H A mem run) (WpFn 𝓤 H (𝓣 .C) (𝓣 .Λ) code.function)
       (λ κs. (ways, (slice-vals, (slice-vals, tt)))) (λ κs. (way-tells, (mut-slice-tells (named 0) (κs .0) R.the-row, (mut-slice-tells (named 1) (κs .1 .0) i32, tt))))
@@ -256,9 +273,12 @@ module _ {M : Type 1} (𝓤 : URA M) (H : Heap 𝓤) (A : Atoms 𝓤) (W : Given
   goes : AllGo 𝓤 H A W 2 (f.signature .params) (f.ended .kept) stayed
   goes = (goes-none 𝓤 H A W 2 (λ _. D.the-row) yes (λ κs x f. refl), (goes-gave-slice 𝓤 H A W 2 0 tt (plain (λ _. R.the-row)), (goes-gave-slice 𝓤 H A W 2 1 tt (plain (λ _. i32)), tt)))
 
-run-checked-meets : {M : Type 1} (𝓤 : URA M) (H : Heap 𝓤) (A : Atoms 𝓤) → Given 𝓤 H A → (mem : Memory → SProp 𝓤) (run : Routine → Fun 𝓤) (𝓣 : Tables 𝓤 H)
-    → Triple 𝓤 (𝓣 .C #list_tests·all-valid) (AllValid 𝓤 H A mem run) → Triple 𝓤 (𝓣 .C #list_tests·list-outcome) (ListOutcome 𝓤 H A mem run)
-    → Triple 𝓤 (𝓣 .C #list_tests·is-accepted) (IsAccepted 𝓤 H A mem run) → Triple 𝓤 (𝓣 .C #list_runs·run-list) (RunList 𝓤 H A mem run)
+run-checked-meets : {M : Type 1} (𝓤 : URA M) (H : Heap 𝓤) (A : Atoms 𝓤) → Given 𝓤 H A
+    → (mem : Memory → SProp 𝓤) (run : Routine → Fun 𝓤) (𝓣 : Tables 𝓤 H)
+    → Triple 𝓤 (𝓣 .C #list_tests·all-valid) (AllValid 𝓤 H A mem run)
+    → Triple 𝓤 (𝓣 .C #list_tests·list-outcome) (ListOutcome 𝓤 H A mem run)
+    → Triple 𝓤 (𝓣 .C #list_tests·is-accepted) (IsAccepted 𝓤 H A mem run)
+    → Triple 𝓤 (𝓣 .C #list_runs·run-list) (RunList 𝓤 H A mem run)
     → Meets 𝓤 H A f.signature (WpFn 𝓤 H (𝓣 .C) (𝓣 .Λ) code.function) (f.spec 𝓤 H A mem run)
 run-checked-meets 𝓤 H A W mem run 𝓣 known-valid known-outcome known-accepted known-list =
     walk-meets 𝓤 H A f.ended stayed W (goes 𝓤 H A W mem run) (f.clauses 𝓤 H A mem run) (WpFn 𝓤 H (𝓣 .C) (𝓣 .Λ) code.function) (WpFn-mono 𝓤 H (W .laws) 𝓣 code.function) (run-checked-walks 𝓤 H A W mem run 𝓣 known-valid known-outcome known-accepted known-list)
