@@ -23,5 +23,6 @@ pub entropy-laid : (p : List ℕ) (slots first after : List ℤ) (o : Outcome) (
     → Called 6 (entropyRefusal p) (entropyValues p) slots 0 after
 entropy-laid p slots first after o i h a g j n e f =
     call-laid 6 (entropyRefusal p) (entropyValues p) slots after h (sym (rw a at g))
-    (overlay-two slots first after 0 3 (i .«medians_left») (i .«medians_right») (omega (arith, n)) (omega (arith, n)) e f
+    (overlay-two slots first after 0 3 (i .«medians_left») (i .«medians_right»)
+    (omega (arith, n)) (omega (arith, n)) e f
     ∙ ap (λ (x : EntropyInfo). overlay slots 0 (x .«medians_left» ++ x .«medians_right»)) j)

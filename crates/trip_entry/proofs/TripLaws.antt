@@ -114,11 +114,13 @@ module _ (ps : List DecorrPass) (n : ℕ) (x : List ℤ) (entropy : List ℕ) (s
     passes-made : ArrayAccepted ps n x
 
   -- so it is after analysis
-  found-is : (v : List ℤ) → v ≡ arrayAnswer Analysis ps n x .buffer → earlyRefusal ps n (length x) entropy (length buffer) ≡ 0
+  found-is : (v : List ℤ) → v ≡ arrayAnswer Analysis ps n x .buffer
+      → earlyRefusal ps n (length x) entropy (length buffer) ≡ 0
       → Found v
   found-is v e h =
       let a = early ps n x entropy buffer h in
-      let is : v ≡ found ps n x = e ∙ ap (λ (a : Answer). a .buffer) (array-runs Analysis ps n x (a .passes-made)) in
+      let is : v ≡ found ps n x =
+      e ∙ ap (λ (a : Answer). a .buffer) (array-runs Analysis ps n x (a .passes-made)) in
       let size : length v ≡ length x = ap length is ∙ analysed-length (take n ps) x in
       record { is = is; size = size; lent = rw size (a .lent); passes-made = a .passes-made }
 
@@ -135,8 +137,10 @@ module _ (ps : List DecorrPass) (n : ℕ) (x : List ℤ) (entropy : List ℕ) (s
       let p : 0 < o = rw u (number-positive q) in
       let k₀ : o ≡ packEntry v entropy f₀ buffer .refusal = ap (λ (a : PackTold). a .refusal) k in
       let s : o ≡ spanRefusal (found ps n x) =
-      k₀ ∙ refusal-is v entropy f₀ buffer ∙ span-decides v entropy f₀ buffer (f .lent) ∙ ap spanRefusal (f .is) in
-      let y : after ≡ buffer = ap (λ (a : PackTold). a .bytes) k ∙ pack-refused v entropy f₀ buffer (rw (← k₀) p) in
+      k₀ ∙ refusal-is v entropy f₀ buffer
+      ∙ span-decides v entropy f₀ buffer (f .lent) ∙ ap spanRefusal (f .is) in
+      let y : after ≡ buffer =
+      ap (λ (a : PackTold). a .bytes) k ∙ pack-refused v entropy f₀ buffer (rw (← k₀) p) in
       let next = tellTrip x (packEntry (found ps n x) entropy f₀ buffer) in
       rw (y, f .is) (refuses r (w .outcome) (found ps n x) buffer t)
       ∙ sym (guard-refused o (refuseTrip (found ps n x) buffer) next p)
@@ -170,7 +174,8 @@ module _ (ps : List DecorrPass) (n : ℕ) (x : List ℤ) (entropy : List ℕ) (s
       )
 
   -- the recording is back
-  pub trip-back : Fit x → (v y : List ℤ) (after payload : List ℕ) (w : PackAnswer) → length scratch ≡ length x
+  pub trip-back : Fit x → (v y : List ℤ) (after payload : List ℕ) (w : PackAnswer)
+      → length scratch ≡ length x
       → v ≡ arrayAnswer Analysis ps n x .buffer → earlyRefusal ps n (length x) entropy (length buffer) ≡ 0
       → viewPacking w after ≡ packEntry v entropy (length x / 2) buffer → w .outcome ≡ Outcome.Accepted
       → payload ≡ take ((w .bits + 7) / 8) after → BackIs ps n entropy payload (w .bits) x v y (r .same)
@@ -189,13 +194,15 @@ module _ (ps : List DecorrPass) (n : ℕ) (x : List ℤ) (entropy : List ℕ) (s
       let D = ap (samplesBack ps n) R ∙ S .0 in
       let back : y ≡ x = i .leaves ∙ ap (λ (t : Answer). t .buffer) D ∙ S .1 in
       let used = ap (λ (t : ReadTold). t .bits) R ∙ sym B in
+      let as-many = eq-eqb (readBack entropy payload x v .bits) (w .bits) used in
       let same : r .same ≡ true =
       i .told
-      ∙ rw (ap (λ (t : ReadTold). t .refusal) R, ap (λ (t : Answer). t .refusal) D, eq-eqb (readBack entropy payload x v .bits) (w .bits) used)
+      ∙ rw (ap (λ (t : ReadTold). t .refusal) R, ap (λ (t : Answer). t .refusal) D, as-many)
       (i .equal-is .told (sym back)) in
-      let s : spanRefusal (found ps n x) ≡ 0 = rw (← f .is, acc .span) in
+      let v₀ = found ps n x in
+      let s : spanRefusal v₀ ≡ 0 = rw (← f .is, acc .span) in
       told-is (outcomeNumber (r .outcome)) 0 (r .bits) (p .bits) (r .same) true y x after (p .bytes)
       (ap outcomeNumber ro) (rb ∙ B) same back (ap (λ (t : PackTold). t .bytes) k)
       ∙ ap (λ (t : List ℤ). tellTrip x (packEntry t entropy f₀ buffer)) (f .is)
-      ∙ sym (guard-accepted (spanRefusal (found ps n x)) (refuseTrip (found ps n x) buffer) (tellTrip x (packEntry (found ps n x) entropy f₀ buffer)) s)
+      ∙ sym (guard-accepted (spanRefusal v₀) (refuseTrip v₀ buffer) (tellTrip x (packEntry v₀ entropy f₀ buffer)) s)
       ∙ sym (entry-is h g)

@@ -28,20 +28,24 @@ pub record TripTold : Type 0 where
 
 -- the answer that the entry's struct holds, with the lent storage as it is left
 abbrev pub viewTrip : TripAnswer → List ℤ → List ℕ → TripTold
-viewTrip r scratch bytes = record { refusal = outcomeNumber (r .outcome); bits = r .bits; same = r .same; scratch = scratch; bytes = bytes }
+viewTrip r scratch bytes =
+    record { refusal = outcomeNumber (r .outcome); bits = r .bits; same = r .same; scratch = scratch; bytes = bytes }
 
 -- a refusal, with what the scratch list and the packed bytes hold then
 abbrev pub refuseTrip : List ℤ → List ℕ → ℕ → TripTold
-refuseTrip scratch bytes number = record { refusal = number; bits = 0; same = false; scratch = scratch; bytes = bytes }
+refuseTrip scratch bytes number =
+    record { refusal = number; bits = 0; same = false; scratch = scratch; bytes = bytes }
 
 -- demand 3: the recording is back in the scratch list
 abbrev pub tellTrip : List ℤ → PackTold → TripTold
-tellTrip recording p = record { refusal = 0; bits = p .bits; same = true; scratch = recording; bytes = p .bytes }
+tellTrip recording p =
+    record { refusal = 0; bits = p .bits; same = true; scratch = recording; bytes = p .bytes }
 
 -- what is refused before anything is written: 6, a scratch list of another length, and then that
 unfoldable pub tripRefusal : List DecorrPass → ℕ → List ℤ → List ℕ → List ℤ → List ℕ → ℕ
 tripRefusal passes count recording entropy scratch buffer =
-    cond (eqb (length scratch) (length recording)) (earlyRefusal passes count (length recording) entropy (length buffer)) 6
+    cond (eqb (length scratch) (length recording))
+    (earlyRefusal passes count (length recording) entropy (length buffer)) 6
 
 -- the residuals that analysis by the first `count` passes finds
 abbrev pub found : List DecorrPass → ℕ → List ℤ → List ℤ

@@ -22,29 +22,29 @@ pub found-is : (ps : List DecorrPass) (n : ℕ) (x copied v : List ℤ) (m : ℕ
     → FoundIs ps n x v
 found-is ps n x copied v m after c e = record {
   fit = c .fit;
-  found = ap (λ (a : Answer). a .buffer) e ∙ ap (λ (l : List ℤ). arrayAnswer Analysis ps n l .buffer) (c .copied);
+  found =
+      ap (λ (a : Answer). a .buffer) e ∙ ap (λ (l : List ℤ). arrayAnswer Analysis ps n l .buffer) (c .copied);
 }
 
 -- a payload, read and decorrelated
-pub back-is : (ps : List DecorrPass) (n : ℕ) (entropy payload : List ℕ) (written : ℕ) (x before list y : List ℤ)
+pub back-is :
+    (ps : List DecorrPass) (n : ℕ) (entropy payload : List ℕ) (written : ℕ) (x before list y : List ℤ)
     (d : ReadAnswer) (o : Outcome) (after : List DecorrPass) (q r : Bool)
     → viewReading d list ≡ readEntry entropy payload (length x / 2) before
     → record { refusal = outcomeNumber o; passes = after; buffer = y } ≡ arrayAnswer Decorrelation ps n list
     → SameIs x y q → r ≡ cameBack (outcomeNumber (d .outcome)) (outcomeNumber o) (d .bits) written q
     → BackIs ps n entropy payload written x before y r
 back-is ps n entropy payload written x before list y d o after q r e f s t =
+    let read = readEntry entropy payload (length x / 2) before in
     let g = f ∙ ap (samplesBack ps n) e in
+    let m = samplesBack ps n read .refusal in
     record {
       equal = q;
       equal-is = s;
       leaves = ap (λ (a : Answer). a .buffer) g;
       told =
           t
-          ∙ ap (λ (m : ℕ). cameBack m (outcomeNumber o) (d .bits) written q) (ap (λ (a : ReadTold). a .refusal) e)
-          ∙ ap (λ (m : ℕ). cameBack (readEntry entropy payload (length x / 2) before .refusal) m (d .bits) written q)
-          (ap (λ (a : Answer). a .refusal) g)
-          ∙ ap
-          (λ (m : ℕ). cameBack (readEntry entropy payload (length x / 2) before .refusal)
-          (samplesBack ps n (readEntry entropy payload (length x / 2) before) .refusal) m written q)
-          (ap (λ (a : ReadTold). a .bits) e);
+          ∙ ap (λ (a : ReadTold). cameBack (a .refusal) (outcomeNumber o) (d .bits) written q) e
+          ∙ ap (λ (a : Answer). cameBack (read .refusal) (a .refusal) (d .bits) written q) g
+          ∙ ap (λ (a : ReadTold). cameBack (read .refusal) m (a .bits) written q) e;
     }

@@ -20,8 +20,8 @@ returns c =
 returns-2 : tie.Need-returns-2
 returns-2 c =
     let tested : tie.After-early-refusal = search needs in
-    trip-early _ _ _ _ _ _ (c .refused2 .result) _ _ (tested .before .if1 .left) (tested .early-refusal .ensures)
-    (c .before .enum-told2 .given .1) (c .refused2 .ensures)
+    trip-early _ _ _ _ _ _ (c .refused2 .result) _ _ (tested .before .if1 .left)
+    (tested .early-refusal .ensures) (c .before .enum-told2 .given .1) (c .refused2 .ensures)
 
 -- ---- the calls before each stop
 
@@ -47,7 +47,8 @@ packed-at c = search needs
 
 -- nothing is refused early
 none-early : (c : tie.After-enum-told) → let a = start c .args in
-    earlyRefusal (a .passes) (a .count) (length (now (a .recording))) (now (a .entropy)) (length (now (a .packed))) ≡ 0
+    earlyRefusal (a .passes) (a .count) (length (now (a .recording))) (now (a .entropy))
+    (length (now (a .packed))) ≡ 0
 none-early c = sym (tested-at c .early-refusal .ensures) ∙ ap outcomeNumber (c .enum-told .given .1)
 
 returns-3 : tie.Need-returns-3
@@ -57,7 +58,8 @@ returns-3 c =
     let free = free-at found in
     let w = wrote .encode-packed-samples-stereo-from-entropy in
     trip-span _ _ (now (start free .args .recording)) _ _ _ (c .refused3 .result) _ _ (w .result) _
-    (tested-at free .before .if1 .left) (found .find-residuals .ensures .found) (none-early free) (w .ensures)
+    (tested-at free .before .if1 .left) (found .find-residuals .ensures .found) (none-early free)
+    (w .ensures)
     (c .before .enum-told4 .given .1) (c .refused3 .ensures)
 
 -- the packed bytes end within their buffer
@@ -78,7 +80,8 @@ slice-reshare-prefix-read-back c =
 slice-aggregate-read-back : tie.Need-slice-aggregate-read-back
 slice-aggregate-read-back c =
     let p = c .before in
-    sym (length-take-le _ _ (omega (arith, ends p, wrote-at p .encode-packed-samples-stereo-from-entropy .kept .1 .1 .1 .0)))
+    let kept = wrote-at p .encode-packed-samples-stereo-from-entropy .kept .1 .1 .1 .0 in
+    sym (length-take-le _ _ (omega (arith, ends p, kept)))
 
 returns-4 : tie.Need-returns-4
 returns-4 c =
@@ -91,7 +94,8 @@ returns-4 c =
     trip-back _ _ (now (start free .args .recording)) _ _ _
     (record { outcome = Outcome.Accepted; bits = w .result .bits; same = back .read-back .result })
     (found .find-residuals .ensures .fit) _ _ _ _ (w .result)
-    (tested-at free .before .if1 .left) (found .find-residuals .ensures .found) (none-early free) (w .ensures)
+    (tested-at free .before .if1 .left) (found .find-residuals .ensures .found) (none-early free)
+    (w .ensures)
     (packed .enum-told3 .given .1) refl (back .read-back .ensures) refl refl
 
 pub round-trip-spec : {M : Type 1} → statement M

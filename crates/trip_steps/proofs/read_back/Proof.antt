@@ -12,8 +12,8 @@ returns c =
     let compared : tie.After-same = search needs in
     let d = read .decode-packed-samples-stereo-from-entropy in
     let s = ran .decorrelate-array in
-    back-is _ _ _ _ _ _ _ _ _ (d .result) (s .result .outcome) _ (compared .same .result) _ (d .ensures) (s .ensures)
-    (compared .same .ensures) (c .came-back .ensures)
+    back-is _ _ _ _ _ _ _ _ _ (d .result) (s .result .outcome) _ (compared .same .result) _
+    (d .ensures) (s .ensures) (compared .same .ensures) (c .came-back .ensures)
 
 pub read-back-spec : {M : Type 1} → statement M
 read-back-spec =
