@@ -122,68 +122,51 @@ module _ {M : Type 1} (𝓤 : URA M) (H : Heap 𝓤) (A : Atoms 𝓤) (W : Given
       abbrev E : Env 𝓤 H
       E = (S′.mir, l₀) ∷ (wayTy, l₁) ∷ (passesTy, l₂) ∷ (bufferTy, l₃) ∷ (tyBool, l₄) ∷ (S′.mir, l₅) ∷ (tyRef erased imm passPtr, l₆) ∷ (sliceTy (tyRef erased imm passPtr), l₇) ∷ (word, l₈) ∷ (word, l₉) ∷ (tyBool, l₁₀) ∷ (tyUnit, l₁₁) ∷ (lentPasses erased, l₁₂) ∷ (sliceTy (lentPasses erased), l₁₃) ∷ (lentNumbers erased, l₁₄) ∷ (sliceTy (lentNumbers erased), l₁₅) ∷ []
 
-      -- the contexts, in which local k stands at 34 - 2 k: where the parameters are stored,
-      abbrev Ready : List (Item 𝓤)
-      Ready =
-          Passes ∷ ‵ (flft κ q) ∷ Buffer ∷ ‵ (flft κ′ q′)
-          ∷ ‵ (froom (sliceTy (lentNumbers erased)) l₁₅ 0) ∷ ‵ (fdies (sliceTy (lentNumbers erased)) l₁₅)
+      -- the contexts, in which local k stands at 34 - 2 k. Room for what the call of `run_list` needs,
+      abbrev Run-room : List (Item 𝓤) → List (Item 𝓤)
+      Run-room rest =
+          ‵ (froom (sliceTy (lentNumbers erased)) l₁₅ 0) ∷ ‵ (fdies (sliceTy (lentNumbers erased)) l₁₅)
           ∷ ‵ (froom (lentNumbers erased) l₁₄ 0) ∷ ‵ (fdies (lentNumbers erased) l₁₄)
           ∷ ‵ (froom (sliceTy (lentPasses erased)) l₁₃ 0) ∷ ‵ (fdies (sliceTy (lentPasses erased)) l₁₃)
           ∷ ‵ (froom (lentPasses erased) l₁₂ 0) ∷ ‵ (fdies (lentPasses erased) l₁₂)
-          ∷ ‵ (froom tyUnit l₁₁ 0) ∷ ‵ (fdies tyUnit l₁₁)
-          ∷ ‵ (froom tyBool l₁₀ 0) ∷ ‵ (fdies tyBool l₁₀)
-          ∷ ‵ (froom word l₉ 0) ∷ ‵ (fdies word l₉)
+          ∷ ‵ (froom tyUnit l₁₁ 0) ∷ ‵ (fdies tyUnit l₁₁) ∷ rest
+
+      -- and for what the tests need
+      abbrev Test-room : List (Item 𝓤) → List (Item 𝓤)
+      Test-room rest =
+          ‵ (froom word l₉ 0) ∷ ‵ (fdies word l₉)
           ∷ ‵ (froom word l₈ 0) ∷ ‵ (fdies word l₈)
           ∷ ‵ (froom (sliceTy (tyRef erased imm passPtr)) l₇ 0) ∷ ‵ (fdies (sliceTy (tyRef erased imm passPtr)) l₇)
-          ∷ ‵ (froom (tyRef erased imm passPtr) l₆ 0) ∷ ‵ (fdies (tyRef erased imm passPtr) l₆)
-          ∷ ‵ (froom S′.mir l₅ 0) ∷ ‵ (fdies S′.mir l₅)
-          ∷ ‵ (froom tyBool l₄ 0) ∷ ‵ (fdies tyBool l₄)
-          ∷ ‵ (fat fullShare bufferTy l₃ 0 s′) ∷ ‵ (fdies bufferTy l₃)
-          ∷ ‵ (fat fullShare passesTy l₂ 0 s) ∷ ‵ (fdies passesTy l₂)
-          ∷ ‵ (fat fullShare wayTy l₁ 0 dv) ∷ ‵ (fdies wayTy l₁)
+          ∷ ‵ (froom (tyRef erased imm passPtr) l₆ 0) ∷ ‵ (fdies (tyRef erased imm passPtr) l₆) ∷ rest
+
+      -- the parameters, stored
+      abbrev Stored : List (Item 𝓤)
+      Stored =
+          ‵ (froom tyBool l₄ 0) ∷ ‵ (fdies tyBool l₄) ∷ ‵ (fat fullShare bufferTy l₃ 0 s′) ∷ ‵ (fdies bufferTy l₃)
+          ∷ ‵ (fat fullShare passesTy l₂ 0 s) ∷ ‵ (fdies passesTy l₂) ∷ ‵ (fat fullShare wayTy l₁ 0 dv) ∷ ‵ (fdies wayTy l₁)
           ∷ ‵ (froom S′.mir l₀ 0) ∷ ‵ (fdies S′.mir l₀) ∷ []
+
+      -- before the tests,
+      abbrev Ready : List (Item 𝓤)
+      Ready =
+          Passes ∷ ‵ (flft κ q) ∷ Buffer ∷ ‵ (flft κ′ q′) ∷ Run-room (‵ (froom tyBool l₁₀ 0) ∷ ‵ (fdies tyBool l₁₀)
+          ∷ Test-room (‵ (froom S′.mir l₅ 0) ∷ ‵ (fdies S′.mir l₅) ∷ Stored))
 
       -- where the outcome is known, and whether it accepts the list,
       abbrev Tested : Outcome → Val → List (Item 𝓤)
       Tested r w =
           Passes ∷ ‵ (flft κ q) ∷ Buffer ∷ ‵ (flft κ′ q′)
-          ∷ ‵ (froom (sliceTy (lentNumbers erased)) l₁₅ 0) ∷ ‵ (fdies (sliceTy (lentNumbers erased)) l₁₅)
-          ∷ ‵ (froom (lentNumbers erased) l₁₄ 0) ∷ ‵ (fdies (lentNumbers erased) l₁₄)
-          ∷ ‵ (froom (sliceTy (lentPasses erased)) l₁₃ 0) ∷ ‵ (fdies (sliceTy (lentPasses erased)) l₁₃)
-          ∷ ‵ (froom (lentPasses erased) l₁₂ 0) ∷ ‵ (fdies (lentPasses erased) l₁₂)
-          ∷ ‵ (froom tyUnit l₁₁ 0) ∷ ‵ (fdies tyUnit l₁₁)
-          ∷ ‵ (fat fullShare tyBool l₁₀ 0 (vbool (acceptedBy r))) ∷ ‵ (fdies tyBool l₁₀)
-          ∷ ‵ (froom word l₉ 0) ∷ ‵ (fdies word l₉)
-          ∷ ‵ (froom word l₈ 0) ∷ ‵ (fdies word l₈)
-          ∷ ‵ (froom (sliceTy (tyRef erased imm passPtr)) l₇ 0) ∷ ‵ (fdies (sliceTy (tyRef erased imm passPtr)) l₇)
-          ∷ ‵ (froom (tyRef erased imm passPtr) l₆ 0) ∷ ‵ (fdies (tyRef erased imm passPtr) l₆)
-          ∷ ‵ (fat fullShare S′.mir l₅ 0 w) ∷ ‵ (fdies S′.mir l₅)
-          ∷ ‵ (froom tyBool l₄ 0) ∷ ‵ (fdies tyBool l₄)
-          ∷ ‵ (fat fullShare bufferTy l₃ 0 s′) ∷ ‵ (fdies bufferTy l₃)
-          ∷ ‵ (fat fullShare passesTy l₂ 0 s) ∷ ‵ (fdies passesTy l₂)
-          ∷ ‵ (fat fullShare wayTy l₁ 0 dv) ∷ ‵ (fdies wayTy l₁)
-          ∷ ‵ (froom S′.mir l₀ 0) ∷ ‵ (fdies S′.mir l₀) ∷ []
+          ∷ Run-room (‵ (fat fullShare tyBool l₁₀ 0 (vbool (acceptedBy r))) ∷ ‵ (fdies tyBool l₁₀)
+          ∷ Test-room (‵ (fat fullShare S′.mir l₅ 0 w) ∷ ‵ (fdies S′.mir l₅) ∷ Stored))
 
       -- and after the branch
       abbrev After : List DecorrPass → List ℤ → Val → List (Item 𝓤)
       After zs cs w =
           ‵ (finally R.the-row γ zs) ∷ ‵ (finally i32 γ′ cs) ∷ ‵ (flft κ q) ∷ ‵ (flft κ′ q′)
-          ∷ ‵ (froom (sliceTy (lentNumbers erased)) l₁₅ 0) ∷ ‵ (fdies (sliceTy (lentNumbers erased)) l₁₅)
-          ∷ ‵ (froom (lentNumbers erased) l₁₄ 0) ∷ ‵ (fdies (lentNumbers erased) l₁₄)
-          ∷ ‵ (froom (sliceTy (lentPasses erased)) l₁₃ 0) ∷ ‵ (fdies (sliceTy (lentPasses erased)) l₁₃)
-          ∷ ‵ (froom (lentPasses erased) l₁₂ 0) ∷ ‵ (fdies (lentPasses erased) l₁₂)
-          ∷ ‵ (froom tyUnit l₁₁ 0) ∷ ‵ (fdies tyUnit l₁₁)
-          ∷ ‵ (froom tyBool l₁₀ 0) ∷ ‵ (fdies tyBool l₁₀)
-          ∷ ‵ (froom word l₉ 0) ∷ ‵ (fdies word l₉)
-          ∷ ‵ (froom word l₈ 0) ∷ ‵ (fdies word l₈)
-          ∷ ‵ (froom (sliceTy (tyRef erased imm passPtr)) l₇ 0) ∷ ‵ (fdies (sliceTy (tyRef erased imm passPtr)) l₇)
-          ∷ ‵ (froom (tyRef erased imm passPtr) l₆ 0) ∷ ‵ (fdies (tyRef erased imm passPtr) l₆)
-          ∷ ‵ (fat fullShare S′.mir l₅ 0 w) ∷ ‵ (fdies S′.mir l₅)
-          ∷ ‵ (froom tyBool l₄ 0) ∷ ‵ (fdies tyBool l₄)
-          ∷ ‵ (froom bufferTy l₃ 0) ∷ ‵ (fdies bufferTy l₃)
-          ∷ ‵ (froom passesTy l₂ 0) ∷ ‵ (fdies passesTy l₂)
-          ∷ ‵ (froom wayTy l₁ 0) ∷ ‵ (fdies wayTy l₁)
-          ∷ ‵ (froom S′.mir l₀ 0) ∷ ‵ (fdies S′.mir l₀) ∷ []
+          ∷ Run-room (‵ (froom tyBool l₁₀ 0) ∷ ‵ (fdies tyBool l₁₀) ∷ Test-room (‵ (fat fullShare S′.mir l₅ 0 w) ∷ ‵ (fdies S′.mir l₅)
+          ∷ ‵ (froom tyBool l₄ 0) ∷ ‵ (fdies tyBool l₄) ∷ ‵ (froom bufferTy l₃ 0) ∷ ‵ (fdies bufferTy l₃)
+          ∷ ‵ (froom passesTy l₂ 0) ∷ ‵ (fdies passesTy l₂) ∷ ‵ (froom wayTy l₁ 0) ∷ ‵ (fdies wayTy l₁)
+          ∷ ‵ (froom S′.mir l₀ 0) ∷ ‵ (fdies S′.mir l₀) ∷ []))
 
       leaves : (zs : List DecorrPass) (cs : List ℤ) (r : Outcome) (w : Val) → length zs ≡ length P
           → length cs ≡ length B → Is S.the-row r (w ∷ [])
