@@ -4,7 +4,7 @@
 use borrow.Author.Tests.{lt-ltb, le-ltb}
 use mathlib.Core.Path.{_∙_}
 use native.Mathlib.Omega.{arith}
-use lib.ListN.{length, getD}
+use lib.ListN.{length}
 use Rattle.word_state.specs.View.{stateOf}
 use Rattle.one_word.proofs.PlaceLaws.{place-fits}
 use Rattle.word_calls.proofs.CallLaws.{word-short, word-told}
@@ -27,15 +27,16 @@ returns-3 c =
     let a = c .before .before .before .before .before .before .before .args in
     word-short (a .payload .now) (a .state .now) (a .sample .now) (a .report .now) _ (c .number3 .ensures) (rw (le-ltb (length (a .state .now)) 13 (c .before .before .before .if1 .left), le-ltb (length (a .sample .now)) 1 (c .before .before .if2 .left), lt-ltb (length (a .report .now)) 2 (c .before .if3 .taken)))
 
+-- whichever slot holds the place, it fits
 cast-place : tie.Need-cast-place
-cast-place c = omega (arith, c .slice-known3 .given 0)
+cast-place c = omega (arith, c .slice-known3 .given 0, c .slice-known3 .given 1)
 
 lay-word-requires : tie.Need-lay-word-requires
 lay-word-requires c κs =
     let a = c .before .before .before .before .before .before .before .before .before .before .before .before .before .args in
     let x = c .before .before .before .decode-sample-stateful-stereo in
-    let h = c .before .before .before .before .before .before .slice-known3 .given 0 in
-    let p = place-fits (a .payload .now) (getD (a .state .now) 0 0) _ (x .result) (x .ensures) (omega (arith, h)) in
+    let h = c .before .before .before .before .before .before .slice-known3 in
+    let p = place-fits (a .payload .now) _ _ (x .result) (x .ensures) (omega (arith, h .given 0, h .given 1)) in
     (omega (arith, p), (search needs, (search needs, search needs)))
 
 returns-4 : tie.Need-returns-4
