@@ -1,17 +1,16 @@
--- A word by its first step, and the one-word entry by its refusals.
+-- The one-word entry by its refusals, and the word where none applies.
 -- Assumes nothing.
 use mathlib.Core.Path.{_≡_, refl, sym, ap, _∙_}
 use mathlib.Core.Bool.{Bool, not, _&&_}
 use mathlib.Core.List.{List}
-use Prim.Native.Nat.{ℕ, _-_, _≤_, _<_}
+use Prim.Native.Nat.{ℕ, _≤_, _<_}
 use native.Mathlib.Omega.{arith}
 use borrow.Author.Tests.{lt-ltb, le-ltb}
-use lib.IntN.{pos}
 use lib.ListN.{length, getD}
 use Rattle.answers.specs.Limits.{maxPayloadBytes}
 use Rattle.bits.specs.Bits.{bitsOf}
 use Rattle.entropy.specs.Medians.{mediansOf}
-use Rattle.word_state.specs.State.{State, paid, runDue}
+use Rattle.word_state.specs.State.{State, runDue}
 use Rattle.word_state.specs.View.{stateOf}
 use Rattle.word_state.specs.declared.StereoDecodeState.{StereoDecodeState}
 use Rattle.word_state.proofs.StateLaws.{noSet, there, picked}

@@ -2,7 +2,6 @@
 // the zeros of a run, or a sample and the short words after it, as far as they go: most words are short, and
 // that is what is fast. The medians are an array that is indexed by channel. A run is one turn, so that no
 // debt is held.
-ghost use mathlib.Core.Path.{_≡_};
 ghost use Prim.Native.Nat.{_≤_, _<_};
 ghost use lib.ListN.{length};
 ghost use Rattle.answers.specs.Limits.{maxPayloadBytes};

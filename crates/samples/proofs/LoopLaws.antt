@@ -20,7 +20,7 @@ use Rattle.words.specs.Word.{refused, word}
 use Rattle.words.specs.Parts.{codedWord}
 use Rattle.words.specs.declared.coded.Coded.{Coded}
 use Rattle.readings.specs.Reading.{reading}
-use Rattle.readings.specs.Standing.{prepend, Held, Words}
+use Rattle.readings.specs.Standing.{prepend, Words}
 use Rattle.readings.proofs.ReadingLaws.{reading-stop, reading-end}
 use Rattle.readings.proofs.HeldLaws.{held-start}
 use Rattle.readings.proofs.StandingLaws.{words-paid, words-run, words-sample}

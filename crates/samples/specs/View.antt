@@ -13,7 +13,7 @@ use Rattle.bits.specs.Bits.{bitsOf}
 use Rattle.entropy.specs.Medians.{MedianPair, pairOf, zeroPair}
 use Rattle.entropy.specs.Seed.{seedRefusal, seedMedians}
 use Rattle.overlay.specs.Overlay.{overlay}
-use Rattle.word_state.specs.State.{State, start}
+use Rattle.word_state.specs.State.{start}
 use Rattle.readings.specs.Reading.{Reading, reading}
 use Rattle.samples.specs.declared.ReadAnswer.{ReadAnswer}
 
