@@ -30,3 +30,7 @@ bytesPerFrame = 28
 -- demand 3's span (X6): a residual v, or -v - 1 for a negative one, lies below
 abbrev pub residualSpan : ℕ
 residualSpan = 1879048192
+
+-- the largest width of an interval (I1): 2^32 - 1, div 16, plus 1
+abbrev pub maxWidth : ℕ
+maxWidth = 268435456

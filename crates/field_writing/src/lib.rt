@@ -5,6 +5,7 @@ ghost use mathlib.Core.Path.{_≡_};
 ghost use mathlib.Core.List.{_++_};
 ghost use Prim.Native.Nat.{_+_, _-_, _*_, _^_, _≤_, _<_};
 ghost use lib.ListN.{length};
+ghost use Rattle.answers.specs.Limits.{maxWidth};
 ghost use Rattle.bits.specs.Bits.{low, num};
 ghost use Rattle.bits.specs.Fields.{unaryField};
 ghost use Rattle.bits.specs.Laid.{put};
@@ -43,7 +44,7 @@ fn code_count(code: u32, extras: u32, digits: usize) -> usize
 // taken as one whose codes below 1 have no bits.
 pub fn gather_code(code: u32, last: u32, sign: u32) -> Gathered
     requires code { ⌜ code ≤ last ⌝ }
-    requires last { ⌜ last < 268435456 ⌝ }
+    requires last { ⌜ last < maxWidth ⌝ }
     requires sign { ⌜ sign < 2 ⌝ }
     ensures { λ r. ⌜ Gathers (codeField last code ++ low 1 sign) r ⌝ }
 {

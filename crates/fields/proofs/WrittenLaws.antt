@@ -11,6 +11,7 @@ use native.Mathlib.Omega.{arith}
 use borrow.Author.Tests.{lt-ltb, le-ltb, eq-eqb, ne-eqb}
 use lib.Pow.{pow-mono, pow-pos, shl-exact}
 use lib.ListN.{length, length-append}
+use Rattle.answers.specs.Limits.{maxWidth}
 use Rattle.bits.specs.Bits.{low, num}
 use Rattle.bits.specs.Fields.{unaryField}
 use Rattle.bits.proofs.BitLaws.{length-low, num-append, num-lt, num-low, low-num}
@@ -149,7 +150,7 @@ long-same : (n a b : ℕ) → Long n a → Long n b → a ≡ b
 long-same n a b l m = let x = long-le n a b l (m .above) in let y = long-le n b a m (l .above) in omega arith
 
 -- so it is for every code of an interval of at most 2 ^ 28
-pub uniform : (M c b : ℕ) → c ≤ M → M < 268435456 → b ≡ bitLength (M / 2 * 2 + 1) → Uniform M c b
+pub uniform : (M c b : ℕ) → c ≤ M → M < maxWidth → b ≡ bitLength (M / 2 * 2 + 1) → Uniform M c b
 unfolding codeField
 uniform M c b h l e =
     let g : Long (M / 2 * 2 + 1) b = rw e (long (M / 2 * 2 + 1) (omega arith) (omega arith)) in

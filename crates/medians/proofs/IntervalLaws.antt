@@ -4,6 +4,7 @@ use mathlib.Core.Path.{_≡_, refl, sym, ap, ap₂, _∙_}
 use Prim.Native.Nat.{ℕ, zero, suc, _+_, _-_, _*_, _%_, _≤_, _<_, max}
 use native.Mathlib.Nat.{mul-le-mul}
 use native.Mathlib.Omega.{arith}
+use Rattle.answers.specs.Limits.{maxWidth}
 use Rattle.entropy.specs.Medians.{Medians, Small}
 use Rattle.medians.specs.Interval.{g, base, width, wrapped, lowOf, highOf, IntervalIs}
 
@@ -20,14 +21,14 @@ width-many m (suc zero) h = absurd (omega arith)
 width-many m (suc (suc j)) h = refl
 
 -- an interval is at least 1 and at most 2 ^ 28 wide
-pub width-le : (m : Medians) (k : ℕ) → Small m → (0 < width m k) × (width m k ≤ 268435456)
+pub width-le : (m : Medians) (k : ℕ) → Small m → (0 < width m k) × (width m k ≤ maxWidth)
 width-le m zero s = omega arith
 width-le m (suc zero) s = omega arith
 width-le m (suc (suc k)) s = omega arith
 
 -- a count of 32 bits times a width fits 64 bits
-pub product-small : (a b : ℕ) → a < 4294967296 → b ≤ 268435456 → a * b ≤ 1152921504338411520
-product-small a b h l = mul-le-mul {n₁ = a} {m₁ = b} {n₂ = 4294967295} {m₂ = 268435456} (omega arith) l
+pub product-small : (a b : ℕ) → a < 4294967296 → b ≤ maxWidth → a * b ≤ 1152921504338411520
+product-small a b h l = mul-le-mul {n₁ = a} {m₁ = b} {n₂ = 4294967295} {m₂ = maxWidth} (omega arith) l
 
 -- the ends are in order and have 31 bits
 pub ends : (m : Medians) (k : ℕ) → (lowOf m k ≤ highOf m k) × (highOf m k < 2147483648)
@@ -38,7 +39,7 @@ ends m k = (omega arith, omega arith)
 pub record Ends (low high : ℕ) : Type 0 where
   pub ordered : low ≤ high
   pub within : high < 2147483648
-  pub last : high - low < 268435456
+  pub last : high - low < maxWidth
 
 pub told-ends : (m : Medians) (k low high : ℕ) → IntervalIs m k low high → Ends low high
 unfolding lowOf highOf
@@ -65,7 +66,7 @@ pub cut-high : (b h : ℕ) → b % 2147483648 ≤ h % 2147483648 → (b % 214748
 cut-high b h l = (sym (wrap-is b), rw (wrap-is b, wrap-is h) (max-right (b % 2147483648) (h % 2147483648) l))
 
 -- an interval is told by its start and its width
-pub interval-is : (m : Medians) (k b w low high : ℕ) → b ≡ base m k → w ≡ width m k → (0 < w) × (w ≤ 268435456) → low ≡ wrapped b → high ≡ max (wrapped b) (wrapped (b + w - 1))
+pub interval-is : (m : Medians) (k b w low high : ℕ) → b ≡ base m k → w ≡ width m k → (0 < w) × (w ≤ maxWidth) → low ≡ wrapped b → high ≡ max (wrapped b) (wrapped (b + w - 1))
     → IntervalIs m k low high
 unfolding lowOf highOf
 interval-is m k b w low high e f n l h =

@@ -3,6 +3,7 @@
 -- Assumes nothing.
 use mathlib.Core.Path.{_≡_}
 use Prim.Native.Nat.{ℕ, zero, suc, _+_, _-_, _*_, _/_, _%_, _≤_, _<_, max}
+use Rattle.answers.specs.Limits.{maxWidth}
 use Rattle.entropy.specs.Medians.{Medians}
 
 -- document 01 (I1): "g_i = median_i div 16 + 1"
@@ -39,4 +40,4 @@ pub record IntervalIs (m : Medians) (k low high : ℕ) : Type 0 where
   pub low-is : low ≡ lowOf m k
   pub high-is : high ≡ highOf m k
   pub some : 0 < width m k
-  pub most : width m k ≤ 268435456
+  pub most : width m k ≤ maxWidth

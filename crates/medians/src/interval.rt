@@ -1,6 +1,7 @@
 // Implements document 01, "One word", the interval of a count.
 ghost use mathlib.Core.Path.{_≡_};
 ghost use Prim.Native.Nat.{_+_, _-_, _≤_, _<_, max};
+ghost use Rattle.answers.specs.Limits.{maxWidth};
 ghost use Rattle.entropy.specs.Medians.{mediansOf};
 ghost use Rattle.medians.specs.Interval.{g, wrapped, IntervalIs};
 use entropy::AdaptiveMedians;
@@ -16,7 +17,7 @@ pub struct SampleInterval {
 fn get_med(median: u32) -> u64
     ensures is { λ r. ⌜ r ≡ g median ⌝ }
     ensures some { λ r. ⌜ 0 < r ⌝ }
-    ensures most { λ r. ⌜ r ≤ 268435456 ⌝ }
+    ensures most { λ r. ⌜ r ≤ maxWidth ⌝ }
 {
     u32_to_u64(median) / 16 + 1
 }
@@ -25,7 +26,7 @@ fn get_med(median: u32) -> u64
 fn cut(base: u64, width: u64) -> SampleInterval
     requires base { ⌜ base < 2305843009213693952 ⌝ }
     requires some { ⌜ 0 < width ⌝ }
-    requires most { ⌜ width ≤ 268435456 ⌝ }
+    requires most { ⌜ width ≤ maxWidth ⌝ }
     ensures low { λ r. ⌜ r .low ≡ wrapped base ⌝ }
     ensures high { λ r. ⌜ r .high ≡ max (wrapped base) (wrapped (base + width - 1)) ⌝ }
 {

@@ -6,6 +6,7 @@ use mathlib.Core.Bool.{Bool, true, false, _||_}
 use mathlib.Core.List.{List}
 use Prim.Native.Nat.{ℕ, _+_, _-_, _/_, _≤_, _<_}
 use lib.Dec.{ltb}
+use Rattle.answers.specs.Limits.{maxWidth}
 use Rattle.bits.specs.Bits.{val, low, ones}
 use Rattle.bits.specs.Window.{Window}
 use Rattle.entropy.specs.Medians.{Medians, mediansOf}
@@ -40,7 +41,7 @@ pub record ShortPrefix (w n lo hi : ℕ) : Type 0 where
   pub few : n < 16
   pub ordered : lo ≤ hi
   pub within : hi < 2147483648
-  pub last : hi - lo < 268435456
+  pub last : hi - lo < maxWidth
 
 -- r is the word of n ones for all medians that give its count this interval and adapt by it to these
 pub record CountedIs (w n lo hi : ℕ) (after : AdaptiveMedians) (r : ShortWord) : Type 0 where

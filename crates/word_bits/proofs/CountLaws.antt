@@ -9,7 +9,7 @@ use native.Mathlib.Omega.{arith}
 use borrow.Author.Tests.{lt-ltb, le-ltb, le-leb, leb-true, ltb-true, ltb-false}
 use lib.Dec.{ltb, leb}
 use Rattle.medians.proofs.IntervalLaws.{width-le}
-use Rattle.answers.specs.Limits.{residualSpan}
+use Rattle.answers.specs.Limits.{residualSpan, maxWidth}
 use Rattle.entropy.specs.Medians.{Medians, Small}
 use Rattle.medians.specs.Interval.{g, base, width, lowOf, highOf}
 use Rattle.answers.proofs.TestLaws.{both}
@@ -85,7 +85,7 @@ pub record Plain (m : Medians) (k v : ℕ) : Type 0 where
   pub low-is : lowOf m k ≡ base m k
   pub high-is : highOf m k ≡ base m k + width m k - 1
   pub room : base m k + width m k ≤ 2147483648
-  pub wide : highOf m k - lowOf m k < 268435456
+  pub wide : highOf m k - lowOf m k < maxWidth
   pub from : lowOf m k ≤ v
   pub upto : v ≤ highOf m k
 

@@ -8,7 +8,7 @@ use native.Mathlib.Omega.{arith}
 use lib.IntN.{ℤ, pos, negsuc}
 use lib.ListN.{length-append}
 use lib.Signed.{mag}
-use Rattle.answers.specs.Limits.{residualSpan}
+use Rattle.answers.specs.Limits.{residualSpan, maxWidth}
 use Rattle.bits.specs.Bits.{low}
 use Rattle.bits.proofs.BitLaws.{length-low}
 use Rattle.entropy.specs.Medians.{Medians, Small}
@@ -27,7 +27,7 @@ use Rattle.fields.proofs.WrittenLaws.{known}
 -- a located residual's code is within its interval, and 28 bits hold it
 pub record Fits (r : Located) : Type 0 where
   pub within : r .code ≤ r .last
-  pub wide : r .last < 268435456
+  pub wide : r .last < maxWidth
   pub few : r .count < residualSpan
 
 -- so it is for every residual in the span
@@ -52,7 +52,7 @@ pub record Coded (c : Gathered) : Type 0 where
   pub below : c .value < 2 ^ c .count
 
 -- so it is for a code of 28 bits and a sign
-pub coded : (M x s : ℕ) (c : Gathered) → M < 268435456 → Gathers (codeField M x ++ low 1 s) c → Coded c
+pub coded : (M x s : ℕ) (c : Gathered) → M < maxWidth → Gathers (codeField M x ++ low 1 s) c → Coded c
 coded M x s c h g =
     let l = length-append (codeField M x) (low 1 s) in
     let n = length-low 1 s in

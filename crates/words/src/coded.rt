@@ -4,7 +4,7 @@
 ghost use mathlib.Core.Path.{_≡_};
 ghost use Prim.Native.Nat.{_+_, _%_, _≤_, _<_};
 ghost use lib.ListN.{length};
-ghost use Rattle.answers.specs.Limits.{maxPayloadBytes};
+ghost use Rattle.answers.specs.Limits.{maxPayloadBytes, maxWidth};
 ghost use Rattle.bits.specs.Bits.{bitsOf, val, bitOf};
 ghost use Rattle.entropy.specs.Medians.{mediansOf};
 ghost use Rattle.words.specs.Word.{signed};
@@ -70,7 +70,7 @@ pub fn apply_sign(magnitude: u32, sign: u32) -> i32
 // Code and sign at the start of a window, in the interval of `last` + 1 numbers from `low` on.
 pub fn signed_code(v: u64, low: u32, last: u32) -> SignedCode
     requires interval { ⌜ low + last < 2147483648 ⌝ }
-    requires last { ⌜ last < 268435456 ⌝ }
+    requires last { ⌜ last < maxWidth ⌝ }
     ensures { λ r. ⌜ SignedCodeIs v low last (r .value) (r .used) ⌝ }
 {
     let got = code_in_window(v, last);
