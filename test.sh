@@ -1,7 +1,7 @@
 #!/bin/sh
-# Runs every test: the layout of the files, docs/PROVED.md against what it names, the wording of the refusals,
-# the proofs and programs from nothing, the C programs and the Rust bindings over the proved library, and the
-# comparison with the published Rust. The last line is that of `rt ci` when all pass.
+# Runs every test: the layout of the files, crates.txt and docs/PROVED.md against what they name, the wording
+# of the refusals, the proofs and programs from nothing, the C programs and the Rust bindings over the proved
+# library, and the comparison with the published Rust. The last line is that of `rt ci` when all pass.
 #
 # The published Rust is looked for in ../shared/docs/src/src, or in the folder that WAVPACK_REFERENCE names.
 # Where it is missing the comparison is skipped with a message; with CI=true a missing reference is a failure.
@@ -15,6 +15,7 @@ fail() {
 
 # What takes seconds comes first.
 rt fmt --check || fail 'the layout of the Rattle files'
+docs/crates.sh || fail 'crates.txt'
 docs/carriers.sh || fail 'docs/PROVED.md'
 docs/refusals.sh || fail 'the wording of the refusals'
 cargo fmt --check --manifest-path bindings/rust/Cargo.toml || fail 'the layout of the bindings'
