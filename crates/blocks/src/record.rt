@@ -3,12 +3,12 @@ use answers::Outcome;
 use answers::Refusal;
 use answers::or_else;
 use answers::outcome_number;
-use decorrelation::DecorrPass;
 use little_endian::signed_word;
 use logpack::LogWordAnswer;
 use logpack::expand_log_word;
 use pass_bytes::decode_term_byte;
 use pass_bytes::expand_weight_byte;
+use passes::DecorrPass;
 use passes::PassAnswer;
 
 // The passes of a block; `complete` where the file holds all of them and pass making accepts each.

@@ -5,17 +5,17 @@
 mod joined;
 mod reach;
 
-use crate::joined::run_joined;
-use crate::joined::run_seventeen;
-use crate::reach::run_reach;
 use answers::outcome_number;
 use bit_reader::field_at;
 use bits::BitAnswer;
-use decorrelation::DecorrPass;
+use crate::joined::run_joined;
+use crate::joined::run_seventeen;
+use crate::reach::run_reach;
 use decorrelation::decorrelate_array;
 use entropy_info::expand_entropy;
 use libc::STDOUT_FILENO;
 use packing::writing::encode_packed_samples_stereo_from_entropy;
+use passes::DecorrPass;
 use samples::reading::decode_packed_samples_stereo_from_entropy;
 use trip_entry::round_trip;
 use wrapping::casts::u8_to_usize;

@@ -10,5 +10,3 @@ pub use crate::arrays::decorrelate_array;
 pub use crate::arrays::recorrelate_array;
 pub use crate::lists::decorrelate_stereo;
 pub use crate::lists::recorrelate_stereo;
-pub use passes::DecorrPass;
-pub use passes::Direction;

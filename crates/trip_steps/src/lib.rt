@@ -7,11 +7,11 @@ ghost use Rattle.trip_steps.specs.Steps.{earlyRefusal, cameBack, FoundIs
 use answers::Outcome;
 use answers::limits::MAX_PASSES;
 use answers::outcome_number;
-use decorrelation::DecorrPass;
 use decorrelation::analysis_refusal;
 use decorrelation::decorrelate_array;
 use decorrelation::recorrelate_array;
 use packing::writing::refusal_before_span;
+use passes::DecorrPass;
 use samples::reading::decode_packed_samples_stereo_from_entropy;
 use trip_lists::copy;
 use trip_lists::same;

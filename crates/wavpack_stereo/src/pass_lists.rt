@@ -1,8 +1,8 @@
 // Pass making, decorrelation and analysis for a caller that holds its passes in lists of slots, 20
 // to a pass.
-use decorrelation::Direction;
 use made_slots::make_pass;
 use pass_slots::run_slots;
+use passes::Direction;
 ghost use mathlib.Core.Path.{_≡_};
 ghost use Rattle.decorrelation.specs.Lists.{decorrelation, analysis};
 ghost use Rattle.slots.specs.Slots.{leaveValues};
