@@ -5,13 +5,14 @@
 mod joined;
 mod reach;
 
-use answers::outcome_number;
-use bit_reader::field_at;
-use bits::BitAnswer;
 use crate::joined::run_joined;
 use crate::joined::run_seventeen;
 use crate::reach::run_reach;
+use answers::outcome_number;
+use bit_reader::field_at;
+use bits::BitAnswer;
 use decorrelation::decorrelate_array;
+use entropy::EntropyInfo;
 use entropy_info::expand_entropy;
 use libc::STDOUT_FILENO;
 use packing::writing::encode_packed_samples_stereo_from_entropy;
@@ -70,7 +71,7 @@ pub(crate) fn print_values(values: &[i32]) {
 pub(crate) fn run_entropy(name: &[u8], payload: &[u8]) {
     let answer = expand_entropy(payload);
     let outcome = answer.outcome;
-    let info = answer.info;
+    let info: EntropyInfo = answer.info;
     let left = info.medians_left;
     let right = info.medians_right;
     print_case(name, outcome_number(outcome));

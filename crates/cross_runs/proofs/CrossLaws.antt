@@ -48,7 +48,8 @@ module _ (d : Direction) (f : Bool) (p : DecorrPass) (whole : List ℤ) where
       → FrameFits r → SFits w32 X → SFits w32 Y → TurnedFits A → TurnedFits B → SFits w32 C → SFits w32 D
       → let q = crossAt f p (reread (A .weight)) (reread (B .weight)) (reread (B .sample)) in
       Done (turn d (crossTerm f)) p whole q after ((i + 2) / 2) (i + 2)
-  cross-turn u v k {X} {Y} {C} {D} {l} {after} {i} {r} A B done h er ex ey ea eb ec ed es fr fX fY fa fb fC fD =
+  cross-turn u v k {X} {Y} {C} {D} {l} {after} {i} {r} A B done h er ex ey ea eb ec ed es fr fX fY fa fb fC
+      fD =
       let eb′ : B ≡ turned d true v (p .delta) (A .sample) Y =
       rw (toZ-ofZ w32 _ (done .delta), toZ-ofZ w32 _ (fa .sample), toZ-ofZ w32 Y fY) at eb in
       let ea′ : A ≡ turned d true u (p .delta) k X = rw (toZ-ofZ w32 _ (done .delta), toZ-ofZ w32 X fX) at ea in

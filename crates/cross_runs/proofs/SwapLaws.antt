@@ -42,7 +42,8 @@ module _ (d : Direction) (p : DecorrPass) (whole : List ℤ) where
       → B ≡ turned d true wb (reread (p .delta)) ha (reread (f .b))
       → after ≡ frameStored l i (reread (A .element)) (reread (B .element)) → FrameFits f → TurnedFits A
       → TurnedFits B
-      → let q = swapAt p (reread (A .weight)) (reread (B .weight)) (reread (A .sample)) (reread (B .sample)) in
+      → let q = swapAt p (reread (A .weight)) (reread (B .weight)) (reread (A .sample)) (reread (B .sample))
+      in
       Done (turn d MinusThree) p whole q after ((i + 2) / 2) (i + 2)
   swap-turn {wa} {wb} {ha} {hb} {l} {after} {i} {f} A B done h ef ea eb es ff fa fb =
       let o : Stepped = record {
@@ -64,12 +65,14 @@ pub swap-start : (p : DecorrPass) {A B : ℤ} → A ≡ slot (p .«history_a») 
     → SFits w32 A → SFits w32 B
     → swapAt p (reread (p .«weight_a»)) (reread (p .«weight_b»)) (reread A) (reread B) ≡ p
 swap-start p {A} {B} ea eb ha hb fa fb gA gB =
-    kept p (rw (toZ-ofZ w32 A gA, ea) (head-back _ (omega (arith, ha)))) (rw (toZ-ofZ w32 B gB, eb) (head-back _ (omega (arith, hb)))) fa fb
+    kept p (rw (toZ-ofZ w32 A gA, ea) (head-back _ (omega (arith, ha))))
+    (rw (toZ-ofZ w32 B gB, eb) (head-back _ (omega (arith, hb)))) fa fb
 
 -- the pass that is put together after the loop
 pub swap-end : (p : DecorrPass) (wa wb a b : ℤ) → length (p .«history_a») ≡ 8 → length (p .«history_b») ≡ 8
     → SFits w32 wa → SFits w32 wb → SFits w32 a → SFits w32 b
-    → lagAt p (reread wa) (reread wb) (set (p .«history_a») 0 (reread a)) (set (p .«history_b») 0 (reread b)) ≡ swapAt p wa wb a b
+    → lagAt p (reread wa) (reread wb) (set (p .«history_a») 0 (reread a))
+    (set (p .«history_b») 0 (reread b)) ≡ swapAt p wa wb a b
 swap-end p wa wb a b ha hb fwa fwb fa fb =
     rw (
       toZ-ofZ w32 wa fwa,

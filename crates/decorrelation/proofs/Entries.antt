@@ -43,7 +43,8 @@ use Rattle.passes.specs.declared.Direction.{Direction}
 use Rattle.passes.proofs.DecorrPass as R
 use Rattle.passes.proofs.Direction.Laws as D′
 use Rattle.decorrelation.specs.Lists.{Answer, listed}
-use Rattle.passes.proofs.Locals.{passTy, wayTy, lentPasses, lentNumbers, passesTy, bufferTy, way, way-is, WayTyped, way-typed, tag, tag-fits, way-made}
+use Rattle.passes.proofs.Locals.{passTy, wayTy, lentPasses, lentNumbers, passesTy, bufferTy}
+use Rattle.passes.proofs.Locals.{way, way-is, WayTyped, way-typed, tag, tag-fits, way-made}
 use Rattle.list_runs.proofs.TurnCalls.{buf}
 use Rattle.decorrelation.proofs.TestCalls.{list-at}
 use Rattle.decorrelation.proofs.EntryCall.{RunChecked, calls-run-checked}

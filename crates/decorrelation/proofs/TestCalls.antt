@@ -81,7 +81,8 @@ module _ {M : Type 1} (𝓤 : URA M) (H : Heap 𝓤) (A : Atoms 𝓤) (W : Given
   -- `all_valid`: from [the list; its token; Γ] to the same, where whether all terms are valid is
   -- about to land
   pub calls-all-valid : {Γ : List (Item 𝓤)} {E : Env 𝓤 H} {C : Calls 𝓤 H} {Λ : Loops 𝓤 H} {Q : Post 𝓤 H} {xs : List Operand} {d : Place} {rest : Body}
-      → FmC 𝓤 H (W .laws) C → Triple 𝓤 (C #list_tests·all-valid) (AllValid 𝓤 H A mem run) → Room T.the-row (length P)
+      → FmC 𝓤 H (W .laws) C → Triple 𝓤 (C #list_tests·all-valid) (AllValid 𝓤 H A mem run) → Room T.the-row
+      (length P)
       → ((ν : ℕ) (δ : GName) → Opds (Go {0}) W (raw (AllValid 𝓤 H A mem run .pre (to-all-valid ν δ)) ∷ ‵ (LentShared T.the-row κ (ν ∷ []) q γ b o P) ∷ Γ) E xs (v ∷ []))
       → Seq (Go {0}) W (Passes ∷ ‵ (flft κ q) ∷ Γ) (lands C Λ E d (vbool (allValid P)) rest Q)
       → Seq (Go {0}) W (Passes ∷ ‵ (flft κ q) ∷ Γ) (runs C Λ E (seq (call #list_tests·all-valid xs d) rest) Q)
@@ -108,7 +109,8 @@ module _ {M : Type 1} (𝓤 : URA M) (H : Heap 𝓤) (A : Atoms 𝓤) (W : Given
 
   -- `list_outcome`: the outcome r of a list is about to land
   pub calls-list-outcome : {Γ : List (Item 𝓤)} {E : Env 𝓤 H} {C : Calls 𝓤 H} {Λ : Loops 𝓤 H} {Q : Post 𝓤 H} {xs : List Operand} {d : Place} {rest : Body}
-      → FmC 𝓤 H (W .laws) C → Triple 𝓤 (C #list_tests·list-outcome) (ListOutcome 𝓤 H A mem run) → n < 2 ^ 64 → m < 2 ^ 64
+      → FmC 𝓤 H (W .laws) C → Triple 𝓤 (C #list_tests·list-outcome) (ListOutcome 𝓤 H A mem run) → n < 2 ^ 64
+      → m < 2 ^ 64
       → Opds (Go {0}) W (raw (ListOutcome 𝓤 H A mem run .pre to-list-outcome) ∷ Γ) E xs (vbool valid ∷ vint w64 n ∷ vint w64 m ∷ [])
       → ((w : Val) (r : Outcome) → Is S.the-row r (w ∷ []) → outcomeNumber r ≡ listNumber valid n m → Seq (Go {0}) W Γ (lands C Λ E d w rest Q))
       → Seq (Go {0}) W Γ (runs C Λ E (seq (call #list_tests·list-outcome xs d) rest) Q)
@@ -128,7 +130,8 @@ module _ {M : Type 1} (𝓤 : URA M) (H : Heap 𝓤) (A : Atoms 𝓤) (W : Given
 
   -- `is_accepted`: whether an outcome is acceptance lands
   pub calls-is-accepted : {Γ : List (Item 𝓤)} {E : Env 𝓤 H} {C : Calls 𝓤 H} {Λ : Loops 𝓤 H} {Q : Post 𝓤 H} {xs : List Operand} {d : Place} {rest : Body}
-      → FmC 𝓤 H (W .laws) C → Triple 𝓤 (C #list_tests·is-accepted) (IsAccepted 𝓤 H A mem run) → Is S.the-row r (w ∷ [])
+      → FmC 𝓤 H (W .laws) C → Triple 𝓤 (C #list_tests·is-accepted) (IsAccepted 𝓤 H A mem run) → Is S.the-row
+      r (w ∷ [])
       → Opds (Go {0}) W (raw (IsAccepted 𝓤 H A mem run .pre to-is-accepted) ∷ Γ) E xs (w ∷ [])
       → Seq (Go {0}) W Γ (lands C Λ E d (vbool (acceptedBy r)) rest Q)
       → Seq (Go {0}) W Γ (runs C Λ E (seq (call #list_tests·is-accepted xs d) rest) Q)

@@ -22,7 +22,8 @@ use Rattle.passes.specs.declared.Direction.{Direction}
 use Rattle.passes.specs.declared.Direction.the-variants.{Decorrelation, Analysis}
 use Rattle.list_tests.specs.Tests.{allValid, listNumber}
 use Rattle.list_runs.specs.Chained.{chained}
-use Rattle.decorrelation.specs.Lists.{numberBy, Answer, done, refuseList, listed, followed, arrayAnswer, decorrelation, analysis}
+use Rattle.decorrelation.specs.Lists.{numberBy, Answer, done, refuseList}
+use Rattle.decorrelation.specs.Lists.{listed, followed, arrayAnswer, decorrelation, analysis}
 use Rattle.decorrelation.proofs.Answers.{number-by}
 
 -- what both entries accept: at most 16 well-made passes, and at most 262,144 elements

@@ -72,7 +72,8 @@ RefusedExactly =
 pub record AllKeep (info : Int32Info) (literal : List ℕ) (samples : List ℤ) : Type 0 where
   pub literal-kept : (i : ℕ) → i < length samples → Keeps (info .«sent_bits») (getD samples i (pos 0))
   pub redundant-kept : (i : ℕ) → i < length samples
-      → Keeps (width (settingOf info)) (getD (appended (info .«sent_bits») (bitsOf literal) samples) i (pos 0))
+      → Keeps (width (settingOf info)) (getD (appended (info .«sent_bits») (bitsOf literal) samples) i
+      (pos 0))
 
 -- and then what was put in is taken out again: the samples, and the literal bits that were read
 -- (Q6.5)

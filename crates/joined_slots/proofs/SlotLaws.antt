@@ -38,13 +38,20 @@ pass-first xs ys h =
     )
 
 -- the passes of two lists of slots, one behind the other
-pub passes-joined : (m n : ℕ) (xs ys : List ℤ) → length xs ≡ m * passSlots → passesOf (m + n) (xs ++ ys) ≡ passesOf m xs ++ passesOf n ys
+pub passes-joined : (m n : ℕ) (xs ys : List ℤ) → length xs ≡ m * passSlots → passesOf (m + n) (xs ++ ys) ≡
+    passesOf m xs ++ passesOf n ys
 passes-joined zero n [] ys e = rw (zero-add n)
 passes-joined zero n (x ∷ xs) ys e = absurd (omega arith)
 passes-joined (suc m) n xs ys e =
     let more : suc m + n ≡ suc (m + n) = omega arith in
     let tail : length (drop passSlots xs) ≡ m * passSlots = rw (length-drop passSlots xs) (omega arith) in
-    rw (more, pass-first xs ys (omega arith), drop-append-le passSlots xs ys (omega arith), passes-joined m n (drop passSlots xs) ys tail)
+    rw (
+      more,
+      pass-first xs ys (omega arith),
+      drop-append-le passSlots xs ys (omega arith),
+      passes-joined m
+          n (drop passSlots xs) ys tail,
+    )
 
 -- the passes that slots hold
 abbrev pub passesIn : List ℤ → List DecorrPass
@@ -65,7 +72,8 @@ module _ (entry : List DecorrPass → List ℤ → Answer) (slots buffer : List 
   unfolding passesCall
   call-leaves a = rw (eq-eqb (length slots % passSlots) 0 (a .whole), a .accepted)
 
-  accepted-by : (b : Bool) → eqb (length slots % passSlots) 0 ≡ b → passesCall entry slots buffer .refusal ≡ 0 → AcceptedCall
+  accepted-by : (b : Bool) → eqb (length slots % passSlots) 0 ≡ b → passesCall entry slots buffer .refusal ≡
+      0 → AcceptedCall
   unfolding passesCall
   accepted-by true e z = record { whole = eqb-true (length slots % passSlots) 0 e; accepted = rw e at z }
   accepted-by false e z = absurd (let six : _≡_ {A = ℕ} 6 0 = rw e at z in omega arith)
@@ -75,7 +83,9 @@ module _ (entry : List DecorrPass → List ℤ → Answer) (slots buffer : List 
   call-accepts z = accepted-by (eqb (length slots % passSlots) 0) refl z
 
 -- the passes that two lists of slots hold, one behind the other
-pub passes-in-joined : (xs ys : List ℤ) → length xs % passSlots ≡ 0 → length ys % passSlots ≡ 0 → passesIn (xs ++ ys) ≡ passesIn xs ++ passesIn ys
+pub passes-in-joined : (xs ys : List ℤ) → length xs % passSlots ≡ 0 → length ys % passSlots ≡ 0 → passesIn
+    (xs ++ ys) ≡ passesIn xs ++ passesIn ys
 passes-in-joined xs ys e f =
-    let count : length (xs ++ ys) / passSlots ≡ length xs / passSlots + length ys / passSlots = rw (length-append xs ys) (omega (arith, e, f)) in
+    let count : length (xs ++ ys) / passSlots ≡ length xs / passSlots + length ys / passSlots = rw
+    (length-append xs ys) (omega (arith, e, f)) in
     rw count (passes-joined (length xs / passSlots) (length ys / passSlots) xs ys (omega (arith, e)))

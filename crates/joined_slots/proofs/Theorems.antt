@@ -30,7 +30,8 @@ slots-of e = ap (λ (x : PassesLeft). x .passes) e
 buffer-of : {a b : PassesLeft} → a ≡ b → a .buffer ≡ b .buffer
 buffer-of e = ap (λ (x : PassesLeft). x .buffer) e
 
-module _ (entry : List DecorrPass → List ℤ → Answer) (xs ys l : List ℤ) (whole-xs : length xs % passSlots ≡ 0) (whole-ys : length ys % passSlots ≡ 0) where
+module _ (entry : List DecorrPass → List ℤ → Answer) (xs ys l : List ℤ)
+    (whole-xs : length xs % passSlots ≡ 0) (whole-ys : length ys % passSlots ≡ 0) where
   -- the joined call over slots leaves what the entry leaves by both lists of passes
   joined-leaves : entry (passesIn xs ++ passesIn ys) l .refusal ≡ 0 → passesCall entry (xs ++ ys) l ≡ inSlots (entry (passesIn xs ++ passesIn ys) l)
   joined-leaves z =
@@ -50,8 +51,10 @@ module _ (entry : List DecorrPass → List ℤ → Answer) (xs ys l : List ℤ) 
       }
 
 -- at most 320 slots hold at most 16 passes
-few-passes : (xs ys : List ℤ) → length xs + length ys ≤ maxPasses * passSlots → length (passesIn xs) + length (passesIn ys) ≤ maxPasses
-few-passes xs ys h = rw (passes-length (length xs / passSlots) xs, passes-length (length ys / passSlots) ys) (omega arith)
+few-passes : (xs ys : List ℤ) → length xs + length ys ≤ maxPasses * passSlots → length (passesIn xs) +
+    length (passesIn ys) ≤ maxPasses
+few-passes xs ys h = rw (passes-length (length xs / passSlots) xs, passes-length (length ys / passSlots) ys)
+    (omega arith)
 
 -- ---- the theorems
 

@@ -74,7 +74,8 @@ module _ {M : Type 1} (𝓤 : URA M) (H : Heap 𝓤) (A : Atoms 𝓤) (W : Given
 
   -- `place`: the place of a turn lands
   pub calls-place : {Γ : List (Item 𝓤)} {E : Env 𝓤 H} {C : Calls 𝓤 H} {Λ : Loops 𝓤 H} {Q : Post 𝓤 H} {xs : List Operand} {d : Place} {rest : Body}
-      → FmC 𝓤 H (W .laws) C → Triple 𝓤 (C #list_runs·place) (PlaceOf 𝓤 H A mem run) → i < n → n < 2 ^ 64 → i < 2 ^ 64
+      → FmC 𝓤 H (W .laws) C → Triple 𝓤 (C #list_runs·place) (PlaceOf 𝓤 H A mem run) → i < n → n < 2 ^ 64 → i
+      < 2 ^ 64
       → Opds (Go {0}) W (raw (PlaceOf 𝓤 H A mem run .pre to-place) ∷ Γ) E xs (dv ∷ vint w64 n ∷ vint w64 i ∷ [])
       → Seq (Go {0}) W Γ (lands C Λ E d (vint w64 (placeOf dir n i)) rest Q)
       → Seq (Go {0}) W Γ (runs C Λ E (seq (call #list_runs·place xs d) rest) Q)

@@ -56,7 +56,8 @@ module _ {M : Type 1} (𝓤 : URA M) (H : Heap 𝓤) (A : Atoms 𝓤) (W : Given
 
   -- `valid_pass`: whether a pass's term is valid lands
   pub calls-valid-pass : {Γ : List (Item 𝓤)} {E : Env 𝓤 H} {C : Calls 𝓤 H} {Λ : Loops 𝓤 H} {Q : Post 𝓤 H} {xs : List Operand} {d : Place} {rest : Body}
-      → FmC 𝓤 H (W .laws) C → Triple 𝓤 (C #list_tests·valid-pass) (ValidPass 𝓤 H A mem run) → Is T.the-row p (mach p ∷ [])
+      → FmC 𝓤 H (W .laws) C → Triple 𝓤 (C #list_tests·valid-pass) (ValidPass 𝓤 H A mem run) → Is T.the-row p
+      (mach p ∷ [])
       → Opds (Go {0}) W (raw (ValidPass 𝓤 H A mem run .pre to-valid-pass) ∷ Γ) E xs (mach p ∷ [])
       → Seq (Go {0}) W Γ (lands C Λ E d (vbool (validPass p)) rest Q)
       → Seq (Go {0}) W Γ (runs C Λ E (seq (call #list_tests·valid-pass xs d) rest) Q)

@@ -37,7 +37,8 @@ module _ (term delta weightA weightB : ℤ) (seedA seedB slots : List ℤ) where
   pub pass-short : (r : ℕ) → r ≡ 6 → length slots < passSlots → Passed r slots
   pass-short r e h = rw (lt-ltb (length slots) passSlots h, e) (refl, refl)
 
-  module _ (o : Outcome) (p : DecorrPass) (told : record { refusal = outcomeNumber o; pass = p } ≡ made term delta weightA weightB seedA seedB) (enough : passSlots ≤ length slots) where
+  module _ (o : Outcome) (p : DecorrPass) (told : record { refusal = outcomeNumber o; pass = p } ≡ made term
+      delta weightA weightB seedA seedB) (enough : passSlots ≤ length slots) where
     number-is : outcomeNumber o ≡ makingRefusal term seedA seedB
     number-is = ap (λ (m : Made). m .refusal) told ∙ made-refusal
 
@@ -45,7 +46,11 @@ module _ (term delta weightA weightB : ℤ) (seedA seedB slots : List ℤ) where
     pub pass-refused : (r : ℕ) (x : Refusal) → r ≡ outcomeNumber o → o ≡ Outcome.Refused x → Passed r slots
     pass-refused r x e f =
         let h : 0 < r = rw (e, f) (number-positive x) in
-        rw (le-ltb (length slots) passSlots enough, guard-refused r (λ _. slots) (overlay slots 0 (passValues term delta weightA weightB seedA seedB)) h) (e ∙ number-is, refl)
+        rw (
+          le-ltb (length slots) passSlots enough,
+          guard-refused r (λ _. slots)
+              (overlay slots 0 (passValues term delta weightA weightB seedA seedB)) h,
+        ) (e ∙ number-is, refl)
 
     -- one that is made
     pub pass-made : (values after : List ℤ) → o ≡ Outcome.Accepted → values ≡ slotsOf p → after ≡ overlay slots 0 values → Passed 0 after

@@ -66,7 +66,8 @@ pub cut-high : (b h : ℕ) → b % 2147483648 ≤ h % 2147483648 → (b % 214748
 cut-high b h l = (sym (wrap-is b), rw (wrap-is b, wrap-is h) (max-right (b % 2147483648) (h % 2147483648) l))
 
 -- an interval is told by its start and its width
-pub interval-is : (m : Medians) (k b w low high : ℕ) → b ≡ base m k → w ≡ width m k → (0 < w) × (w ≤ maxWidth) → low ≡ wrapped b → high ≡ max (wrapped b) (wrapped (b + w - 1))
+pub interval-is : (m : Medians) (k b w low high : ℕ) → b ≡ base m k → w ≡ width m k → (0 < w) ×
+    (w ≤ maxWidth) → low ≡ wrapped b → high ≡ max (wrapped b) (wrapped (b + w - 1))
     → IntervalIs m k low high
 unfolding lowOf highOf
 interval-is m k b w low high e f n l h =

@@ -18,7 +18,8 @@ use Rattle.pack_slots.specs.PackSlots.{packCall}
 
 module _ (residuals : List ℤ) (entropy : List ℕ) (frames : ℕ) (buffer : List ℕ) where
   -- what was told fits its slot: at most 111 bits for each of 262,144 residuals
-  pub pack-fits : (x : PackAnswer) (after : List ℕ) → viewPacking x after ≡ packEntry residuals entropy frames buffer
+  pub pack-fits : (x : PackAnswer) (after : List ℕ) → viewPacking x after ≡ packEntry residuals entropy
+      frames buffer
       → x .bits ≤ maxWordBits * maxElements
   pack-fits x after t = rw (ap (λ (p : PackTold). p .bits) t) (bits-few residuals entropy frames buffer)
 

@@ -38,7 +38,8 @@ refused-left (suc k) c slots qs l h = refl
 
 module _ (dir : Direction) (slots buffer : List ℤ) where
   -- a length that is no multiple of 20
-  pub call-short : (r : ℕ) → r ≡ 6 → eqb (length slots % passSlots) 0 ≡ false → record { refusal = r; passes = slots; buffer = buffer } ≡ passesCall (listed dir) slots buffer
+  pub call-short : (r : ℕ) → r ≡ 6 → eqb (length slots % passSlots) 0 ≡ false → record
+      { refusal = r; passes = slots; buffer = buffer } ≡ passesCall (listed dir) slots buffer
   unfolding passesCall
   call-short r e h = rw (h, e)
 

@@ -53,7 +53,9 @@ history-held l h at k e =
     overlay-whole h part n
 
 -- a pass from the parts of its slots
-pub pass-held : (s h g : List ℤ) (t : ℤ) (a b : List ℤ) → passSlots ≤ length s → length h ≡ 8 → length g ≡ 8 → t ≡ slotTerm (getD s 0 (pos 0)) → a ≡ overlay h 0 (take 8 (drop 4 s)) → b ≡ overlay g 0 (take 8 (drop 12 s))
+pub pass-held : (s h g : List ℤ) (t : ℤ) (a b : List ℤ) → passSlots ≤ length s → length h ≡ 8 → length g ≡ 8
+    → t ≡ slotTerm (getD s 0 (pos 0)) → a ≡ overlay h 0 (take 8 (drop 4 s)) → b ≡ overlay g 0
+    (take 8 (drop 12 s))
     → record { term = t; delta = getD s 1 (pos 0); «weight_a» = getD s 2 (pos 0); «weight_b» = getD s 3 (pos 0); «history_a» = a; «history_b» = b } ≡ passOf s
 unfolding passOf
 pass-held s h g t a b long i j e f k = rw (e, f, k, history-held s h 4 (omega arith) i, history-held s g 12 (omega arith) j)
@@ -69,11 +71,13 @@ pass-again p h a b =
 -- ---- lists of passes
 
 -- one pass more
-passes-more : (i : ℕ) (s : List ℤ) → passesOf (suc i) s ≡ passesOf i s ++ (passOf (drop (i * passSlots) s) ∷ [])
+passes-more : (i : ℕ) (s : List ℤ) → passesOf (suc i) s ≡ passesOf i s ++
+    (passOf (drop (i * passSlots) s) ∷ [])
 passes-more zero s = refl
 passes-more (suc i) s =
     let e : passSlots + i * passSlots ≡ suc i * passSlots = omega arith in
-    ap (λ (l : List DecorrPass). passOf s ∷ l) (rw (← e, ← drop-drop (i * passSlots) passSlots s) (passes-more i (drop passSlots s)))
+    ap (λ (l : List DecorrPass). passOf s ∷ l) (rw (← e, ← drop-drop (i * passSlots) passSlots s)
+    (passes-more i (drop passSlots s)))
 
 -- how many there are
 pub passes-length : (n : ℕ) (s : List ℤ) → length (passesOf n s) ≡ n
@@ -81,7 +85,8 @@ passes-length zero s = refl
 passes-length (suc n) s = ap suc (passes-length n (drop passSlots s))
 
 -- one pass more in an array
-pub taken-more : (i : ℕ) (ps : List DecorrPass) (p : DecorrPass) (s : List ℤ) → i < length ps → take i ps ≡ passesOf i s → p ≡ passOf (drop (i * passSlots) s) → take (suc i) (set ps i p) ≡ passesOf (suc i) s
+pub taken-more : (i : ℕ) (ps : List DecorrPass) (p : DecorrPass) (s : List ℤ) → i < length ps → take i ps ≡
+    passesOf i s → p ≡ passOf (drop (i * passSlots) s) → take (suc i) (set ps i p) ≡ passesOf (suc i) s
 taken-more i ps p s h e f = rw (take-suc-set ps i p h, e, f) (sym (passes-more i s))
 
 -- slots of two lists, one behind the other
@@ -98,16 +103,23 @@ pub laying-none : (ps : List DecorrPass) (before : List ℤ) → Laying 0 ps bef
 laying-none ps before = record { long = refl; holds = sym (overlay-none before 0) }
 
 -- one more is laid behind them
-pub laying-more : (i : ℕ) (ps : List DecorrPass) (d : DecorrPass) (before slots values after : List ℤ) → i < length ps → length values ≡ passSlots → values ≡ slotsOf (getD ps i d)
+pub laying-more : (i : ℕ) (ps : List DecorrPass) (d : DecorrPass) (before slots values after : List ℤ) → i <
+    length ps → length values ≡ passSlots → values ≡ slotsOf (getD ps i d)
     → after ≡ overlay slots (i * passSlots) values → Laying i ps before slots → Laying (suc i) ps before after
 laying-more i ps d before slots values after h n v e l =
     let done = listSlots (take i ps) in
     let more : listSlots (take (suc i) ps) ≡ done ++ values = rw (take-suc ps i d h, slots-append (take i ps) (getD ps i d ∷ []), append-nil (slotsOf (getD ps i d)), v) in
-    let long : length (done ++ values) ≡ suc i * passSlots = rw (length-append done values, l .long, n) (omega arith) in
-    record { long = rw more long; holds = rw more (e ∙ ap (λ (x : List ℤ). overlay x (i * passSlots) values) (l .holds) ∙ overlay-on before 0 (i * passSlots) done values (omega arith) (omega (arith, l .long))) }
+    let long : length (done ++ values) ≡ suc i * passSlots = rw (length-append done values, l .long, n)
+    (omega arith) in
+    record {
+      long = rw more long;
+      holds = rw more (e ∙ ap (λ (x : List ℤ). overlay x (i * passSlots) values)
+          (l .holds) ∙ overlay-on before 0 (i * passSlots) done values (omega arith) (omega (arith, l .long)));
+    }
 
 -- all of them are laid
-pub laying-all : (n i : ℕ) (ps : List DecorrPass) (before slots : List ℤ) → n ≤ i → i ≤ n → length before ≡ n * passSlots → Laying i ps before slots → slots ≡ listSlots (take n ps)
+pub laying-all : (n i : ℕ) (ps : List DecorrPass) (before slots : List ℤ) → n ≤ i → i ≤ n → length before ≡
+    n * passSlots → Laying i ps before slots → slots ≡ listSlots (take n ps)
 laying-all n i ps before slots h k e l =
     let same : i ≡ n = omega arith in
     let whole : length (listSlots (take i ps)) ≡ length before = l .long ∙ rw same (sym e) in

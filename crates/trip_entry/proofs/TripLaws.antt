@@ -204,5 +204,6 @@ module _ (ps : List DecorrPass) (n : ℕ) (x : List ℤ) (entropy : List ℕ) (s
       told-is (outcomeNumber (r .outcome)) 0 (r .bits) (p .bits) (r .same) true y x after (p .bytes)
       (ap outcomeNumber ro) (rb ∙ B) same back (ap (λ (t : PackTold). t .bytes) k)
       ∙ ap (λ (t : List ℤ). tellTrip x (packEntry t entropy f₀ buffer)) (f .is)
-      ∙ sym (guard-accepted (spanRefusal v₀) (refuseTrip v₀ buffer) (tellTrip x (packEntry v₀ entropy f₀ buffer)) s)
+      ∙ sym (guard-accepted (spanRefusal v₀) (refuseTrip v₀ buffer) (tellTrip x
+      (packEntry v₀ entropy f₀ buffer)) s)
       ∙ sym (entry-is h g)

@@ -29,7 +29,14 @@ pub record TripTold : Type 0 where
 -- the answer that the entry's struct holds, with the lent storage as it is left
 abbrev pub viewTrip : TripAnswer → List ℤ → List ℕ → TripTold
 viewTrip r scratch bytes =
-    record { refusal = outcomeNumber (r .outcome); bits = r .bits; same = r .same; scratch = scratch; bytes = bytes }
+    record {
+      refusal = outcomeNumber (r .outcome);
+      bits = r .bits;
+      same = r .same;
+      scratch = scratch;
+      bytes
+          = bytes;
+    }
 
 -- a refusal, with what the scratch list and the packed bytes hold then
 abbrev pub refuseTrip : List ℤ → List ℕ → ℕ → TripTold

@@ -44,7 +44,11 @@ pub record LastFits (t : LastTwo) : Type 0 where
 
 -- what a call tells of its result
 pub last-fits : (t : LastTwo) (vs : List Val) → Is L.the-row t vs → LastFits t
-last-fits t vs g = record { last = record { sfits = g .1 .1 .0 .1 }; before = record { sfits = g .1 .1 .1 .0 .1 } }
+last-fits t vs g = record {
+  last = record { sfits = g .1 .1 .0 .1 };
+  before = record
+      { sfits = g .1 .1 .1 .0 .1 };
+}
 
 -- where the loop starts
 pub two-start : (p : DecorrPass) {A B : LastTwo} → A ≡ lastTwo (p .«history_a») → B ≡ lastTwo (p .«history_b»)
@@ -70,7 +74,8 @@ pub two-end : (p : DecorrPass) (wa wb a0 a1 b0 b1 : ℤ) → length (p .«histor
     → length (p .«history_b») ≡ 8
     → SFits w32 wa → SFits w32 wb → SFits w32 a0 → SFits w32 a1 → SFits w32 b0 → SFits w32 b1
     → lagAt p (reread wa) (reread wb)
-    (set (set (p .«history_a») 0 (reread a0)) 1 (reread a1)) (set (set (p .«history_b») 0 (reread b0)) 1 (reread b1))
+    (set (set (p .«history_a») 0 (reread a0)) 1 (reread a1)) (set (set (p .«history_b») 0 (reread b0)) 1
+    (reread b1))
     ≡ twoAt p wa wb a0 a1 b0 b1
 two-end p wa wb a0 a1 b0 b1 la lb fwa fwb fa0 fa1 fb0 fb1 =
     rw (
@@ -104,17 +109,30 @@ module _ (d : Direction) (eighteen : Bool) (p : DecorrPass) (whole : List ℤ) w
       → B ≡ turned d false wb (reread (p .delta)) (reread T) (reread (f .b))
       → after ≡ frameStored l i (reread (A .element)) (reread (B .element))
       → SFits w32 S → SFits w32 T → FrameFits f → TurnedFits A → TurnedFits B
-      → let q = twoAt p (reread (A .weight)) (reread (B .weight)) (reread (A .sample)) a0 (reread (B .sample)) b0 in
+      → let q = twoAt p (reread (A .weight)) (reread (B .weight)) (reread (A .sample)) a0
+      (reread (B .sample)) b0 in
       Done (turn d (twoTerm eighteen)) p whole q after ((i + 2) / 2) (i + 2)
-  two-turn {wa} {wb} {a0} {a1} {b0} {b1} {S} {T} {l} {after} {i} {f} A B done h ef es et ea eb ex fs ft ff fa fb =
+  two-turn {wa} {wb} {a0} {a1} {b0} {b1} {S} {T} {l} {after} {i} {f} A B done h ef es et ea eb ex fs ft ff
+      fa fb =
       let o : Stepped = record {
         pass = twoAt p (A .weight) (B .weight) (A .sample) a0 (B .sample) b0;
         a = A .element;
         b = B .element;
       } in
       let eo : o ≡ turn d (twoTerm eighteen) (twoAt p wa wb a0 a1 b0 b1) (i / 2) (slot l i) (slot l (i + 1)) =
-      rw (ea, eb, toZ-ofZ w32 _ (ff .a), toZ-ofZ w32 _ (ff .b), ef, toZ-ofZ w32 S fs, toZ-ofZ w32 T ft, es, et)
-      (rw (toZ-ofZ w32 _ (done .delta)) (two-step d eighteen p wa wb a0 a1 b0 b1 (i / 2) (slot l i) (slot l (i + 1)))) in
+      rw (
+        ea,
+        eb,
+        toZ-ofZ w32 _ (ff .a),
+        toZ-ofZ w32 _ (ff .b),
+        ef,
+        toZ-ofZ w32 S fs,
+        toZ-ofZ w32 T ft,
+        es,
+        et,
+      )
+      (rw (toZ-ofZ w32 _ (done .delta)) (two-step d eighteen p wa wb a0 a1 b0 b1 (i / 2) (slot l i)
+      (slot l (i + 1)))) in
       rw (toZ-ofZ w32 _ (fa .weight), toZ-ofZ w32 _ (fa .sample), toZ-ofZ w32 _ (fb .weight), toZ-ofZ w32 _ (fb .sample))
       (rw (next-half i) at (done-turn (turn d (twoTerm eighteen)) p whole o done h eo
       (rw (toZ-ofZ w32 _ (fa .element), toZ-ofZ w32 _ (fb .element)) at ex)))

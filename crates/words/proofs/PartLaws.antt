@@ -51,7 +51,8 @@ module _ (bits : List Bool) (p k : ℕ) (m : Medians) (lo hi : ℕ) (a : lo ≡ 
   value-read c q t n e f = record { is = λ s d. rw (d, ← a, ← b, e, f) }
 
 -- code and sign out of a window that holds both
-pub signed-in : (v lo last code used : ℕ) → CodeIn v last code used → last < maxWidth → SignedCodeIs v lo last (signed (v / 2 ^ used % 2) (lo + code)) (used + 1)
+pub signed-in : (v lo last code used : ℕ) → CodeIn v last code used → last < maxWidth → SignedCodeIs v lo
+    last (signed (v / 2 ^ used % 2) (lo + code)) (used + 1)
 signed-in v lo last code used x h =
     let u = x .most 28 h in
     let e : lo + last - lo ≡ last = omega arith in

@@ -33,7 +33,8 @@ loop-holds c =
     done-start (turn (s .args .direction) (crossTerm (s .args .second))) p (s .args .buffer .now)
     (cross-start (s .args .second) p (a .last-of .ensures) (b .last-of2 .ensures)
     (u .either .ensures) (v .either2 .ensures) (c .either3 .ensures)
-    (g .eight-a) (g .eight-b) (g .weight-a) (g .weight-b) (search (needs, a .last-of)) (search (needs, b .last-of2))
+    (g .eight-a) (g .eight-b) (g .weight-a) (g .weight-b) (search (needs, a .last-of))
+    (search (needs, b .last-of2))
     (search (needs, u .either)) (search (needs, v .either2)) (search (needs, c .either3)))
     (g .delta) (omega (arith, s))
 
@@ -60,7 +61,8 @@ loop-again c =
     let l = at .loop in
     let j : l .i + 1 < length (l .buffer) = omega (arith, t) in
     cross-turn (a .direction) (a .second) (a .start) (a .buffer .now)
-    (toZ w32 (l .weight)) (toZ w32 (l .other)) (toZ w32 (l .last)) (one .turn-clip .result) (two .turn-clip2 .result)
+    (toZ w32 (l .weight)) (toZ w32 (l .other)) (toZ w32 (l .last)) (one .turn-clip .result)
+    (two .turn-clip2 .result)
     (l .inv) j (read .frame-at .ensures) (in-one .either4 .ensures) (in-two .either5 .ensures)
     (one .turn-clip .ensures) (two .turn-clip2 .ensures) (out-a .either6 .ensures) (out-b .either7 .ensures)
     (put .store-frame .ensures) (frame-fits _ _ (read .frame-at .ok))
@@ -74,7 +76,8 @@ add-i c = let n = loop-again c in omega (arith, n .within, n .long, n .small)
 
 loop-less : tie.Need-loop-less Inv-loop μ-loop
 loop-less c =
-    let two = c .before .before .before .before .before .before .before .before .before .before .before .before in
+    let two = c .before .before .before .before .before .before .before .before .before .before .before
+    .before in
     let in-one = two .before .before .before .before .before .before in
     let t = in-one .before .before .before .before .before in
     let n = loop-again c in

@@ -30,7 +30,8 @@ loop-holds c =
     let g = pass-fits p _ (s .good .1 .0) in
     done-start (turn (s .args .direction) MinusThree) p (s .args .buffer .now)
     (swap-start p (a .last-of .ensures) (c .last-of2 .ensures)
-    (g .eight-a) (g .eight-b) (g .weight-a) (g .weight-b) (search (needs, a .last-of)) (search (needs, c .last-of2)))
+    (g .eight-a) (g .eight-b) (g .weight-a) (g .weight-b) (search (needs, a .last-of))
+    (search (needs, c .last-of2)))
     (g .delta) (omega (arith, s))
 
 store-frame-requires : tie.Need-store-frame-requires Inv-loop μ-loop

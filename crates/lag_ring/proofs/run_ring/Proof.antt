@@ -46,7 +46,8 @@ loop-again c =
     let s = at .before .before .before .before .before .before in
     let a = s .args in
     let j : at .loop .i + 1 < length (at .loop .buffer) = omega (arith, t) in
-    lag-turn (a .direction) (a .lag) (a .start) (a .buffer .now) (one .turn-plain .result) (two .turn-plain2 .result)
+    lag-turn (a .direction) (a .lag) (a .start) (a .buffer .now) (one .turn-plain .result)
+    (two .turn-plain2 .result)
     (at .loop .inv) j (read .frame-at .ensures) (one .turn-plain .ensures) (two .turn-plain2 .ensures)
     (c .before .before .before .before .before .store-frame .ensures)
     (search (needs, one .before .before .turn-plain-arg .given)) (search (needs, two .before .before .turn-plain-arg2 .given))

@@ -62,7 +62,8 @@ use Rattle.pass_runs.proofs.run_pass.Symbol as run-pass-def
 use Rattle.pass_runs.proofs.run_pass.Symbol.{name as #pass_runs·run-pass}
 use Rattle.pass_runs.proofs.run_pass.Met as run-pass-thm
 use Rattle.list_runs.specs.Chained.{chained, placeOf}
-use Rattle.passes.proofs.Locals.{none, word, passTy, wayTy, lentNumbers, passesTy, bufferTy, way, ways, WayTyped, way-is, way-tells, way-typed}
+use Rattle.passes.proofs.Locals.{none, word, passTy, wayTy, lentNumbers, passesTy}
+use Rattle.passes.proofs.Locals.{bufferTy, way, ways, WayTyped, way-is, way-tells, way-typed}
 use Rattle.list_runs.proofs.TurnCalls.{PlaceOf, calls-place, RunPass, buf, calls-run-pass}
 use Rattle.list_runs.proofs.Turns.{Turn, place-within, ran-start, ran-step, ran-end}
 use Rattle.list_runs.proofs.place.Symbol as place-def
@@ -119,7 +120,9 @@ module _ {M : Type 1} (𝓤 : URA M) (H : Heap 𝓤) (A : Atoms 𝓤) (W : Given
       fjoin ! $ pureI ! (at-slice T.the-row (x ps) (at .1 .0)) (tt, (tt, tt)) (ap (λ (k : ℕ). sliceVal (b, o) k ∷ []) (sym long), subst (Room T.the-row) (sym long) gn) $ fjoin ! $
       nothing ! $ move ! (2 ∷ 0 ∷ []) $ fjoin ! $ move ! (1 ∷ 0 ∷ []) $ fjoin ! $ owned ! D.the-row (Is D.the-row) ((EL.makes D.the-type D′.the-plain) 𝓤 H A) dir _ dv-is $ fjoin ! $ frame ! $ feqI ! (List Val) (vunit ∷ []) (vunit ∷ []) refl $ done !
 
-  module _ (𝓣 : Tables 𝓤 H) (known-place : Triple 𝓤 (𝓣 .C #list_runs·place) (PlaceOf 𝓤 H A at-mem run)) (known : Triple 𝓤 (𝓣 .C #pass_runs·run-pass) (RunPass 𝓤 H A at-mem run)) (gn : Room T.the-row n) (gm : Room i32 m) where
+  module _ (𝓣 : Tables 𝓤 H) (known-place : Triple 𝓤 (𝓣 .C #list_runs·place) (PlaceOf 𝓤 H A at-mem run))
+      (known : Triple 𝓤 (𝓣 .C #pass_runs·run-pass) (RunPass 𝓤 H A at-mem run)) (gn : Room T.the-row n)
+      (gm : Room i32 m) where
     module _ (l₀ l₁ l₂ l₃ l₄ l₅ l₆ l₇ l₈ l₉ l₁₀ l₁₁ l₁₂ l₁₃ l₁₄ l₁₅ : ℕ) where
       abbrev E : Env 𝓤 H
       E = (tyUnit, l₀) ∷ (wayTy, l₁) ∷ (passesTy, l₂) ∷ (bufferTy, l₃) ∷ (word, l₄) ∷ (word, l₅) ∷ (word, l₆) ∷ (passTy, l₇) ∷ (passTy, l₈) ∷ (tyBool, l₉) ∷ (word, l₁₀) ∷ (tyPtr, l₁₁) ∷ (passTy, l₁₂) ∷ (lentNumbers erased, l₁₃) ∷ (sliceTy (lentNumbers erased), l₁₄) ∷ (tyPtr, l₁₅) ∷ []
@@ -186,7 +189,9 @@ module _ {M : Type 1} (𝓤 : URA M) (H : Heap 𝓤) (A : Atoms 𝓤) (W : Given
           move ! (4 ∷ []) $ drop ! $ move ! (3 ∷ 2 ∷ 4 ∷ []) $ elem-put ! T.the-row fullShare ps j r (w ∷ []) b o within $
           -- [the row; the buffer; its token; the open borrow; obs; auth; _15; …]
           move ! (0 ∷ 3 ∷ 4 ∷ 5 ∷ []) $
-          assigns-last ! (bin ! (load ! (from ! (stop !)) (look ! 26 refl)) (lit ! tt) (record { fits = omega (arith, small, gn .1) })) (from ! (stop !)) (store ! 26 refl (tt, record { fits = omega (arith, small, gn .1) })) $
+          assigns-last ! (bin ! (load ! (from ! (stop !)) (look ! 26 refl)) (lit ! tt)
+          (record { fits = omega (arith, small, gn .1) })) (from ! (stop !))
+          (store ! 26 refl (tt, record { fits = omega (arith, small, gn .1) })) $
           forget ! 6 refl $ forget ! 8 refl $ forget ! 10 refl $ forget ! 12 refl $ forget ! 14 refl $ forget ! 16 refl $ forget ! 18 refl $ forget ! 20 refl $ forget ! 22 refl $ forget ! 24 refl $
           again ! less I t (record { i = i + 1; ps = set ps j r; cs = zs; good = ran-step dir P B i ps (t .cs) r zs (t .good) small e }) (omega (arith, small)))))
 
@@ -224,7 +229,9 @@ module _ {M : Type 1} (𝓤 : URA M) (H : Heap 𝓤) (A : Atoms 𝓤) (W : Given
         (turn l₀ l₁ l₂ l₃ l₄ l₅ l₆ l₇ l₈ l₉ l₁₀ l₁₁ l₁₂ l₁₃ l₁₄ l₁₅) (record { i = 0; ps = P; cs = B; good = ran-start dir P B })))))))))))))))))
 
 module _ {M : Type 1} (𝓤 : URA M) (H : Heap 𝓤) (A : Atoms 𝓤) (W : Given 𝓤 H A) (at-mem : Memory → SProp 𝓤) (run : Routine → Fun 𝓤) where
-  run-list-walks : (𝓣 : Tables 𝓤 H) → Triple 𝓤 (𝓣 .C #list_runs·place) (PlaceOf 𝓤 H A at-mem run) → Triple 𝓤 (𝓣 .C #pass_runs·run-pass) (RunPass 𝓤 H A at-mem run) → Walks 𝓤 H A f.ended stayed (WpFn 𝓤 H (𝓣 .C) (𝓣 .Λ) code.function) (f.clauses 𝓤 H A at-mem run)
+  run-list-walks : (𝓣 : Tables 𝓤 H) → Triple 𝓤 (𝓣 .C #list_runs·place) (PlaceOf 𝓤 H A at-mem run) → Triple 𝓤
+      (𝓣 .C #pass_runs·run-pass) (RunPass 𝓤 H A at-mem run) → Walks 𝓤 H A f.ended stayed
+      (WpFn 𝓤 H (𝓣 .C) (𝓣 .Λ) code.function) (f.clauses 𝓤 H A at-mem run)
   run-list-walks 𝓣 known-place known = walked 𝓤 H A f.ended stayed (f.clauses 𝓤 H A at-mem run) (WpFn 𝓤 H (𝓣 .C) (𝓣 .Λ) code.function)
       (λ κs. (ways, (slice-vals, (slice-vals, tt)))) (λ κs. (way-tells, (mut-slice-tells (named 0) (κs .0) T.the-row, (mut-slice-tells (named 1) (κs .1 .0) i32, tt))))
       (λ κs qs bounds a g are. via 𝓤 _ (fst∗ 𝓤 _ (emp 𝓤)) (walk 𝓤 H A W at-mem run (κs .0) (κs .1 .0) (qs .0) (qs .1 .0) (a .1 .0 .ptr .0) (a .1 .0 .ptr .1) (a .1 .0 .name) (a .0) (way (a .0)) (way-is (a .0)) (way-typed (a .0)) (a .1 .0 .now) (a .1 .1 .0 .ptr .0) (a .1 .1 .0 .ptr .1) (a .1 .1 .0 .name) (a .1 .1 .0 .now) 𝓣 known-place known (are .1 .0 .0 .1) (are .1 .1 .0 .0 .1)))
@@ -232,7 +239,9 @@ module _ {M : Type 1} (𝓤 : URA M) (H : Heap 𝓤) (A : Atoms 𝓤) (W : Given
   goes : AllGo 𝓤 H A W 2 (f.signature .params) (f.ended .kept) stayed
   goes = (goes-none 𝓤 H A W 2 (λ _. D.the-row) yes (λ κs x f. refl), (goes-slice 𝓤 H A W 2 0 tt (plain (λ _. T.the-row)), (goes-slice 𝓤 H A W 2 1 tt (plain (λ _. i32)), tt)))
 
-run-list-meets : {M : Type 1} (𝓤 : URA M) (H : Heap 𝓤) (A : Atoms 𝓤) → Given 𝓤 H A → (at-mem : Memory → SProp 𝓤) (run : Routine → Fun 𝓤) (𝓣 : Tables 𝓤 H) → Triple 𝓤 (𝓣 .C #list_runs·place) (PlaceOf 𝓤 H A at-mem run) → Triple 𝓤 (𝓣 .C #pass_runs·run-pass) (RunPass 𝓤 H A at-mem run)
+run-list-meets : {M : Type 1} (𝓤 : URA M) (H : Heap 𝓤) (A : Atoms 𝓤) → Given 𝓤 H A →
+    (at-mem : Memory → SProp 𝓤) (run : Routine → Fun 𝓤) (𝓣 : Tables 𝓤 H) → Triple 𝓤 (𝓣 .C #list_runs·place)
+    (PlaceOf 𝓤 H A at-mem run) → Triple 𝓤 (𝓣 .C #pass_runs·run-pass) (RunPass 𝓤 H A at-mem run)
     → Meets 𝓤 H A f.signature (WpFn 𝓤 H (𝓣 .C) (𝓣 .Λ) code.function) (f.spec 𝓤 H A at-mem run)
 run-list-meets 𝓤 H A W at-mem run 𝓣 known-place known =
     walk-meets 𝓤 H A f.ended stayed W (goes 𝓤 H A W at-mem run) (f.clauses 𝓤 H A at-mem run) (WpFn 𝓤 H (𝓣 .C) (𝓣 .Λ) code.function) (WpFn-mono 𝓤 H (W .laws) 𝓣 code.function) (run-list-walks 𝓤 H A W at-mem run 𝓣 known-place known)
@@ -241,7 +250,9 @@ pub run-list-spec : {M : Type 1} → stated.statement M
 unfolding code.routine tablesOf
 run-list-spec 𝓤 H 𝓜 𝓖 𝓡 =
     entered 𝓤 H (tripleOf 𝓤 H (𝓖 .A) f.signature (f.spec 𝓤 H (𝓖 .A) (𝓜 .mem) (𝓡 .run)))
-    (tables 𝓤 H 𝓜 𝓡 code.env .C) (tables 𝓤 H 𝓜 𝓡 code.env .Λ) #list_runs·run-list code.function (code.unfolded 𝓤 H 𝓜 𝓡)
+    (tables 𝓤 H 𝓜 𝓡 code.env .C) (tables 𝓤 H 𝓜 𝓡 code.env .Λ) #list_runs·run-list code.function
+    (code.unfolded 𝓤 H 𝓜 𝓡)
     (run-list-meets 𝓤 H (𝓖 .A) (givenOf 𝓤 H 𝓜 𝓖) (𝓜 .mem) (𝓡 .run) (tablesOf 𝓤 H 𝓜 (tables 𝓤 H 𝓜 𝓡 code.env))
-    (cited 𝓤 H (PlaceOf 𝓤 H (𝓖 .A) (𝓜 .mem) (𝓡 .run)) 𝓜 𝓡 code.env #list_runs·place place-def.routine code.calls-list-runs·place (place-thm.met 𝓤 H 𝓜 𝓖 𝓡))
+    (cited 𝓤 H (PlaceOf 𝓤 H (𝓖 .A) (𝓜 .mem) (𝓡 .run)) 𝓜 𝓡 code.env #list_runs·place place-def.routine
+    code.calls-list-runs·place (place-thm.met 𝓤 H 𝓜 𝓖 𝓡))
     (cited 𝓤 H (RunPass 𝓤 H (𝓖 .A) (𝓜 .mem) (𝓡 .run)) 𝓜 𝓡 code.env #pass_runs·run-pass run-pass-def.routine code.calls-pass-runs·run-pass (run-pass-thm.met 𝓤 H 𝓜 𝓖 𝓡)))

@@ -23,7 +23,8 @@ cast-t7 c = rw (toZ-ofZ w8 (c .before .before .before .args .p .term) (search ne
 lay-requires-2 : tie.Need-lay-requires-2
 lay-requires-2 c κs =
     let a : length (c .before .before .before .before .before .before .before .before .before .before .args .p .«history_a») ≡ 8 = search needs in
-    let n : length (c .before .before .before .lay .last .1 .1 .0) ≡ passSlots = head-laid _ _ _ (c .before .before .before .lay .ensures) refl refl in
+    let n : length (c .before .before .before .lay .last .1 .1 .0) ≡ passSlots = head-laid _ _ _
+    (c .before .before .before .lay .ensures) refl refl in
     omega (arith, a, n)
 
 lay-requires-3 : tie.Need-lay-requires-3
@@ -31,7 +32,9 @@ lay-requires-3 c κs =
     let p = c .before .before .before .before .before .before .before .before .before .before .before .before .before .before .args .p in
     let a : length (p .«history_a») ≡ 8 = search needs in
     let b : length (p .«history_b») ≡ 8 = search needs in
-    let n : length (c .before .before .before .before .before .before .before .lay .last .1 .1 .0) ≡ passSlots = head-laid _ _ _ (c .before .before .before .before .before .before .before .lay .ensures) refl refl in
+    let n : length (c .before .before .before .before .before .before .before .lay .last .1 .1 .0) ≡
+    passSlots = head-laid _ _ _ (c .before .before .before .before .before .before .before .lay
+    .ensures) refl refl in
     let m = ap length (c .before .before .before .lay2 .ensures) ∙ overlay-length (c .before .before .before .before .before .before .before .lay .last .1 .1 .0) 4 (p .«history_a») (omega (arith, a, n)) in
     omega (arith, b, m, n)
 
@@ -39,7 +42,9 @@ returns : tie.Need-returns
 returns c =
     let p = c .before .before .before .before .before .before .before .before .before .before .before .before .before .before .before .before .args .p in
     let head = reread (toZ w8 (ofZ w8 (p .term))) ∷ reread (p .delta) ∷ reread (p .«weight_a») ∷ reread (p .«weight_b») ∷ [] in
-    twenty p head (replicate passSlots (pos 0)) _ _ _ (c .before .before .before .before .before .before .before .before .before .lay .ensures) (c .before .before .before .before .before .lay2 .ensures) (c .before .lay3 .ensures) refl (search needs) (search needs)
+    twenty p head (replicate passSlots (pos 0)) _ _ _ (c .before .before .before .before .before .before
+    .before .before .before .lay .ensures) (c .before .before .before .before .before .lay2 .ensures)
+    (c .before .lay3 .ensures) refl (search needs) (search needs)
     (rw (toZ-ofZ w8 (p .term) (search needs), toZ-ofZ w32 (p .term) (wider (search needs)), toZ-ofZ w32 (p .delta) (search needs), toZ-ofZ w32 (p .«weight_a») (search needs), toZ-ofZ w32 (p .«weight_b») (search needs)))
 
 pub pass-slots-spec : {M : Type 1} → statement M

@@ -10,7 +10,8 @@ use Rattle.pack_slots.proofs.pack_call.Tie as tie
 returns : tie.Need-returns
 returns c =
     let a = c .before .before .before .before .before .args in
-    pack-short (a .residuals .now) (a .entropy .now) (a .frames) (a .out .now) (a .answer .now) _ (c .number .ensures)
+    pack-short (a .residuals .now) (a .entropy .now) (a .frames) (a .out .now) (a .answer .now) _
+    (c .number .ensures)
     (omega (arith, c .before .if1 .taken))
 
 lay-counts-requires : tie.Need-lay-counts-requires

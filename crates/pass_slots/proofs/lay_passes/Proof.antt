@@ -34,9 +34,11 @@ loop-again c =
     let x = c .before .before .before .before .pass-slots in
     let n : length (x .result) ≡ passSlots = search needs in
     let few : t .i < length (s .args .t1) = omega (arith, s .pre .0, s .good .0 .1 .0 .1) in
-    let room : t .i * passSlots + length (x .result) ≤ length (t .slots) = omega (arith, s .pre .1, t .inv .1) in (
+    let room : t .i * passSlots + length (x .result) ≤ length (t .slots) = omega
+    (arith, s .pre .1, t .inv .1) in (
       omega arith,
-      ap length (c .before .lay .ensures) ∙ overlay-length (t .slots) (t .i * passSlots) (x .result) room ∙ t .inv .1,
+      ap length (c .before .lay .ensures) ∙ overlay-length (t .slots) (t .i * passSlots) (x .result) room ∙
+          t .inv .1,
       rw (add-one (t .i)) (laying-more (t .i) (s .args .t1) _ (s .args .slots .now) (t .slots) (x .result) _ few n (x .ensures) (c .before .lay .ensures) (t .inv .2)),
     )
 

@@ -30,8 +30,13 @@ pass-in-requires c κs =
 loop-again : tie.Need-loop-again Inv-loop μ-loop
 loop-again c =
     let s = c .before .before .before .before .args .slots .now in
-    let t = c .before .before .before .loop in
-    (omega arith, simp length-set (t .inv .1), rw (add-one (t .i)) (taken-more (t .i) (t .passes) (c .pass-in .result) s (omega arith) (t .inv .2) (rw (part-is (t .i * passSlots) s) at (c .pass-in .ensures))))
+    let t = c .before .before .before .loop in (
+      omega arith,
+      simp length-set (t .inv .1),
+      rw (add-one (t .i)) (taken-more (t .i) (t .passes)
+          (c .pass-in .result) s (omega arith) (t .inv .2) (rw (part-is (t .i * passSlots) s) at
+          (c .pass-in .ensures))),
+    )
 
 returns : tie.Need-returns Inv-loop μ-loop
 returns c =

@@ -6,7 +6,8 @@ use native.Mathlib.Omega.{arith}
 use mathlib.Core.Bool.{true, false}
 use Rattle.bits.proofs.OnesLaws.{trailing-ones}
 use Rattle.entropy.specs.Medians.{mediansOf}
-use Rattle.short_words.proofs.ShortLaws.{few, short-prefix, few-counted, given-announced, given-counted, not-given}
+use Rattle.short_words.proofs.ShortLaws.{few, short-prefix, few-counted}
+use Rattle.short_words.proofs.ShortLaws.{given-announced, given-counted, not-given}
 use Rattle.short_words.proofs.right_word.Statement.{statement}
 use Rattle.short_words.proofs.right_word.Tie as tie
 

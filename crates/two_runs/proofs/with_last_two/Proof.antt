@@ -10,7 +10,8 @@ returns c =
     let a = s .args in
     let f = s .fits in
     rw (c .with-state .ensures)
-    (two-end (a .pass) (a .weight-a) (a .weight-b) (a .a0) (a .a1) (a .b0) (a .b1) (search needs) (search needs)
+    (two-end (a .pass) (a .weight-a) (a .weight-b) (a .a0) (a .a1) (a .b0) (a .b1) (search needs)
+    (search needs)
     (f .weight-a) (f .weight-b) (f .a0) (f .a1) (f .b0) (f .b1))
 
 pub with-last-two-spec : {M : Type 1} → statement M

@@ -36,7 +36,8 @@ lay-word-requires c κs =
     let a = c .before .before .before .before .before .before .before .before .before .before .before .before .before .args in
     let x = c .before .before .before .decode-sample-stateful-stereo in
     let h = c .before .before .before .before .before .before .slice-known3 in
-    let p = place-fits (a .payload .now) _ _ (x .result) (x .ensures) (omega (arith, h .given 0, h .given 1)) in
+    let p = place-fits (a .payload .now) _ _ (x .result) (x .ensures) (omega
+    (arith, h .given 0, h .given 1)) in
     (omega (arith, p), (search needs, (search needs, search needs)))
 
 returns-4 : tie.Need-returns-4

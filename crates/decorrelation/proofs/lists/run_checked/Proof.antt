@@ -29,7 +29,11 @@ run-checked-spec 𝓤 H 𝓜 𝓖 𝓡 =
     entered 𝓤 H (tripleOf 𝓤 H (𝓖 .A) f.signature (f.spec 𝓤 H (𝓖 .A) (𝓜 .mem) (𝓡 .run)))
     (tables 𝓤 H 𝓜 𝓡 code.env .C) (tables 𝓤 H 𝓜 𝓡 code.env .Λ) #decorrelation·run-checked code.function (code.unfolded 𝓤 H 𝓜 𝓡)
     (run-checked-meets 𝓤 H (𝓖 .A) (givenOf 𝓤 H 𝓜 𝓖) (𝓜 .mem) (𝓡 .run) (tablesOf 𝓤 H 𝓜 (tables 𝓤 H 𝓜 𝓡 code.env))
-    (cited 𝓤 H (AllValid 𝓤 H (𝓖 .A) (𝓜 .mem) (𝓡 .run)) 𝓜 𝓡 code.env #list_tests·all-valid all-valid-def.routine code.calls-list-tests·all-valid (all-valid-thm.met 𝓤 H 𝓜 𝓖 𝓡))
-    (cited 𝓤 H (ListOutcome 𝓤 H (𝓖 .A) (𝓜 .mem) (𝓡 .run)) 𝓜 𝓡 code.env #list_tests·list-outcome list-outcome-def.routine code.calls-list-tests·list-outcome (list-outcome-thm.met 𝓤 H 𝓜 𝓖 𝓡))
-    (cited 𝓤 H (IsAccepted 𝓤 H (𝓖 .A) (𝓜 .mem) (𝓡 .run)) 𝓜 𝓡 code.env #list_tests·is-accepted is-accepted-def.routine code.calls-list-tests·is-accepted (is-accepted-thm.met 𝓤 H 𝓜 𝓖 𝓡))
-    (cited 𝓤 H (RunList 𝓤 H (𝓖 .A) (𝓜 .mem) (𝓡 .run)) 𝓜 𝓡 code.env #list_runs·run-list run-list-def.routine code.calls-list-runs·run-list (run-list-thm.met 𝓤 H 𝓜 𝓖 𝓡)))
+    (cited 𝓤 H (AllValid 𝓤 H (𝓖 .A) (𝓜 .mem) (𝓡 .run)) 𝓜 𝓡 code.env #list_tests·all-valid
+    all-valid-def.routine code.calls-list-tests·all-valid (all-valid-thm.met 𝓤 H 𝓜 𝓖 𝓡))
+    (cited 𝓤 H (ListOutcome 𝓤 H (𝓖 .A) (𝓜 .mem) (𝓡 .run)) 𝓜 𝓡 code.env #list_tests·list-outcome
+    list-outcome-def.routine code.calls-list-tests·list-outcome (list-outcome-thm.met 𝓤 H 𝓜 𝓖 𝓡))
+    (cited 𝓤 H (IsAccepted 𝓤 H (𝓖 .A) (𝓜 .mem) (𝓡 .run)) 𝓜 𝓡 code.env #list_tests·is-accepted
+    is-accepted-def.routine code.calls-list-tests·is-accepted (is-accepted-thm.met 𝓤 H 𝓜 𝓖 𝓡))
+    (cited 𝓤 H (RunList 𝓤 H (𝓖 .A) (𝓜 .mem) (𝓡 .run)) 𝓜 𝓡 code.env #list_runs·run-list run-list-def.routine
+    code.calls-list-runs·run-list (run-list-thm.met 𝓤 H 𝓜 𝓖 𝓡)))

@@ -1,6 +1,7 @@
 -- A walk of `run_checked`'s MIR, by hand. The list is lent as a `&[DecorrPass]` to `all_valid`. Where the
 -- outcome accepts it, the list and the buffer are handed to `run_list` for good (`ListCall`); where it does
--- not, both are given up as they were. Of the callees it knows that they meet their contracts. Assumes nothing.
+-- not, both are given up as they were. Of the callees it knows that they meet their contracts.
+-- Assumes nothing.
 use mathlib.Core.Path.{_≡_, refl}
 use mathlib.Core.List.{List, [], _∷_}
 use Prim.Native.Nat.{ℕ}
@@ -18,7 +19,8 @@ use prog.Routine.{Routine}
 use prog.Wp.{Heap, Env, WpFn, Tables}
 use ghost.Atoms.{Atoms}
 use contract.Monad.{Fun}
-use types.Kit.{Given, Item, Seq, Go, atRet, runs, ‵, ⋆, !, qed, by, move, drop, use1, split, join, fsplit, fjoin, suffices, frame, done, _⊛_, _$_, _∵_}
+use types.Kit.{Given, Item, Seq, Go, atRet, runs, ‵, ⋆, !, qed, by, move}
+use types.Kit.{drop, use1, split, join, fsplit, fjoin, suffices, frame, done, _⊛_, _$_, _∵_}
 use types.Run.{look, init, forget, stop, hop, fld, from, load, addr, of-opd, and-then, no-more, assigns, land, land-last, first, branches, skips, returns, exec, enter, alloc1, alloc0, params1, pass1, pass0, free1, free0}
 use types.Part.{agg, whole, sub, look-in}
 use sound.WpLaws.{fmOf, WpFn-mono}
@@ -50,7 +52,8 @@ use Rattle.decorrelation.specs.Lists.{Answer, listed}
 use Rattle.decorrelation.proofs.Answers.{answer-accepted, answer-refused}
 use Rattle.decorrelation.proofs.ListCall.{RunList, calls-run-list}
 use Rattle.lending.proofs.Lending.{gives-up}
-use Rattle.passes.proofs.Locals.{word, wayTy, passPtr, lentPasses, lentNumbers, passesTy, bufferTy, way, ways, WayTyped, way-is, way-tells, way-typed}
+use Rattle.passes.proofs.Locals.{word, wayTy, passPtr, lentPasses, lentNumbers, passesTy}
+use Rattle.passes.proofs.Locals.{bufferTy, way, ways, WayTyped, way-is, way-tells, way-typed}
 use Rattle.list_runs.proofs.TurnCalls.{buf}
 use Rattle.decorrelation.proofs.TestCalls.{list-at, AllValid, calls-all-valid, ListOutcome, calls-list-outcome, IsAccepted, calls-is-accepted}
 use Rattle.list_tests.proofs.all_valid.Symbol.{name as #list_tests·all-valid}
@@ -103,8 +106,11 @@ module _ {M : Type 1} (𝓤 : URA M) (H : Heap 𝓤) (A : Atoms 𝓤) (W : Given
       frame ! $
       owned ! S.the-row (Is S.the-row) ((EL.makes S.the-type S′.the-plain) 𝓤 H A) r _ is $ done !
 
-  module _ (𝓣 : Tables 𝓤 H) (known-valid : Triple 𝓤 (𝓣 .C #list_tests·all-valid) (AllValid 𝓤 H A mem run)) (known-outcome : Triple 𝓤 (𝓣 .C #list_tests·list-outcome) (ListOutcome 𝓤 H A mem run))
-      (known-accepted : Triple 𝓤 (𝓣 .C #list_tests·is-accepted) (IsAccepted 𝓤 H A mem run)) (known-list : Triple 𝓤 (𝓣 .C #list_runs·run-list) (RunList 𝓤 H A mem run)) (gn : Room R.the-row (length P)) (gm : Room i32 (length B)) where
+  module _ (𝓣 : Tables 𝓤 H) (known-valid : Triple 𝓤 (𝓣 .C #list_tests·all-valid) (AllValid 𝓤 H A mem run))
+      (known-outcome : Triple 𝓤 (𝓣 .C #list_tests·list-outcome) (ListOutcome 𝓤 H A mem run))
+      (known-accepted : Triple 𝓤 (𝓣 .C #list_tests·is-accepted) (IsAccepted 𝓤 H A mem run))
+      (known-list : Triple 𝓤 (𝓣 .C #list_runs·run-list) (RunList 𝓤 H A mem run))
+      (gn : Room R.the-row (length P)) (gm : Room i32 (length B)) where
     module _ (l₀ l₁ l₂ l₃ l₄ l₅ l₆ l₇ l₈ l₉ l₁₀ l₁₁ l₁₂ l₁₃ l₁₄ l₁₅ : ℕ) where
       abbrev E : Env 𝓤 H
       E = (S′.mir, l₀) ∷ (wayTy, l₁) ∷ (passesTy, l₂) ∷ (bufferTy, l₃) ∷ (tyBool, l₄) ∷ (S′.mir, l₅) ∷ (tyRef erased imm passPtr, l₆) ∷ (sliceTy (tyRef erased imm passPtr), l₇) ∷ (word, l₈) ∷ (word, l₉) ∷ (tyBool, l₁₀) ∷ (tyUnit, l₁₁) ∷ (lentPasses erased, l₁₂) ∷ (sliceTy (lentPasses erased), l₁₃) ∷ (lentNumbers erased, l₁₄) ∷ (sliceTy (lentNumbers erased), l₁₅) ∷ []
@@ -119,16 +125,19 @@ module _ {M : Type 1} (𝓤 : URA M) (H : Heap 𝓤) (A : Atoms 𝓤) (W : Given
       -- the contexts, in which local k stands at 34 - 2 k: what the call of `run_list` needs, and the tests
       abbrev Run-room : List (Item 𝓤) → List (Item 𝓤)
       Run-room rest =
-          room (sliceTy (lentNumbers erased)) l₁₅ (room (lentNumbers erased) l₁₄ (room (sliceTy (lentPasses erased)) l₁₃
+          room (sliceTy (lentNumbers erased)) l₁₅ (room (lentNumbers erased) l₁₄
+          (room (sliceTy (lentPasses erased)) l₁₃
           (room (lentPasses erased) l₁₂ (room tyUnit l₁₁ rest))))
 
       abbrev Test-room : List (Item 𝓤) → List (Item 𝓤)
       Test-room rest =
-          room word l₉ (room word l₈ (room (sliceTy (tyRef erased imm passPtr)) l₇ (room (tyRef erased imm passPtr) l₆ rest)))
+          room word l₉ (room word l₈ (room (sliceTy (tyRef erased imm passPtr)) l₇
+          (room (tyRef erased imm passPtr) l₆ rest)))
 
       -- the parameters, stored
       abbrev Stored : List (Item 𝓤)
-      Stored = room tyBool l₄ (held bufferTy l₃ s′ (held passesTy l₂ s (held wayTy l₁ dv (room S′.mir l₀ []))))
+      Stored = room tyBool l₄ (held bufferTy l₃ s′ (held passesTy l₂ s
+          (held wayTy l₁ dv (room S′.mir l₀ []))))
 
       -- before the tests,
       abbrev Ready : List (Item 𝓤)
@@ -178,8 +187,11 @@ module _ {M : Type 1} (𝓤 : URA M) (H : Heap 𝓤) (A : Atoms 𝓤) (W : Given
           assigns ! (agg ! (and-then ! (load ! (from ! (stop !)) (look ! 6 refl)) (and-then ! (load ! (from ! (fld ! refl (stop !))) (look-in ! 28 (sub ! 1 refl (whole !)))) (no-more !)))) (from ! (stop !)) (init ! 4 refl (tt, (tt, (record { fits = gm .0 }, tt)))) $
           -- `run_list`, to which both slices go for good
           nothing ! $ move ! (4 ∷ 0 ∷ []) $ join ! $ move ! (2 ∷ 0 ∷ []) $ join ! $
-          calls-run-list 𝓤 H A W mem run κ κ′ q q′ b o γ dir dv dv-is P (length P) b′ o′ γ′ B (fmOf 𝓤 H (W .laws) 𝓣) known-list
-          (and-then ! (load ! (from ! (stop !)) (look ! 29 refl)) (and-then ! (load ! (from ! (stop !)) (look ! 5 refl)) (and-then ! (load ! (from ! (stop !)) (look ! 1 refl)) (no-more !))))
+          calls-run-list 𝓤 H A W mem run κ κ′ q q′ b o γ dir dv dv-is P (length P) b′ o′ γ′ B
+          (fmOf 𝓤 H (W .laws) 𝓣) known-list
+          (and-then ! (load ! (from ! (stop !)) (look ! 29 refl)) (and-then !
+          (load ! (from ! (stop !)) (look ! 5 refl)) (and-then ! (load ! (from ! (stop !))
+          (look ! 1 refl)) (no-more !))))
           (λ u x zs cs is-unit long wide c.
           land-last ! (from ! (stop !)) (init ! 12 refl (nothing-lawful 𝓤 H A W .typed x _ is-unit .0)) $
           exec ! (𝓣 .C) (𝓣 .Λ) E body.t-9 (atRet E Ends) $
@@ -189,7 +201,8 @@ module _ {M : Type 1} (𝓤 : URA M) (H : Heap 𝓤) (A : Atoms 𝓤) (W : Given
           (λ failed.
           skips ! $ exec ! (𝓣 .C) (𝓣 .Λ) E body.t-9 (atRet E Ends) $
           use1 W (‵ (finally R.the-row γ P)) (gives-up R.the-row κ κ q γ b o 𝓤 H A W (named 0) (named 0) P) $
-          move ! (2 ∷ []) $ use1 W (‵ (finally i32 γ′ B)) (gives-up i32 κ′ κ′ q′ γ′ b′ o′ 𝓤 H A W (named 1) (named 1) B) $ move ! (1 ∷ 0 ∷ []) $
+          move ! (2 ∷ []) $ use1 W (‵ (finally i32 γ′ B)) (gives-up i32 κ′ κ′ q′ γ′ b′ o′ 𝓤 H A W (named 1)
+          (named 1) B) $ move ! (1 ∷ 0 ∷ []) $
           forget ! 14 refl $ forget ! 28 refl $ forget ! 30 refl $ forget ! 32 refl $
           leaves P B r w refl refl is (answer-refused dir P B r e (is-false (acceptedBy r) failed)))
 
