@@ -6,7 +6,8 @@ use crate::record::word_at;
 use answers::outcome_number;
 use decorrelation::decorrelate_array;
 use decorrelation::recorrelate_array;
-use packing::writing::encode_packed_samples_stereo_from_entropy;
+use pack_entry::encode_packed_samples_stereo_from_entropy;
+use packing::PackAnswer;
 use passes::DecorrPass;
 use samples::reading::decode_packed_samples_stereo_from_entropy;
 
@@ -77,7 +78,12 @@ fn packs_again(
     let analysis = analysed.outcome;
     let frames = buffer.len() / 2;
     let mut out = [0u8; 57344];
-    let packed = encode_packed_samples_stereo_from_entropy(buffer, entropy, frames, &mut out);
+    let packed: PackAnswer = encode_packed_samples_stereo_from_entropy(
+        buffer,
+        entropy,
+        frames,
+        &mut out,
+    );
     let outcome = packed.outcome;
     if outcome_number(analysis) != 0 || outcome_number(outcome) != 0 || packed.bits != bits {
         return false;

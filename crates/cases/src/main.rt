@@ -15,7 +15,8 @@ use decorrelation::decorrelate_array;
 use entropy::EntropyInfo;
 use entropy_info::expand_entropy;
 use libc::STDOUT_FILENO;
-use packing::writing::encode_packed_samples_stereo_from_entropy;
+use pack_entry::encode_packed_samples_stereo_from_entropy;
+use packing::PackAnswer;
 use passes::DecorrPass;
 use samples::reading::decode_packed_samples_stereo_from_entropy;
 use trip_entry::round_trip;
@@ -101,7 +102,12 @@ fn run_reading(name: &[u8], payload: &[u8]) {
 // before.
 pub(crate) fn run_packing(name: &[u8], entropy: &[u8]) {
     let mut out = [77u8; 28];
-    let answer = encode_packed_samples_stereo_from_entropy(&[3, -1], entropy, 1, &mut out);
+    let answer: PackAnswer = encode_packed_samples_stereo_from_entropy(
+        &[3, -1],
+        entropy,
+        1,
+        &mut out,
+    );
     let outcome = answer.outcome;
     print_case(name, outcome_number(outcome));
     print_count(b" bits ", answer.bits);

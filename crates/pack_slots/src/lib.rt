@@ -3,7 +3,7 @@
 use answers::Refusal;
 use answers::number;
 use answers::outcome_number;
-use packing::writing::encode_packed_samples_stereo_from_entropy;
+use pack_entry::encode_packed_samples_stereo_from_entropy;
 use word_slots::lay_counts;
 ghost use mathlib.Core.Path.{_≡_};
 ghost use Rattle.pack_slots.specs.PackSlots.{packCall};

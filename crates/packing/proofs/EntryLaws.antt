@@ -28,7 +28,7 @@ use Rattle.packing.specs.Packing.{packed}
 use Rattle.packing.specs.Entry.{PackTold, viewPacking, packedFrom, tellPacking, refusePacking, refusalBeforeSpan, spanRefusal, packRefusal, packEntry, packedBytes}
 use Rattle.packing.specs.View.{PackedIs, PackRefuses}
 use Rattle.packing.specs.declared.PackAnswer.{PackAnswer}
-use Rattle.packing.specs.declared.writing.Packed.{Packed}
+use Rattle.packing.specs.declared.Packed.{Packed}
 use Rattle.packing.proofs.InStepLaws.{start-inv}
 use Rattle.packing.proofs.RefusalLaws.{Ready, before-none, ready}
 use Rattle.packing.proofs.SizeLaws.{packed-long, bytes-enough}

@@ -21,7 +21,7 @@ use Rattle.answers.proofs.TestLaws.{clash}
 use Rattle.word_bits.specs.Residuals.{spanned}
 use Rattle.packing.specs.Packing.{Out, behind, wordOut, packed}
 use Rattle.packing.specs.View.{Seen, Next, RunTakes, PackedIs}
-use Rattle.packing.specs.declared.writing.Packed.{Packed}
+use Rattle.packing.specs.declared.Packed.{Packed}
 use Rattle.packing.proofs.PackedLaws.{packing-on, packing-end, settle}
 use Rattle.packing.proofs.SetLaws.{set-is, other-is, replaced}
 use Rattle.packing.proofs.SizeLaws.{word-long}

@@ -22,7 +22,7 @@ use Rattle.fields.specs.Written.{runField, prefixField}
 use Rattle.word_bits.specs.View.{WordIs, BeforeIs}
 use Rattle.packing.specs.View.{Seen, Next, Turned}
 use Rattle.word_bits.specs.declared.Before.{Before}
-use Rattle.packing.specs.declared.turn.Turn.{Turn}
+use Rattle.packing.specs.declared.Turn.{Turn}
 use Rattle.word_bits.specs.declared.Word.{Word}
 use Rattle.packing.proofs.InStepLaws.{here-flags}
 use Rattle.word_bits.proofs.PutLaws.{put-both}

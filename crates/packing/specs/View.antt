@@ -14,8 +14,8 @@ use Rattle.word_state.specs.State.{State, start, due, other, side, flip, inRun}
 use Rattle.word_bits.specs.Residuals.{zeros}
 use Rattle.packing.specs.Packing.{wordOut, packed}
 use Rattle.packing.specs.declared.PackAnswer.{PackAnswer}
-use Rattle.packing.specs.declared.writing.Packed.{Packed}
-use Rattle.packing.specs.declared.turn.Turn.{Turn}
+use Rattle.packing.specs.declared.Packed.{Packed}
+use Rattle.packing.specs.declared.Turn.{Turn}
 
 -- what the loop holds of a state that owes no zeros: the medians of the channel due and of the
 -- other, and the flags

@@ -5,7 +5,7 @@ ghost use mathlib.Core.Path.{_≡_};
 ghost use Rattle.trip_entry.specs.Trip.{viewTrip, tripEntry, TripRefuses};
 use answers::Outcome;
 use answers::Refusal;
-use packing::writing::encode_packed_samples_stereo_from_entropy;
+use pack_entry::encode_packed_samples_stereo_from_entropy;
 use passes::DecorrPass;
 use trip_steps::early_refusal;
 use trip_steps::find_residuals;

@@ -10,7 +10,7 @@ use answers::outcome_number;
 use decorrelation::analysis_refusal;
 use decorrelation::decorrelate_array;
 use decorrelation::recorrelate_array;
-use packing::writing::refusal_before_span;
+use pack_refusals::refusal_before_span;
 use passes::DecorrPass;
 use samples::reading::decode_packed_samples_stereo_from_entropy;
 use trip_lists::copy;

@@ -1,4 +1,4 @@
--- `packing::writing::pack_words` meets its contract: what is written and what is left, from the
+-- `word_packing::pack_words` meets its contract: what is written and what is left, from the
 -- state that the locals hold, is the whole.
 -- Assumes nothing.
 use mathlib.Core.Path.{_≡_, refl}
@@ -16,13 +16,13 @@ use Rattle.entropy.specs.Medians.{pairOf}
 use Rattle.word_state.specs.State.{State, start}
 use Rattle.bits.specs.Laid.{put}
 use Rattle.bits.proofs.WriteLaws.{put-lent}
 use Rattle.packing.specs.Packing.{wordOut}
 use Rattle.packing.specs.View.{Turned}
-use Rattle.packing.specs.declared.turn.Turn.{Turn}
+use Rattle.packing.specs.declared.Turn.{Turn}
 use Rattle.packing.proofs.LoopLaws.{Loop, loop-start, loop-due-small, loop-other-small, loop-seen, word-room, run-room, loop-word, loop-run, loop-end}
 use Rattle.spans.proofs.SpanLaws.{within-at}
-use Rattle.packing.proofs.writing.pack_words.Statement.{statement}
-use Rattle.packing.proofs.writing.pack_words.Tie as tie
+use Rattle.word_packing.proofs.pack_words.Statement.{statement}
+use Rattle.word_packing.proofs.pack_words.Tie as tie
 
 abbrev Inv-loop : tie.InvT-loop
 Inv-loop residuals out₀ medians₀ bits₀ last-zero₀ last-one₀ run-break₀ i₀ out medians bits last-zero last-one run-break i =

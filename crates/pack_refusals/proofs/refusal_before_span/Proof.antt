@@ -1,13 +1,13 @@
--- `packing::writing::refusal_before_span` meets its contract.
+-- `pack_refusals::refusal_before_span` meets its contract.
 -- Assumes nothing.
 use mathlib.Core.Path.{_≡_, sym, ap, _∙_}
 use denote.Ref.{now}
 use Rattle.answers.specs.Numbers.{outcomeNumber}
 use Rattle.entropy.specs.Seed.{seedRefusal}
 use Rattle.packing.proofs.RefusalLaws.{before-frames, before-list, before-seeds, before-room, before-none}
 use borrow.Author.Needs.{needs}
-use Rattle.packing.proofs.writing.refusal_before_span.Statement.{statement}
-use Rattle.packing.proofs.writing.refusal_before_span.Tie as tie
+use Rattle.pack_refusals.proofs.refusal_before_span.Statement.{statement}
+use Rattle.pack_refusals.proofs.refusal_before_span.Tie as tie
 
 returns : tie.Need-returns
 returns c = before-frames _ _ _ _ (c .if1 .taken)

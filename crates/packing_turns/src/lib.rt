@@ -1,4 +1,4 @@
-// One turn of the packing loop: a run length where one is due, and the word where it tells of no
+// Implements document 01, "Packing", a turn of its loop: a run length where one is due, and the word where it tells of no
 // zeros. A turn takes and gives numbers and flags: the medians and flags of the whole state are
 // locals of the loop that calls it.
 ghost use mathlib.Core.Path.{_≡_};
@@ -9,25 +9,14 @@ ghost use lib.ListN.{length, drop, getD};
 ghost use lib.Signed.{mag};
 ghost use Rattle.answers.specs.Limits.{residualSpan, maxElements, maxWordBits};
 ghost use Rattle.entropy.specs.Medians.{mediansOf, Small};
 ghost use Rattle.packing.specs.View.{TurnIs};
 use entropy::AdaptiveMedians;
 use locating::is_ahead;
+use packing::Turn;
 use word_bits::Before;
 use word_laying::put_before;
 use word_laying::put_word;
 use word_state::zero_run_eligible;
-
-// What one turn of the packing loop writes: where it ends, how many zeros it tells of, and, where
-// that is none, the medians of its channel after the word. The flags are those after it.
-pub struct Turn {
-    pub place: usize,
-    pub run: usize,
-    pub m0: u32,
-    pub m1: u32,
-    pub m2: u32,
-    pub last_zero: bool,
-    pub last_one: bool,
-}
 
 // last_zero and last_one after a word.
 fn zero_after(last_zero: bool, more: bool) -> bool

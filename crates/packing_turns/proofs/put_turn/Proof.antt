@@ -1,4 +1,4 @@
--- `packing::turn::put_turn` meets its contract.
+-- `packing_turns::put_turn` meets its contract.
 -- Assumes nothing.
 use mathlib.Core.Path.{_≡_, refl, ap, _∙_}
 use Prim.Native.Nat.{ℕ, suc}
@@ -15,12 +15,12 @@ use mir.Val.{SFits}
 use Rattle.entropy.specs.Medians.{mediansOf}
 use Rattle.word_bits.specs.Residuals.{ahead}
 use Rattle.word_bits.specs.View.{BeforeIs, WordIs}
-use Rattle.packing.specs.declared.turn.Turn.{Turn}
+use Rattle.packing.specs.declared.Turn.{Turn}
 use Rattle.word_bits.proofs.PutLaws.{before-few}
 use Rattle.packing.proofs.TurnLaws.{asked, turn-run, turn-word}
 use borrow.Author.Needs.{needs}
-use Rattle.packing.proofs.turn.put_turn.Statement.{statement}
-use Rattle.packing.proofs.turn.put_turn.Tie as tie
+use Rattle.packing_turns.proofs.put_turn.Statement.{statement}
+use Rattle.packing_turns.proofs.put_turn.Tie as tie
 
 abbrev start : tie.After-put-before → tie.Start
 start c = c .before .before .before .before

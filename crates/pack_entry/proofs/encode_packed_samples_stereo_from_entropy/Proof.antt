@@ -1,4 +1,4 @@
--- `packing::writing::encode_packed_samples_stereo_from_entropy` meets its contract.
+-- `pack_entry::encode_packed_samples_stereo_from_entropy` meets its contract.
 -- Assumes nothing.
 use mathlib.Core.Path.{_≡_, refl, sym, ap, subst, _∙_}
 use mathlib.Core.Bool.{true}
@@ -11,10 +11,10 @@ use Rattle.entropy.proofs.SeedBounds.{seeds-small}
 use Rattle.answers.specs.Numbers.{outcomeNumber}
 use Rattle.entropy.specs.Medians.{MedianPair, Small}
 use Rattle.word_bits.specs.Residuals.{spanned}
 use Rattle.packing.proofs.RefusalLaws.{Ready, ready}
 use Rattle.packing.proofs.EntryLaws.{refuses-before, refuses-span, accepts}
-use Rattle.packing.proofs.writing.encode_packed_samples_stereo_from_entropy.Statement.{statement}
-use Rattle.packing.proofs.writing.encode_packed_samples_stereo_from_entropy.Tie as tie
+use Rattle.pack_entry.proofs.encode_packed_samples_stereo_from_entropy.Statement.{statement}
+use Rattle.pack_entry.proofs.encode_packed_samples_stereo_from_entropy.Tie as tie
 
 returns : tie.Need-returns
 returns c =
