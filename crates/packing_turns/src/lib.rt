@@ -1,6 +1,6 @@
-// Implements document 01, "Packing", a turn of its loop: a run length where one is due, and the word where it tells of no
-// zeros. A turn takes and gives numbers and flags: the medians and flags of the whole state are
-// locals of the loop that calls it.
+// Implements document 01, "Packing", a turn of its loop: a run length where one is due, and the word where
+// it tells of no zeros. A turn takes and gives numbers and flags: the medians and flags of the whole state
+// are locals of the loop that calls it.
 ghost use mathlib.Core.Path.{_≡_};
 ghost use mathlib.Core.Bool.{false, not, cond};
 ghost use Prim.Native.Nat.{suc, _+_, _*_, _≤_, _<_};
