@@ -13,7 +13,7 @@ use Rattle.entropy.specs.Medians.{pairOf}
 use Rattle.packing.specs.Entry.{PackTold, viewPacking, packEntry}
 use Rattle.packing.specs.declared.PackAnswer.{PackAnswer}
 use Rattle.packing.proofs.EntryLaws.{bits-few}
-use Rattle.word_slots.specs.WordSlots.{countSlots}
+use Rattle.median_slots.specs.MedianSlots.{countSlots}
 use Rattle.pack_slots.specs.PackSlots.{packCall}
 
 module _ (residuals : List ℤ) (entropy : List ℕ) (frames : ℕ) (buffer : List ℕ) where

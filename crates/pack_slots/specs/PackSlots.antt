@@ -9,7 +9,7 @@ use lib.IntN.{ℤ}
 use lib.ListN.{length}
 use Rattle.overlay.specs.Overlay.{overlay}
 use Rattle.packing.specs.Entry.{PackTold, packEntry}
-use Rattle.word_slots.specs.WordSlots.{countSlots}
+use Rattle.median_slots.specs.MedianSlots.{countSlots}
 
 -- the number that `wv_pack` answers, and what its two lists then hold
 pub record PackLeft : Type 0 where

@@ -3,8 +3,8 @@
 use answers::Refusal;
 use answers::number;
 use answers::outcome_number;
+use median_slots::lay_counts;
 use pack_entry::encode_packed_samples_stereo_from_entropy;
-use word_slots::lay_counts;
 ghost use mathlib.Core.Path.{_≡_};
 ghost use Rattle.pack_slots.specs.PackSlots.{packCall};
 

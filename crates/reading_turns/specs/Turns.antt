@@ -15,8 +15,8 @@ use Rattle.words.specs.Word.{word}
 use Rattle.words.specs.Parts.{codedWord}
 use Rattle.words.specs.declared.coded.Coded.{Coded}
 use Rattle.readings.specs.Standing.{Held}
-use Rattle.short_reading.specs.Onward.{standing, Onward}
-use Rattle.short_reading.specs.declared.Standing.{Standing}
+use Rattle.short_steps.specs.Onward.{standing, Onward}
+use Rattle.short_steps.specs.declared.Standing.{Standing}
 use Rattle.reading_turns.specs.Zeros.{ZerosIs}
 use Rattle.reading_turns.specs.declared.Turn.{Turn}
 

@@ -1,2 +1,2 @@
--- What the proofs of several functions use.
-pub mod OnwardLaws
+-- What the proof of the loop cites.
+pub mod PairLaws

@@ -1,124 +1,18 @@
-// Implements document 01, "Reading", for short words that come one after another: each out of 64 bits
-// in a register, a left and a right one a turn, so that the medians of both stay in registers too.
+// Implements document 01, "Reading", for short words that come one after another: a left and a right
+// one a turn, so that the medians of both stay in registers.
 ghost use mathlib.Core.Path.{_≡_};
 ghost use mathlib.Core.Bool.{false};
-ghost use Prim.Native.Nat.{_+_, _/_, _%_, _≤_, _<_};
+ghost use Prim.Native.Nat.{_+_, _/_, _%_, _≤_};
 ghost use lib.ListN.{length};
 ghost use Rattle.answers.specs.Limits.{maxPayloadBytes};
-ghost use Rattle.bits.specs.Bits.{bitsOf};
-ghost use Rattle.bits.specs.Window.{Window};
 ghost use Rattle.entropy.specs.Medians.{mediansOf};
 ghost use Rattle.word_state.specs.State.{runDue};
-ghost use Rattle.short_reading.specs.Onward.{Onward};
-ghost use Rattle.short_reading.specs.Steps.{Ready, SteppedIs, StepIs};
+ghost use Rattle.short_steps.specs.Onward.{Onward};
 use bit_windows::register::first_window;
-use bit_windows::register::moved;
-use entropy::AdaptiveMedians;
-use short_words::ShortWord;
-use short_words::left_word;
-use short_words::right_word;
+use short_steps::Standing;
+use short_steps::left_step;
+use short_steps::right_step;
 use word_state::zero_run_eligible;
-
-// Where a reading stands between two words.
-pub struct Standing {
-    pub place: usize,
-    pub written: usize,
-    pub left: AdaptiveMedians,
-    pub right: AdaptiveMedians,
-    pub last_zero: bool,
-    pub last_one: bool,
-}
-
-// Where a reading stands after a word, and the 64 bits there. `on` is false where no short word may
-// follow.
-struct Step {
-    on: bool,
-    w: u64,
-    at: Standing,
-}
-
-// A word given: its sample is written, and the reading stands behind it.
-fn stepped(
-    payload: &[u8],
-    out: &mut [i32],
-    from: Standing,
-    w: u64,
-    word: ShortWord,
-    left: AdaptiveMedians,
-    right: AdaptiveMedians,
-) -> Step
-    requires limit { ⌜ length (now payload) ≤ maxPayloadBytes ⌝ }
-    requires inside { ⌜ from .place / 8 + 16 ≤ length (now payload) ⌝ }
-    requires room { ⌜ from .written < length (now out) ⌝ }
-    requires window { ⌜ Window (bitsOf (now payload)) (from .place) 64 w ⌝ }
-    requires some { ⌜ 0 < word .used ⌝ }
-    requires most { ⌜ word .used ≤ 57 ⌝ }
-    ensures { λ r.
-        ⌜ SteppedIs (now (payload .entry)) (now (out .entry)) (now (out .exit))
-        from word left right r ⌝ }
-{
-    let i = from.written;
-    let value = word.value;
-    out[i] = value;
-    Step {
-        on: word.on,
-        w: moved(payload, from.place, w, word.used),
-        at: Standing {
-            place: from.place + word.used,
-            written: i + 1,
-            left,
-            right,
-            last_zero: word.last_zero,
-            last_one: word.last_one,
-        },
-    }
-}
-
-// The left word of a frame.
-fn left_step(payload: &[u8], out: &mut [i32], from: Standing, w: u64) -> Step
-    requires limit { ⌜ length (now payload) ≤ maxPayloadBytes ⌝ }
-    requires inside { ⌜ from .place / 8 + 16 ≤ length (now payload) ⌝ }
-    requires room { ⌜ from .written < length (now out) ⌝ }
-    requires channel { ⌜ from .written % 2 ≡ 0 ⌝ }
-    requires ready { ⌜ Ready (now payload) from w ⌝ }
-    ensures { λ r. ⌜ StepIs (now (payload .entry)) (now (out .entry)) (now (out .exit)) from r ⌝ }
-{
-    let left = from.left;
-    let right = from.right;
-    let word = left_word(w, left, right, from.last_zero, from.last_one);
-    if !word.fit {
-        return Step {
-            on: false,
-            w,
-            at: from,
-        };
-    }
-    let after = word.medians;
-    stepped(payload, out, from, w, word, after, right)
-}
-
-// The right word of a frame.
-fn right_step(payload: &[u8], out: &mut [i32], from: Standing, w: u64) -> Step
-    requires limit { ⌜ length (now payload) ≤ maxPayloadBytes ⌝ }
-    requires inside { ⌜ from .place / 8 + 16 ≤ length (now payload) ⌝ }
-    requires room { ⌜ from .written < length (now out) ⌝ }
-    requires channel { ⌜ from .written % 2 ≡ 1 ⌝ }
-    requires ready { ⌜ Ready (now payload) from w ⌝ }
-    ensures { λ r. ⌜ StepIs (now (payload .entry)) (now (out .entry)) (now (out .exit)) from r ⌝ }
-{
-    let left = from.left;
-    let right = from.right;
-    let word = right_word(w, right, left, from.last_zero, from.last_one);
-    if !word.fit {
-        return Step {
-            on: false,
-            w,
-            at: from,
-        };
-    }
-    let after = word.medians;
-    stepped(payload, out, from, w, word, left, after)
-}
 
 // Short words into `out`, two a turn, up to the first that is none, to the place `stop` or to the end
 // of `out`.

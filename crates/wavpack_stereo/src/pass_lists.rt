@@ -1,8 +1,8 @@
 // Pass making, decorrelation and analysis for a caller that holds its passes in lists of slots, 20
 // to a pass.
 use made_slots::make_pass;
-use pass_slots::run_slots;
-use passes::Direction;
+use pass_calls::analyse_call;
+use pass_calls::decorrelate_call;
 ghost use mathlib.Core.Path.{_≡_};
 ghost use Rattle.decorrelation.specs.Lists.{decorrelation, analysis};
 ghost use Rattle.slots.specs.Slots.{leaveValues};
@@ -44,7 +44,7 @@ pub extern "C" fn wv_decorrelate(passes: &mut [i32], buffer: &mut [i32]) -> u32
         ≡ passesCall decorrelation (now (passes .entry)) (now (buffer .entry))
         ⌝ }
 {
-    run_slots(Direction::Decorrelation, passes, buffer)
+    decorrelate_call(passes, buffer)
 }
 
 // Analysis of the buffer, the last pass first. It refuses as decorrelation does.
@@ -55,5 +55,5 @@ pub extern "C" fn wv_analyse(passes: &mut [i32], buffer: &mut [i32]) -> u32
         ≡ passesCall analysis (now (passes .entry)) (now (buffer .entry))
         ⌝ }
 {
-    run_slots(Direction::Analysis, passes, buffer)
+    analyse_call(passes, buffer)
 }

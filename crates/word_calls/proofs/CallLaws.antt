@@ -18,7 +18,9 @@ use Rattle.samples.specs.View.{viewReading, readEntry}
 use Rattle.one_word.specs.View.{viewWord, oneWord}
 use Rattle.samples.specs.declared.ReadAnswer.{ReadAnswer}
 use Rattle.one_word.specs.declared.WordAnswer.{WordAnswer}
-use Rattle.word_slots.specs.WordSlots.{countSlots, slotsPlace, slotsState, leaveWord}
+use Rattle.median_slots.specs.MedianSlots.{countSlots}
+use Rattle.state_slots.specs.StateSlots.{slotsPlace, slotsState}
+use Rattle.word_slots.specs.WordSlots.{leaveWord}
 use Rattle.word_calls.specs.Calls.{readCall, wordCall}
 
 -- ---- reading

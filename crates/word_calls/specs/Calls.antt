@@ -10,7 +10,9 @@ use lib.ListN.{length}
 use Rattle.overlay.specs.Overlay.{overlay}
 use Rattle.samples.specs.View.{ReadTold, readEntry}
 use Rattle.one_word.specs.View.{oneWord}
-use Rattle.word_slots.specs.WordSlots.{countSlots, slotsPlace, slotsState, WordLeft, leaveWord}
+use Rattle.median_slots.specs.MedianSlots.{countSlots}
+use Rattle.state_slots.specs.StateSlots.{slotsPlace, slotsState}
+use Rattle.word_slots.specs.WordSlots.{WordLeft, leaveWord}
 
 -- ---- `wv_read`
 

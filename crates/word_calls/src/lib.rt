@@ -4,12 +4,12 @@
 use answers::Refusal;
 use answers::number;
 use answers::outcome_number;
+use median_slots::lay_counts;
 use one_word::decode_sample_stateful_stereo;
 use samples::reading::decode_packed_samples_stereo_from_entropy;
 use slots::lay_words;
-use word_slots::lay_counts;
+use state_slots::state_in;
 use word_slots::lay_word;
-use word_slots::state_in;
 ghost use mathlib.Core.Path.{_≡_};
 ghost use Rattle.word_calls.specs.Calls.{readCall, wordCall};
 

@@ -8,7 +8,8 @@ use borrow.Author.Tests.{not-false}
 use Prim.Native.Nat.{ℕ, _+_, _-_, _/_, _≤_}
 use denote.Ref.{now}
 use lib.ListN.{length}
-use Rattle.short_reading.proofs.OnwardLaws.{onward-none, onward-then, Pairs, pairs-on}
+use Rattle.short_steps.proofs.OnwardLaws.{onward-none, onward-then}
+use Rattle.short_reading.proofs.PairLaws.{Pairs, pairs-on}
 use Rattle.short_reading.proofs.read_pairs.Statement.{statement}
 use Rattle.short_reading.proofs.read_pairs.Tie as tie
 
