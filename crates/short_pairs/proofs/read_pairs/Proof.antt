@@ -1,4 +1,4 @@
--- `short_reading::read_pairs` meets its contract. The loop's invariant is `Pairs`; each way out is a
+-- `short_pairs::read_pairs` meets its contract. The loop's invariant is `Pairs`; each way out is a
 -- step that was made.
 -- Assumes nothing.
 use borrow.Author.Needs.{needs}
@@ -9,9 +9,9 @@ use Prim.Native.Nat.{ℕ, _+_, _-_, _/_, _≤_}
 use denote.Ref.{now}
 use lib.ListN.{length}
 use Rattle.short_steps.proofs.OnwardLaws.{onward-none, onward-then}
-use Rattle.short_reading.proofs.PairLaws.{Pairs, pairs-on}
-use Rattle.short_reading.proofs.read_pairs.Statement.{statement}
-use Rattle.short_reading.proofs.read_pairs.Tie as tie
+use Rattle.short_pairs.proofs.PairLaws.{Pairs, pairs-on}
+use Rattle.short_pairs.proofs.read_pairs.Statement.{statement}
+use Rattle.short_pairs.proofs.read_pairs.Tie as tie
 
 abbrev Inv-loop : tie.InvT-loop
 Inv-loop payload out₀ stop at₀ w₀ out at w = Pairs payload out₀ out at₀ at w
