@@ -1,9 +1,9 @@
 // One block: its payload read, decorrelated and compared with the samples it was made from; these
 // analysed, packed and compared with the payload.
-use answers::outcome_number;
 use crate::record::holds;
 use crate::record::read_passes;
 use crate::record::word_at;
+use answers::outcome_number;
 use decorrelation::decorrelate_array;
 use decorrelation::recorrelate_array;
 use pack_entry::encode_packed_samples_stereo_from_entropy;

@@ -1,12 +1,12 @@
 // Pass lists joined (document 02, §4: Q4.1 to Q4.3): the numbers of specs/Example.antt in
 // crates/joined_lists. The line of a call has the buffer after it; below it each pass of its list has
 // a line with its state after it: the weights of A and B, then their histories.
-use answers::limits::MAX_PASSES;
-use answers::outcome_number;
 use crate::print_case;
 use crate::print_list;
 use crate::print_values;
 use crate::some_pass;
+use answers::limits::MAX_PASSES;
+use answers::outcome_number;
 use decorrelation::array_answer;
 use libc::STDOUT_FILENO;
 use passes::DecorrPass;

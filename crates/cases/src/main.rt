@@ -5,12 +5,12 @@
 mod joined;
 mod reach;
 
-use answers::outcome_number;
-use bit_reader::field_at;
-use bits::BitAnswer;
 use crate::joined::run_joined;
 use crate::joined::run_seventeen;
 use crate::reach::run_reach;
+use answers::outcome_number;
+use bit_reader::field_at;
+use bits::BitAnswer;
 use decorrelation::decorrelate_array;
 use entropy::EntropyInfo;
 use entropy_info::expand_entropy;
