@@ -20,8 +20,8 @@ pub record Pairs (payload : List ℕ) (out₀ out : List ℤ) (from at : Standin
 
 -- a turn: both words further
 pub pairs-on : (payload : List ℕ) (out₀ out a b : List ℤ) (from at : Standing) (w : ℕ) (l r : Step)
-    → Pairs payload out₀ out from at w → StepIs payload out a at l → l .on ≡ true → StepIs payload a b (l .at) r → r .on ≡ true
-    → Pairs payload out₀ b from (r .at) (r .w)
+    → Pairs payload out₀ out from at w → StepIs payload out a at l → l .on ≡ true
+    → StepIs payload a b (l .at) r → r .on ≡ true → Pairs payload out₀ b from (r .at) (r .w)
 pairs-on payload out₀ out a b from at w l r p s e t f = record {
   onward = onward-then _ _ _ _ _ _ _ (onward-then _ _ _ _ _ _ _ (p .onward) (s .onward)) (t .onward);
   ready = t .ready f;

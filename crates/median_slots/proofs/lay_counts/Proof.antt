@@ -12,7 +12,9 @@ use Rattle.median_slots.proofs.lay_counts.Tie as tie
 returns : tie.Need-returns
 returns c =
     let a = c .before .before .before .before .before .before .before .before .before .before .args in
-    overlay-two (a .slots .now) _ _ 0 1 (a .bits ∷ []) (pairSlots (pairOf (a .medians))) (omega arith) (omega arith) (c .before .before .before .before .before .before .lay-words .ensures) (c .before .before .lay-medians .ensures)
+    overlay-two (a .slots .now) _ _ 0 1 (a .bits ∷ []) (pairSlots (pairOf (a .medians))) (omega arith)
+    (omega arith) (c .before .before .before .before .before .before .lay-words .ensures)
+    (c .before .before .lay-medians .ensures)
 
 pub lay-counts-spec : {M : Type 1} → statement M
 lay-counts-spec =

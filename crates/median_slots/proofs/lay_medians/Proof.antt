@@ -12,7 +12,9 @@ returns : tie.Need-returns
 returns c =
     let ms = c .before .before .before .before .before .before .before .before .before .before .args .t1 in
     let l : length ms ≡ 2 = search (needs, length-mapped) in
-    medians-laid ms (c .before .before .before .before .before .before .before .before .before .before .args .at) _ _ l (c .before .before .lay-words .ensures)
+    medians-laid ms
+    (c .before .before .before .before .before .before .before .before .before .before .args .at) _ _ l
+    (c .before .before .lay-words .ensures)
 
 pub lay-medians-spec : {M : Type 1} → statement M
 lay-medians-spec =

@@ -10,4 +10,10 @@ returns c =
     run .run-slots .ensures
 
 pub analyse-call-spec : {M : Type 1} → statement M
-analyse-call-spec = tie.close (tie.spec (λ c κs. search needs) (λ c. search needs) (λ c. search needs) returns)
+analyse-call-spec =
+    tie.close
+    (tie.spec
+    (λ c κs. search needs)
+    (λ c. search needs)
+    (λ c. search needs)
+    returns)

@@ -9,7 +9,13 @@ use Rattle.state_slots.proofs.lay_state.Tie as tie
 returns : tie.Need-returns
 returns c =
     let a = c .before .before .before .before .before .before .before .before .before .before .before .before .before .before .before .args in
-    state-laid (a .place) _ _ _ _ (stateOf (a .state)) (a .slots .now) _ _ (c .before .before .before .before .before .before .before .before .before .before .before .before .flag-slot .ensures) (c .before .before .before .before .before .before .before .before .before .before .before .flag-slot2 .ensures) (c .before .before .before .before .before .before .before .before .before .before .flag-slot3 .ensures) (c .before .before .before .before .before .before .before .before .before .flag-slot4 .ensures) (c .before .before .before .before .before .before .lay-words .ensures) (c .before .before .lay-medians .ensures)
+    state-laid (a .place) _ _ _ _ (stateOf (a .state)) (a .slots .now) _ _
+    (c .before .before .before .before .before .before .before .before .before .before .before .before .flag-slot .ensures)
+    (c .before .before .before .before .before .before .before .before .before .before .before .flag-slot2 .ensures)
+    (c .before .before .before .before .before .before .before .before .before .before .flag-slot3 .ensures)
+    (c .before .before .before .before .before .before .before .before .before .flag-slot4 .ensures)
+    (c .before .before .before .before .before .before .lay-words .ensures)
+    (c .before .before .lay-medians .ensures)
 
 pub lay-state-spec : {M : Type 1} → statement M
 lay-state-spec =
