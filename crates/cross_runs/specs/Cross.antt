@@ -1,5 +1,6 @@
 -- The cross terms (P8): -1 and -2 as one choice, and the pass with the numbers that their loops carry.
 -- The definition of a step stands in `passes`. Assumes nothing.
+-- ---- for the code alone
 use mathlib.Core.Bool.{Bool, true, false}
 use mathlib.Core.List.{_∷_}
 use lib.IntN.{ℤ}

@@ -1,6 +1,7 @@
 -- Document 02, §7 (Q7.2): what is told of one set, and of both, on the way to the answer of an entropy
 -- payload.
 -- Assumes nothing.
+-- ---- for the code alone
 use Prim.Native.Nat.{ℕ}
 use mathlib.Core.Bool.{cond}
 use mathlib.Core.List.{List, [], _∷_}

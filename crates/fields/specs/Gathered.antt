@@ -1,5 +1,6 @@
 -- What the code's struct of gathered bits stands for.
 -- Assumes nothing.
+-- ---- for the code alone
 use mathlib.Core.Path.{_≡_}
 use mathlib.Core.Bool.{Bool}
 use mathlib.Core.List.{List}

@@ -1,5 +1,6 @@
 -- A fixed lag whose samples are looked back at in the buffer (P8): where they stand, and what the
 -- ring of the definition holds meanwhile. Assumes nothing.
+-- ---- for the code alone
 use mathlib.Core.Path.{_≡_}
 use mathlib.Core.Bool.{cond}
 use mathlib.Core.List.{List}

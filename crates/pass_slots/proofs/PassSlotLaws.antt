@@ -114,7 +114,8 @@ laying-more i ps d before slots values after h n v e l =
     record {
       long = rw more long;
       holds = rw more (e ∙ ap (λ (x : List ℤ). overlay x (i * passSlots) values)
-          (l .holds) ∙ overlay-on before 0 (i * passSlots) done values (omega arith) (omega (arith, l .long)));
+          (l .holds) ∙ overlay-on before 0 (i * passSlots) done values (omega arith)
+          (omega (arith, l .long)));
     }
 
 -- all of them are laid

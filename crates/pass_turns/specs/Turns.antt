@@ -1,5 +1,6 @@
 -- One channel's step in either direction, as the loops make it, and the pass with the numbers that
 -- a loop carries. The definition of a step stands in `passes`. Assumes nothing.
+-- ---- for the code alone
 use mathlib.Core.Bool.{Bool, true, false}
 use mathlib.Core.List.{List}
 use Prim.Native.Nat.{ℕ, _+_}

@@ -1,5 +1,6 @@
 -- A turn of the reading loop: the word there, and where the loop stands after it (R4).
 -- Assumes nothing.
+-- ---- for the code alone
 use mathlib.Core.Path.{_≡_}
 use mathlib.Core.Bool.{Bool, true, false}
 use mathlib.Core.List.{List, [], _∷_}

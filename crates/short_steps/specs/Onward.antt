@@ -1,5 +1,6 @@
 -- Words one after another, of whatever reading: where it stood and where it stands (R4).
 -- Assumes nothing.
+-- ---- for the code alone
 use mathlib.Core.Path.{_≡_}
 use mathlib.Core.Bool.{Bool, false}
 use mathlib.Core.List.{List, [], _∷_}

@@ -1,5 +1,6 @@
 -- A short word further: what a reading has written and where it stands then (R4).
 -- Assumes nothing.
+-- ---- for the code alone
 use mathlib.Core.Path.{_≡_}
 use mathlib.Core.Bool.{true, false}
 use mathlib.Core.List.{List}

@@ -1,6 +1,7 @@
 -- What a word out of 64 bits in a register stands for: steps 3 and 4 of document 01's word, at every
 -- place where these bits stand (W3, W4).
 -- Assumes nothing.
+-- ---- for the code alone
 use mathlib.Core.Path.{_≡_}
 use mathlib.Core.Bool.{Bool, true, false, _||_}
 use mathlib.Core.List.{List}

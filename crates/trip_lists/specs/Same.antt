@@ -1,5 +1,6 @@
 -- Lists of samples that are the same.
 -- Assumes nothing.
+-- ---- for the code alone
 use mathlib.Core.Path.{_≡_}
 use mathlib.Core.Bool.{Bool, true}
 use mathlib.Core.List.{List}

@@ -1,5 +1,6 @@
 -- Terms 17 and 18 (P8): the two terms as one choice, their sources, and the pass with the numbers that
 -- their loop carries. The definition of a step stands in `passes`. Assumes nothing.
+-- ---- for the code alone
 use mathlib.Core.Bool.{Bool, true, false}
 use mathlib.Core.List.{List, _∷_}
 use lib.IntN.{ℤ}

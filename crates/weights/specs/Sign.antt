@@ -1,4 +1,5 @@
 -- A choice by a sign, as the code of the weight updates makes it. Assumes nothing.
+-- ---- for the code alone
 use Prim.Native.Nat.{zero, suc}
 use lib.IntN.{ℤ, pos, negsuc}
 use Rattle.weights.specs.Weights.{Way}

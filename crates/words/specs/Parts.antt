@@ -1,6 +1,7 @@
 -- What the parts of a word that the code reads one after another stand for: each is right for every
 -- state that holds the numbers it was given.
 -- Assumes nothing.
+-- ---- for the code alone
 use mathlib.Core.Path.{_≡_}
 use mathlib.Core.Bool.{Bool}
 use mathlib.Core.List.{List}

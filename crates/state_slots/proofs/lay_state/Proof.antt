@@ -10,8 +10,10 @@ returns : tie.Need-returns
 returns c =
     let a = c .before .before .before .before .before .before .before .before .before .before .before .before .before .before .before .args in
     state-laid (a .place) _ _ _ _ (stateOf (a .state)) (a .slots .now) _ _
-    (c .before .before .before .before .before .before .before .before .before .before .before .before .flag-slot .ensures)
-    (c .before .before .before .before .before .before .before .before .before .before .before .flag-slot2 .ensures)
+    (c .before .before .before .before .before .before .before .before .before .before .before .before
+    .flag-slot .ensures)
+    (c .before .before .before .before .before .before .before .before .before .before .before .flag-slot2
+    .ensures)
     (c .before .before .before .before .before .before .before .before .before .before .flag-slot3 .ensures)
     (c .before .before .before .before .before .before .before .before .before .flag-slot4 .ensures)
     (c .before .before .before .before .before .before .lay-words .ensures)

@@ -19,7 +19,8 @@ use Rattle.bits.proofs.WriteLaws.{put-lent}
 use Rattle.packing.specs.Packing.{wordOut}
 use Rattle.packing.specs.View.{Turned}
 use Rattle.packing.specs.declared.Turn.{Turn}
-use Rattle.packing.proofs.LoopLaws.{Loop, loop-start, loop-due-small, loop-other-small, loop-seen, word-room, run-room, loop-word, loop-run, loop-end}
+use Rattle.packing.proofs.LoopLaws.{Loop, loop-start, loop-due-small, loop-other-small, loop-seen}
+use Rattle.packing.proofs.LoopLaws.{word-room, run-room, loop-word, loop-run, loop-end}
 use Rattle.spans.proofs.SpanLaws.{within-at}
 use Rattle.word_packing.proofs.pack_words.Statement.{statement}
 use Rattle.word_packing.proofs.pack_words.Tie as tie
