@@ -1,8 +1,8 @@
 // One block: its payload read, decorrelated and compared with the samples it was made from; these
 // analysed, packed and compared with the payload.
-use crate::record::holds;
+ghost use mathlib.Core.Path.{_≡_};
+ghost use lib.ListN.{length};
 use crate::record::read_passes;
-use crate::record::word_at;
 use answers::outcome_number;
 use decorrelation::decorrelate_array;
 use decorrelation::recorrelate_array;
@@ -10,6 +10,12 @@ use pack_entry::encode_packed_samples_stereo_from_entropy;
 use packing::PackAnswer;
 use passes::DecorrPass;
 use samples::reading::decode_packed_samples_stereo_from_entropy;
+use test_support::numbers::fill;
+use test_support::numbers::load_words;
+use test_support::numbers::part;
+use test_support::numbers::part_signed;
+use test_support::numbers::read_size;
+use trip_lists::same;
 
 // How much of each part a block holds.
 pub struct Head {
@@ -25,12 +31,15 @@ pub struct Verdict {
     pub bits_agree: bool,
 }
 
-// The sizes behind the label of a head.
-pub fn head_of(bytes: [u8; 42]) -> Head {
+// The sizes after a label.
+pub fn read_head(fd: i32) -> Head {
+    let frames = read_size(fd);
+    let passes = read_size(fd);
+    let length = read_size(fd);
     Head {
-        frames: word_at(&bytes, 12) as usize,
-        passes: word_at(&bytes, 13) as usize,
-        length: word_at(&bytes, 14) as usize,
+        frames,
+        passes,
+        length,
     }
 }
 
@@ -64,6 +73,11 @@ fn same_bits(a: &[u8], b: &[u8], bits: usize) -> bool {
     true
 }
 
+// Whether two lists are the same.
+fn same_samples(a: &[i32], b: &[i32]) -> bool {
+    a.len() == b.len() && same(a, b)
+}
+
 // Whether the samples, analysed and packed, are the payload's first bits, and no more or fewer than
 // reading used.
 fn packs_again(
@@ -77,18 +91,16 @@ fn packs_again(
     let analysed = recorrelate_array(list, count, buffer);
     let analysis = analysed.outcome;
     let frames = buffer.len() / 2;
-    let mut out = [0u8; 57344];
+    let mut out = io::large_buffer();
     let packed: PackAnswer = encode_packed_samples_stereo_from_entropy(
         buffer,
         entropy,
         frames,
         &mut out,
     );
-    let outcome = packed.outcome;
-    if outcome_number(analysis) != 0 || outcome_number(outcome) != 0 || packed.bits != bits {
-        return false;
-    }
-    same_bits(&out, payload, bits)
+    let packing = packed.outcome;
+    let accepted = (outcome_number(analysis) == 0) & (outcome_number(packing) == 0);
+    accepted & (packed.bits == bits) & same_bits(&out, payload, bits)
 }
 
 // The verdict on a payload and the samples that it was made from. The buffer has their length.
@@ -97,7 +109,7 @@ fn judge(
     count: usize,
     entropy: &[u8],
     payload: &[u8],
-    stored: &[u8],
+    stored: &[i32],
     buffer: &mut [i32],
 ) -> Verdict {
     let frames = buffer.len() / 2;
@@ -106,11 +118,9 @@ fn judge(
     let read = answer.outcome;
     let decorrelated = decorrelate_array(list, count, buffer);
     let decorrelation = decorrelated.outcome;
-    if outcome_number(read) != 0 || outcome_number(decorrelation) != 0 {
-        return neither();
-    }
-    let samples_agree = holds(stored, buffer);
-    let bits_agree = packs_again(list, count, entropy, payload, bits, buffer);
+    let accepted = (outcome_number(read) == 0) & (outcome_number(decorrelation) == 0);
+    let samples_agree = accepted & same_samples(stored, buffer);
+    let bits_agree = accepted & packs_again(list, count, entropy, payload, bits, buffer);
     Verdict {
         bits,
         samples_agree,
@@ -118,42 +128,39 @@ fn judge(
     }
 }
 
-// Reads so many bytes of the file to the start of a list. False where the list or the file has
-// fewer.
-fn fill(fd: i32, bytes: &mut [u8], count: usize) -> bool {
-    if count > bytes.len() {
-        return false;
-    }
-    io::read_full(fd, &mut bytes[..count]) == count
+// 2,048 frames of zeros. The `ensures` gives only the length, which lending the array needs.
+fn silence() -> [i32; 4096]
+    ensures { λ r. ⌜ 4096 ≡ length r ⌝ }
+{
+    [0; 4096]
 }
 
-// Runs the block of a head, of up to 2,048 frames and 16,384 bytes: reads its passes, samples and
-// payload from the file.
-pub fn run(fd: i32, head: Head, entropy: &[u8]) -> Verdict {
+// Runs the block of a head, of up to 2,048 frames and 65,536 bytes: reads its entropy payload,
+// passes, samples and payload from the file.
+pub fn run(fd: i32, head: Head) -> Verdict {
     let frames = head.frames;
     let length = head.length;
     if frames > 2048 {
         return neither();
     }
-    if length > 16384 {
-        return neither();
-    }
+    let mut entropy = [0u8; 12];
+    io::read_full(fd, &mut entropy);
     let passes = read_passes(fd, head.passes);
     let list = passes.list;
-    let mut stored = [0u8; 8192];
-    let stored_whole = fill(fd, &mut stored, 4 * frames);
-    let mut payload = [0u8; 16384];
-    let payload_whole = fill(fd, &mut payload, length);
-    if !(passes.complete & stored_whole & payload_whole) {
+    let mut stored = silence();
+    load_words(fd, &mut stored, 2 * frames);
+    let mut payload = io::large_buffer();
+    let whole = fill(fd, &mut payload, length);
+    if !(passes.complete & whole) {
         return neither();
     }
-    let mut buffer = [0i32; 4096];
+    let mut buffer = silence();
     judge(
         list,
         head.passes,
-        entropy,
-        &payload[..length],
-        &stored,
+        &entropy,
+        part(&payload, length),
+        part_signed(&stored, 2 * frames),
         &mut buffer[..2 * frames],
     )
 }

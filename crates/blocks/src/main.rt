@@ -6,20 +6,11 @@ mod record;
 
 use block::Head;
 use block::Verdict;
-use libc::STDOUT_FILENO;
+use test_support::printing::print;
+use test_support::printing::print_count;
 
 // No file holds more blocks than this. A proved loop has to end, and nothing says that a file does.
 const MOST: u32 = 1000;
-
-fn print(text: &[u8]) {
-    io::write_all(STDOUT_FILENO, text);
-}
-
-// A number with what it counts.
-fn print_count(count: usize, of: &[u8]) {
-    io::print_decimal(STDOUT_FILENO, count as u64);
-    print(of);
-}
 
 fn print_agreement(agrees: bool) {
     if agrees {
@@ -29,7 +20,7 @@ fn print_agreement(agrees: bool) {
     }
 }
 
-// The line about a block, behind its label.
+// The line about a block, after its label.
 fn print_verdict(head: Head, verdict: Verdict) {
     print_count(head.frames, b" frames, ");
     print_count(head.passes, b" passes, ");
@@ -40,15 +31,15 @@ fn print_verdict(head: Head, verdict: Verdict) {
     print(b"\n");
 }
 
-// Runs the next block of an open file. False where the file ends before another head.
+// Runs the next block of an open file. False where the file ends before another label.
 fn next(fd: i32) -> bool {
-    let mut bytes = [0u8; 42];
-    if io::read_full(fd, &mut bytes) < 42 {
+    let mut label = [0u8; 24];
+    if io::read_full(fd, &mut label) < 24 {
         return false;
     }
-    let head = block::head_of(bytes);
-    print(&bytes[..24]);
-    let verdict = block::run(fd, head, &bytes[30..]);
+    print(&label);
+    let head = block::read_head(fd);
+    let verdict = block::run(fd, head);
     print_verdict(head, verdict);
     true
 }

@@ -1,11 +1,13 @@
 // Stored packing.
-use crate::numbers::holds;
-use crate::numbers::holds_bytes;
-use crate::numbers::load_signed;
-use crate::numbers::number_at;
 use answers::limits::BYTES_PER_FRAME;
+use test_support::numbers::holds;
+use test_support::numbers::holds_bytes;
+use test_support::numbers::load_signed;
+use test_support::numbers::part_signed;
+use test_support::numbers::read_number;
 
-// Packs up to eight frames: two residuals and 28 lent bytes a frame.
+// Packs up to eight frames: two residuals and 28 lent bytes each. 0, with nothing packed, for more
+// frames or where the buffer has fewer bytes.
 fn pack(
     residuals: &[i32],
     entropy: &[u8],
@@ -16,16 +18,12 @@ fn pack(
     if frames > 8 {
         return 0;
     }
-    if residuals.len() < 16 {
-        return 0;
-    }
-    if out.len() < 224 {
-        return 0;
-    }
-    let count = 2 * frames;
     let room = BYTES_PER_FRAME * frames;
+    if room > out.len() {
+        return 0;
+    }
     wavpack_stereo::wv_pack(
-        &residuals[..count],
+        part_signed(residuals, 2 * frames),
         entropy,
         frames,
         &mut out[..room],
@@ -33,17 +31,14 @@ fn pack(
     )
 }
 
-// Whether the residuals of a record of 336 bytes are refused or packed as stored.
-pub fn packing_agrees(record: &[u8]) -> bool {
-    if record.len() < 336 {
-        return false;
-    }
+// Whether the residuals of up to eight frames are refused or packed as stored.
+pub fn packing_agrees(frames: u32, fd: i32) -> bool {
+    let mut entropy = [0u8; 12];
+    io::read_full(fd, &mut entropy);
     let mut residuals = [0i32; 16];
-    load_signed(&record[16..], &mut residuals);
+    load_signed(fd, &mut residuals);
     let mut out = [0u8; 224];
     let mut answer = [0u32; 7];
-    let frames = number_at(record, 0) as usize;
-    let refusal = pack(&residuals, &record[4..16], frames, &mut out, &mut answer);
-    let told = (refusal == number_at(record, 20)) & holds(&record[84..], &answer);
-    told & holds_bytes(&record[112..], &out)
+    let refusal = pack(&residuals, &entropy, frames as usize, &mut out, &mut answer);
+    (refusal == read_number(fd)) & holds(fd, &answer) & holds_bytes(fd, &out)
 }

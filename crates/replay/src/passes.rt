@@ -1,9 +1,9 @@
 // Stored pass making, decorrelation and analysis.
-use crate::numbers::holds_signed;
-use crate::numbers::load_signed;
-use crate::numbers::number_at;
-use crate::numbers::part_signed;
-use crate::numbers::signed_at;
+use test_support::numbers::holds_signed;
+use test_support::numbers::load_signed;
+use test_support::numbers::part_signed;
+use test_support::numbers::read_number;
+use test_support::numbers::read_signed;
 
 // The term with this 8-bit pattern.
 fn term(pattern: u8) -> i8 {
@@ -14,27 +14,28 @@ fn term(pattern: u8) -> i8 {
     }
 }
 
-// Whether a pass, made of what a record of 180 bytes holds, is refused or made as stored.
-pub fn making_agrees(record: &[u8]) -> bool {
-    if record.len() < 180 {
-        return false;
-    }
-    let stored = &record[100..];
+// Whether a pass is refused or made as stored.
+pub fn making_agrees(pattern: u32, fd: i32) -> bool {
+    let delta = read_signed(fd);
+    let weight_a = read_signed(fd);
+    let weight_b = read_signed(fd);
+    let count_a = read_number(fd) as usize;
+    let count_b = read_number(fd) as usize;
     let mut seed_a = [0i32; 9];
+    load_signed(fd, &mut seed_a);
     let mut seed_b = [0i32; 9];
-    load_signed(&record[24..], &mut seed_a);
-    load_signed(&record[60..], &mut seed_b);
+    load_signed(fd, &mut seed_b);
     let mut pass = [0i32; 20];
     let refusal = wavpack_stereo::wv_pass(
-        term(record[0]),
-        signed_at(record, 1),
-        signed_at(record, 2),
-        signed_at(record, 3),
-        part_signed(&seed_a, number_at(record, 4)),
-        part_signed(&seed_b, number_at(record, 5)),
+        term((pattern % 256) as u8),
+        delta,
+        weight_a,
+        weight_b,
+        part_signed(&seed_a, count_a),
+        part_signed(&seed_b, count_b),
         &mut pass,
     );
-    (refusal == number_at(record, 24)) & holds_signed(stored, &pass)
+    (refusal == read_number(fd)) & holds_signed(fd, &pass)
 }
 
 // Analysis, or decorrelation, of a buffer by passes of 20 slots each.
@@ -63,25 +64,14 @@ fn run_parts(
     run(analyse, &mut passes[..count], &mut buffer[..length])
 }
 
-// Whether a list of up to four passes over up to 24 numbers, as a record of 848 bytes holds them,
-// is run as stored.
-pub fn passes_agree(record: &[u8]) -> bool {
-    if record.len() < 848 {
-        return false;
-    }
+// Whether a list of up to four passes over up to 24 numbers is run as stored.
+pub fn passes_agree(direction: u32, fd: i32) -> bool {
+    let count = 20 * (read_number(fd) as usize);
+    let length = read_number(fd) as usize;
     let mut passes = [0i32; 80];
+    load_signed(fd, &mut passes);
     let mut buffer = [0i32; 24];
-    load_signed(&record[12..], &mut passes);
-    load_signed(&record[332..], &mut buffer);
-    let count = 20 * (number_at(record, 1) as usize);
-    let length = number_at(record, 2) as usize;
-    let refusal = run_parts(
-        number_at(record, 0) == 1,
-        &mut passes,
-        count,
-        &mut buffer,
-        length,
-    );
-    let told = (refusal == number_at(record, 107)) & holds_signed(&record[432..], &passes);
-    told & holds_signed(&record[752..], &buffer)
+    load_signed(fd, &mut buffer);
+    let refusal = run_parts(direction == 1, &mut passes, count, &mut buffer, length);
+    (refusal == read_number(fd)) & holds_signed(fd, &passes) & holds_signed(fd, &buffer)
 }

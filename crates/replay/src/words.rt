@@ -1,25 +1,23 @@
 // Stored words and readings.
-use crate::numbers::holds;
-use crate::numbers::holds_signed;
-use crate::numbers::load;
-use crate::numbers::number_at;
-use crate::numbers::part;
-use crate::numbers::signed_at;
+use test_support::numbers::holds;
+use test_support::numbers::holds_signed;
+use test_support::numbers::load;
+use test_support::numbers::part;
+use test_support::numbers::read_number;
+use test_support::numbers::read_signed;
 
-// Whether a word, read from the state that a record of 140 bytes holds, is refused or given as
-// stored.
-pub fn word_agrees(record: &[u8]) -> bool {
-    if record.len() < 140 {
-        return false;
-    }
+// Whether a word, read from the state that a record holds, is refused or given as stored.
+pub fn word_agrees(length: u32, fd: i32) -> bool {
     let mut state = [0u32; 13];
-    load(&record[4..], &mut state);
+    load(fd, &mut state);
+    let mut payload = [0u8; 16];
+    io::read_full(fd, &mut payload);
     let mut sample = [0i32; 1];
     let mut report = [0u32; 2];
-    let payload = part(&record[56..72], number_at(record, 0));
-    let refusal = wavpack_stereo::wv_word(payload, &mut state, &mut sample, &mut report);
-    let told = (refusal == number_at(record, 18)) & (sample[0] == signed_at(record, 19));
-    told & holds(&record[80..], &state) & holds(&record[132..], &report)
+    let read = part(&payload, length as usize);
+    let refusal = wavpack_stereo::wv_word(read, &mut state, &mut sample, &mut report);
+    let told = (refusal == read_number(fd)) & (sample[0] == read_signed(fd));
+    told & holds(fd, &state) & holds(fd, &report)
 }
 
 // Reads into the first two numbers a frame of a list; 0, with nothing read, where it has fewer.
@@ -43,21 +41,21 @@ fn read(
     )
 }
 
-// Whether a reading of up to 16 frames, as a record of 232 bytes holds it, is answered as stored.
-pub fn reading_agrees(record: &[u8]) -> bool {
-    if record.len() < 232 {
-        return false;
-    }
+// Whether a reading of up to 16 frames is answered as stored.
+pub fn reading_agrees(length: u32, fd: i32) -> bool {
+    let frames = read_number(fd);
+    let mut entropy = [0u8; 12];
+    io::read_full(fd, &mut entropy);
+    let mut payload = [0u8; 48];
+    io::read_full(fd, &mut payload);
     let mut samples = [0i32; 32];
     let mut answer = [0u32; 8];
-    let payload = part(&record[20..68], number_at(record, 0));
     let refusal = read(
-        &record[8..20],
-        payload,
-        number_at(record, 1),
+        &entropy,
+        part(&payload, length as usize),
+        frames,
         &mut samples,
         &mut answer,
     );
-    let told = (refusal == number_at(record, 17)) & holds(&record[72..], &answer);
-    told & holds_signed(&record[104..], &samples)
+    (refusal == read_number(fd)) & holds(fd, &answer) & holds_signed(fd, &samples)
 }

@@ -8,13 +8,13 @@ use Rattle.replay.proofs.replay.Statement.{statement}
 use Rattle.replay.proofs.replay.Tie as tie
 
 abbrev Inv-loop : tie.InvT-loop
-Inv-loop kind size fd replayed₀ agreed₀ replayed agreed = (agreed ≤ replayed) × (replayed ≤ 1000000)
+Inv-loop kind fd replayed₀ agreed₀ replayed agreed = (agreed ≤ replayed) × (replayed ≤ 1000000)
 
 abbrev μ-loop : tie.MeasureT-loop
-μ-loop kind size fd replayed₀ agreed₀ replayed agreed = 1000000 - replayed
+μ-loop kind fd replayed₀ agreed₀ replayed agreed = 1000000 - replayed
 
 loop-again : tie.Need-loop-again Inv-loop μ-loop
-loop-again c = ⊎-elim (λ w. omega arith) (λ w. omega arith) (c .match .came)
+loop-again c = ⊎-elim (λ w. omega arith) (λ w. omega arith) (c .if1 .came)
 
 pub replay-spec : {M : Type 1} → statement M
 replay-spec =
@@ -26,8 +26,8 @@ replay-spec =
     (λ c κs. search needs)
     (λ c. search needs)
     (λ c. search needs)
+    (λ c κs. search needs)
     (λ c. omega arith)
-    (λ c. search needs)
     (λ c. omega arith)
     (λ c. omega arith)
     loop-again

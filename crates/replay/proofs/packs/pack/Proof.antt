@@ -1,4 +1,4 @@
--- `replay::packs::pack` is safe: the parts that it lends on lie within their lists.
+-- `replay::packs::pack` is safe: the part that it lends on lies within its list.
 -- Assumes nothing.
 use mathlib.Core.Path.{sym}
 use native.Mathlib.Omega.{arith}
@@ -10,9 +10,6 @@ use Rattle.replay.proofs.packs.pack.Tie as tie
 slice-aggregate-wv-pack : tie.Need-slice-aggregate-wv-pack
 slice-aggregate-wv-pack c = sym (length-take-le _ _ (omega arith))
 
-slice-aggregate-wv-pack-2 : tie.Need-slice-aggregate-wv-pack-2
-slice-aggregate-wv-pack-2 c = sym (length-take-le _ _ (omega arith))
-
 pub pack-spec : {M : Type 1} → statement M
 pack-spec =
     tie.close
@@ -21,10 +18,9 @@ pack-spec =
     (λ c. search needs)
     (λ c. search needs)
     (λ c. search needs)
+    (λ c κs. search needs)
     (λ c. search needs)
     slice-aggregate-wv-pack
-    (λ c. search needs)
-    slice-aggregate-wv-pack-2
     (λ c κs. search needs)
     (λ c. search needs)
     (λ c. search needs)

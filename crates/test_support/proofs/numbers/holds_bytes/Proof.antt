@@ -1,28 +1,26 @@
--- `replay::numbers::holds` is safe and ends. The measure is what is left of the list.
+-- `test_support::numbers::holds_bytes` is safe and ends. The measure is what is left of the list.
 -- Assumes nothing.
 use Prim.Native.Nat.{_≤_, _-_}
 use native.Mathlib.Omega.{arith}
 use lib.ListN.{length}
 use borrow.Author.Needs.{needs}
-use Rattle.replay.proofs.numbers.holds.Statement.{statement}
-use Rattle.replay.proofs.numbers.holds.Tie as tie
+use Rattle.test_support.proofs.numbers.holds_bytes.Statement.{statement}
+use Rattle.test_support.proofs.numbers.holds_bytes.Tie as tie
 
 abbrev Inv-loop : tie.InvT-loop
-Inv-loop «record» list i₀ i = i ≤ length list
+Inv-loop fd list same₀ i₀ same i = i ≤ length list
 
 abbrev μ-loop : tie.MeasureT-loop
-μ-loop «record» list i₀ i = length list - i
+μ-loop fd list same₀ i₀ same i = length list - i
 
-pub holds-spec : {M : Type 1} → statement M
-holds-spec =
+pub holds-bytes-spec : {M : Type 1} → statement M
+holds-bytes-spec =
     tie.close
     (tie.spec
     Inv-loop
     μ-loop
     (λ c. omega arith)
     (λ c κs. search needs)
-    (λ c. search needs)
-    (λ c. search needs)
     (λ c. search needs)
     (λ c. omega arith)
     (λ c. omega arith)

@@ -1,11 +1,11 @@
--- `replay::numbers::part` is safe: the part lies within the bytes.
+-- `test_support::numbers::part` is safe: the part lies within the bytes.
 -- Assumes nothing.
 use mathlib.Core.Path.{sym}
 use native.Mathlib.Omega.{arith}
 use lib.Seq.{length-take-le}
 use borrow.Author.Needs.{needs}
-use Rattle.replay.proofs.numbers.part.Statement.{statement}
-use Rattle.replay.proofs.numbers.part.Tie as tie
+use Rattle.test_support.proofs.numbers.part.Statement.{statement}
+use Rattle.test_support.proofs.numbers.part.Tie as tie
 
 slice-aggregate-result : tie.Need-slice-aggregate-result
 slice-aggregate-result c = sym (length-take-le _ _ (omega arith))

@@ -1,17 +1,17 @@
--- `replay::numbers::holds_signed` is safe and ends. The measure is what is left of the list.
+-- `test_support::numbers::holds_signed` is safe and ends. The measure is what is left of the list.
 -- Assumes nothing.
 use Prim.Native.Nat.{_≤_, _-_}
 use native.Mathlib.Omega.{arith}
 use lib.ListN.{length}
 use borrow.Author.Needs.{needs}
-use Rattle.replay.proofs.numbers.holds_signed.Statement.{statement}
-use Rattle.replay.proofs.numbers.holds_signed.Tie as tie
+use Rattle.test_support.proofs.numbers.holds_signed.Statement.{statement}
+use Rattle.test_support.proofs.numbers.holds_signed.Tie as tie
 
 abbrev Inv-loop : tie.InvT-loop
-Inv-loop «record» list i₀ i = i ≤ length list
+Inv-loop fd list same₀ i₀ same i = i ≤ length list
 
 abbrev μ-loop : tie.MeasureT-loop
-μ-loop «record» list i₀ i = length list - i
+μ-loop fd list same₀ i₀ same i = length list - i
 
 pub holds-signed-spec : {M : Type 1} → statement M
 holds-signed-spec =
@@ -21,7 +21,6 @@ holds-signed-spec =
     μ-loop
     (λ c. omega arith)
     (λ c κs. search needs)
-    (λ c. search needs)
     (λ c. search needs)
     (λ c. search needs)
     (λ c. omega arith)

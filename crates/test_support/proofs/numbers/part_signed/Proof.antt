@@ -1,11 +1,11 @@
--- `replay::numbers::part_signed` is safe: the part lies within the list.
+-- `test_support::numbers::part_signed` is safe: the part lies within the list.
 -- Assumes nothing.
 use mathlib.Core.Path.{sym}
 use native.Mathlib.Omega.{arith}
 use lib.Seq.{length-take-le}
 use borrow.Author.Needs.{needs}
-use Rattle.replay.proofs.numbers.part_signed.Statement.{statement}
-use Rattle.replay.proofs.numbers.part_signed.Tie as tie
+use Rattle.test_support.proofs.numbers.part_signed.Statement.{statement}
+use Rattle.test_support.proofs.numbers.part_signed.Tie as tie
 
 slice-aggregate-result : tie.Need-slice-aggregate-result
 slice-aggregate-result c = sym (length-take-le _ _ (omega arith))

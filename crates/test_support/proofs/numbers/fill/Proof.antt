@@ -1,11 +1,11 @@
--- `replay::fill` is safe: the part lies within the list.
+-- `test_support::numbers::fill` is safe: the part lies within the list.
 -- Assumes nothing.
 use mathlib.Core.Path.{sym}
 use native.Mathlib.Omega.{arith}
 use lib.Seq.{length-take-le}
 use borrow.Author.Needs.{needs}
-use Rattle.replay.proofs.fill.Statement.{statement}
-use Rattle.replay.proofs.fill.Tie as tie
+use Rattle.test_support.proofs.numbers.fill.Statement.{statement}
+use Rattle.test_support.proofs.numbers.fill.Tie as tie
 
 slice-aggregate-read-full : tie.Need-slice-aggregate-read-full
 slice-aggregate-read-full c = sym (length-take-le _ _ (omega arith))

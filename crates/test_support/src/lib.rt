@@ -1,0 +1,3 @@
+// What the programs that only test share: the numbers of an open file, and what they print.
+pub mod numbers;
+pub mod printing;
