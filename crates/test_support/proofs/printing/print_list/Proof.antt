@@ -1,10 +1,10 @@
--- `cases::print_list` is safe and ends: the loop's measure is what is left of the values.
+-- `test_support::printing::print_list` is safe and ends: the loop's measure is what is left of the values.
 -- Assumes nothing.
 use Prim.Native.Nat.{_≤_, _-_}
 use lib.ListN.{length}
 use borrow.Author.Needs.{needs}
-use Rattle.cases.proofs.print_list.Statement.{statement}
-use Rattle.cases.proofs.print_list.Tie as tie
+use Rattle.test_support.proofs.printing.print_list.Statement.{statement}
+use Rattle.test_support.proofs.printing.print_list.Tie as tie
 
 abbrev Inv-loop : tie.InvT-loop
 Inv-loop values i₀ i = i ≤ length values
