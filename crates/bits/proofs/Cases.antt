@@ -41,6 +41,11 @@ no-bits : bitsRead (0xff ∷ []) 20 0 ≡ 0 ∷ 0 ∷ 20 ∷ []
 unfolding bitsRead getBits num bitsOf low
 no-bits = refl
 
+-- a field over 32 bits, whose bits are missing too
+too-wide : bitsRead (0xff ∷ []) 0 33 ≡ 5 ∷ []
+unfolding bitsRead
+too-wide = refl
+
 -- three ones and a zero from place 6 on: the bits before stay, the spare bits become 0, the byte
 -- behind stays
 count-laid : put (0x15 ∷ 0xff ∷ 0xaa ∷ []) 6 (unaryField 3) ≡ 0xd5 ∷ 0x01 ∷ 0xaa ∷ []

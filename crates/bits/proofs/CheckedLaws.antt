@@ -1,4 +1,4 @@
--- Which of its answers laying a field of any width into any buffer gives.
+-- Which of its answers reading from any slice, and laying a field of any width into any buffer, gives.
 -- Assumes nothing.
 use mathlib.Core.Path.{_≡_}
 use mathlib.Core.List.{List, [], _∷_}
@@ -7,8 +7,16 @@ use borrow.Author.Tests.{lt-ltb, le-ltb, le-leb, lt-leb}
 use lib.ListN.{length}
 use Rattle.answers.specs.Limits.{maxPayloadBytes}
 use Rattle.bits.specs.Bits.{low}
-use Rattle.bits.specs.Checked.{refuseWriting, written}
+use Rattle.bits.specs.Checked.{tooLarge, bitRead, bitsRead, unaryRead, refuseWriting, written}
 use Rattle.bits.specs.Laid.{put}
+
+-- the payload is over the limit, whatever it holds
+pub read-large : (s : List ℕ) (p count : ℕ) → maxPayloadBytes < length s
+    → (bitRead s p ≡ tooLarge) × (bitsRead s p count ≡ tooLarge) × (unaryRead s p ≡ tooLarge)
+unfolding bitRead bitsRead unaryRead
+read-large s p count h =
+    let e = lt-ltb maxPayloadBytes (length s) h in
+    (rw e, rw e, rw e)
 
 module _ (buf : List ℕ) (p v count : ℕ) where
   -- the buffer is over the limit

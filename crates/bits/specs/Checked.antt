@@ -40,7 +40,9 @@ unfoldable pub bitRead : List ℕ → ℕ → List ℕ
 bitRead s p = cond (ltb maxPayloadBytes (length s)) tooLarge (fieldTold (getBits (bitsOf s) p 1))
 
 unfoldable pub bitsRead : List ℕ → ℕ → ℕ → List ℕ
-bitsRead s p count = cond (ltb maxPayloadBytes (length s)) tooLarge (cond (ltb 32 count) tooLarge (fieldTold (getBits (bitsOf s) p count)))
+bitsRead s p count =
+    cond (ltb maxPayloadBytes (length s)) tooLarge (
+    cond (ltb 32 count) tooLarge (fieldTold (getBits (bitsOf s) p count)))
 
 unfoldable pub unaryRead : List ℕ → ℕ → List ℕ
 unaryRead s p = cond (ltb maxPayloadBytes (length s)) tooLarge (fieldTold (unary (bitsOf s) p))

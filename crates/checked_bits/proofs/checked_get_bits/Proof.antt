@@ -5,12 +5,12 @@ use borrow.Author.Needs.{needs}
 use borrow.Author.Tests.{lt-ltb, le-ltb}
 use mathlib.Core.Path.{sym, _∙_}
 use Rattle.bits.specs.Checked.{bitsRead}
+use Rattle.bits.proofs.CheckedLaws.{read-large}
 use Rattle.checked_bits.proofs.checked_get_bits.Statement.{statement}
 use Rattle.checked_bits.proofs.checked_get_bits.Tie as tie
 
 returns : tie.Need-returns
-unfolding bitsRead
-returns c = rw (lt-ltb _ _ (c .if1 .taken))
+returns c = sym (read-large _ _ _ (c .if1 .taken) .1)
 
 returns-2 : tie.Need-returns-2
 unfolding bitsRead
