@@ -4,8 +4,8 @@
 # names its crate in brackets; names after another of these words are of that kind up to the next
 # semicolon; the first cell under the head entry, function or call has functions in the same way.
 # Each name must be declared, whole, where its kind stands. No entry has a `requires`,
-# each has two edits, every edit and every public function of a library is named, and every rule
-# that a comment cites has a row. Prints what does not hold: the row, the name, the crate, and where
+# each has two edits, every edit and every public function of a library is named (but those of
+# test_support, which the programs that only test share), and every rule that a comment cites has a row. Prints what does not hold: the row, the name, the crate, and where
 # else the name stands; if all holds, how many carriers there are, and how many of the edits are wrong
 # programs and how many wrong definitions.
 set -u
@@ -59,7 +59,7 @@ others() {
     grep -l '^file: specs/' crates/*/must-fail/*.edit | awk -F '[/.]' '{ print "defining\t" $2 "\t" $4 }'
     ls crates/*/stdout | awk -F / '{ print "run\tprogram\t" $2 }'
     ls compare/src/kinds/*.rs | awk -F '[/.]' '{ print "run\tcompare\t" $4 }'
-    ls crates/*/src/lib.rt | awk -F / '{ print "library\t" $2 "\t" }'
+    ls crates/*/src/lib.rt | grep -v '/test_support/' | awk -F / '{ print "library\t" $2 "\t" }'
     grep -rhoE '\([A-Z]+[0-9]+(\.[0-9]+)?(, [A-Z]+[0-9]+(\.[0-9]+)?)*\)' crates compare/src \
         --include='*.rt' --include='*.antt' --include='*.rs' |
         tr -d '() ' | tr ',' '\n' | awk '{ print "cited\t\t" $0 }'
