@@ -1,10 +1,10 @@
 // Runs the cases that the rules want run and not proved, and those of later requests beside them
 // (data/, whose README says what a line holds), and prints a line for each: its name, the refusal
 // and the values. What is printed is held to the file `stdout`.
-mod fields;
 mod lines;
 mod lists;
 mod payloads;
+mod values;
 
 use passes::Direction;
 use test_support::lines::print_name;
@@ -21,8 +21,8 @@ fn run_case(kind: u8, fd: i32) {
         b'r' => payloads::run_reading(fd),
         b'p' => payloads::run_packing(fd),
         b't' => payloads::run_trip(fd),
-        b'f' => fields::run_field(fd),
-        b'l' => fields::run_log_word(fd),
+        b'f' => values::run_field(fd),
+        b'l' => values::run_log_word(fd),
         b'm' => lists::run_many(fd),
         b'd' => lists::run_list(Direction::Decorrelation, fd),
         _ => lists::run_list(Direction::Analysis, fd),

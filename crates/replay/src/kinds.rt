@@ -1,10 +1,10 @@
 // The kinds of stored answers: each holds the answer of a function to a record, whose number is the
 // input where that is a word or a byte.
-use crate::packs::packing_agrees;
-use crate::passes::making_agrees;
-use crate::passes::passes_agree;
-use crate::words::reading_agrees;
-use crate::words::word_agrees;
+use crate::pack_records::packing_agrees;
+use crate::pass_records::making_agrees;
+use crate::pass_records::passes_agree;
+use crate::word_records::reading_agrees;
+use crate::word_records::word_agrees;
 use little_endian::signed_word;
 use test_support::numbers::holds_signed;
 use test_support::numbers::part;

@@ -1,9 +1,9 @@
 // Replays the stored answers of the published Rust (data/, whose README says how they were made)
 // through the proved functions, and prints for each kind how many there are and how many agree.
 mod kinds;
-mod packs;
-mod passes;
-mod words;
+mod pack_records;
+mod pass_records;
+mod word_records;
 
 use kinds::Kind;
 use kinds::agrees;

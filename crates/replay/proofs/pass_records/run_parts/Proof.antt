@@ -1,11 +1,11 @@
--- `replay::passes::run_parts` is safe: the parts that it lends on lie within their lists.
+-- `replay::pass_records::run_parts` is safe: the parts that it lends on lie within their lists.
 -- Assumes nothing.
 use mathlib.Core.Path.{sym}
 use native.Mathlib.Omega.{arith}
 use lib.Seq.{length-take-le}
 use borrow.Author.Needs.{needs}
-use Rattle.replay.proofs.passes.run_parts.Statement.{statement}
-use Rattle.replay.proofs.passes.run_parts.Tie as tie
+use Rattle.replay.proofs.pass_records.run_parts.Statement.{statement}
+use Rattle.replay.proofs.pass_records.run_parts.Tie as tie
 
 slice-aggregate-run : tie.Need-slice-aggregate-run
 slice-aggregate-run c = sym (length-take-le _ _ (omega arith))

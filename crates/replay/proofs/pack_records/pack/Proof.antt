@@ -1,11 +1,11 @@
--- `replay::packs::pack` is safe: the part that it lends on lies within its list.
+-- `replay::pack_records::pack` is safe: the part that it lends on lies within its list.
 -- Assumes nothing.
 use mathlib.Core.Path.{sym}
 use native.Mathlib.Omega.{arith}
 use lib.Seq.{length-take-le}
 use borrow.Author.Needs.{needs}
-use Rattle.replay.proofs.packs.pack.Statement.{statement}
-use Rattle.replay.proofs.packs.pack.Tie as tie
+use Rattle.replay.proofs.pack_records.pack.Statement.{statement}
+use Rattle.replay.proofs.pack_records.pack.Tie as tie
 
 slice-aggregate-wv-pack : tie.Need-slice-aggregate-wv-pack
 slice-aggregate-wv-pack c = sym (length-take-le _ _ (omega arith))
