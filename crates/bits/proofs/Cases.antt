@@ -19,7 +19,8 @@ unfolding unaryRead unary ones bitsOf low
 six-ones = refl
 
 -- ones from the fifth bit of eight bytes on, and one more behind them
-across-a-window : unaryRead (0xf0 ∷ 0xff ∷ 0xff ∷ 0xff ∷ 0xff ∷ 0xff ∷ 0xff ∷ 0xff ∷ 0x01 ∷ []) 4 ≡ 0 ∷ 61 ∷ 66 ∷ []
+across-a-window :
+    unaryRead (0xf0 ∷ 0xff ∷ 0xff ∷ 0xff ∷ 0xff ∷ 0xff ∷ 0xff ∷ 0xff ∷ 0x01 ∷ []) 4 ≡ 0 ∷ 61 ∷ 66 ∷ []
 unfolding unaryRead unary ones bitsOf low
 across-a-window = refl
 

@@ -25,17 +25,21 @@ module _ (buf : List ℕ) (p v count : ℕ) where
   written-large h = rw (lt-ltb maxPayloadBytes (length buf) h)
 
   -- the field is over 32 bits
-  pub written-wide : length buf ≤ maxPayloadBytes → 32 < count → written buf p v count ≡ refuseWriting 5 buf
+  pub written-wide : length buf ≤ maxPayloadBytes → 32 < count
+      → written buf p v count ≡ refuseWriting 5 buf
   unfolding written
   written-wide h w = rw (le-ltb maxPayloadBytes (length buf) h, lt-ltb 32 count w)
 
   -- the buffer ends before the field does
-  pub written-short : length buf ≤ maxPayloadBytes → count ≤ 32 → 8 * length buf < p + count → written buf p v count ≡ refuseWriting 11 buf
+  pub written-short : length buf ≤ maxPayloadBytes → count ≤ 32 → 8 * length buf < p + count
+      → written buf p v count ≡ refuseWriting 11 buf
   unfolding written
-  written-short h w r = rw (le-ltb maxPayloadBytes (length buf) h, le-ltb 32 count w, lt-leb (p + count) (8 * length buf) r)
+  written-short h w r =
+      rw (le-ltb maxPayloadBytes (length buf) h, le-ltb 32 count w, lt-leb (p + count) (8 * length buf) r)
 
   -- the field is laid
   pub written-accepted : length buf ≤ maxPayloadBytes → count ≤ 32 → p + count ≤ 8 * length buf
       → written buf p v count ≡ record { answer = 0 ∷ (p + count) ∷ []; buffer = put buf p (low count v) }
   unfolding written
-  written-accepted h w r = rw (le-ltb maxPayloadBytes (length buf) h, le-ltb 32 count w, le-leb (p + count) (8 * length buf) r)
+  written-accepted h w r =
+      rw (le-ltb maxPayloadBytes (length buf) h, le-ltb 32 count w, le-leb (p + count) (8 * length buf) r)

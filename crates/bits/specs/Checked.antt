@@ -61,4 +61,6 @@ unfoldable pub written : List ℕ → ℕ → ℕ → ℕ → Written
 written buf p v count =
     cond (ltb maxPayloadBytes (length buf)) (refuseWriting 5 buf) (
     cond (ltb 32 count) (refuseWriting 5 buf) (
-    cond (leb (p + count) (8 * length buf)) (record { answer = 0 ∷ (p + count) ∷ []; buffer = put buf p (low count v) }) (refuseWriting 11 buf)))
+    cond (leb (p + count) (8 * length buf))
+    (record { answer = 0 ∷ (p + count) ∷ []; buffer = put buf p (low count v) })
+    (refuseWriting 11 buf)))

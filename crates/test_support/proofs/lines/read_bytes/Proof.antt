@@ -1,4 +1,5 @@
--- `test_support::lines::read_bytes` is safe and ends. The list keeps its length; the measure is what is left of it.
+-- `test_support::lines::read_bytes` is safe and ends. The list keeps its length; the measure is what is
+-- left of it.
 -- Assumes nothing.
 use Prim.Native.Nat.{_≤_, _-_}
 use native.Mathlib.Omega.{arith}
