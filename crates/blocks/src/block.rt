@@ -43,7 +43,7 @@ pub fn read_head(fd: i32) -> Head {
     }
 }
 
-// A block that the file does not hold whole, or that a proved function refuses.
+// A block that is too long, that the file does not hold whole, or whose passes are refused.
 fn neither() -> Verdict {
     Verdict {
         bits: 0,

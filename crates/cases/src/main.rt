@@ -25,7 +25,8 @@ fn run_case(kind: u8, fd: i32) {
         b'l' => values::run_log_word(fd),
         b'm' => lists::run_many(fd),
         b'd' => lists::run_list(Direction::Decorrelation, fd),
-        _ => lists::run_list(Direction::Analysis, fd),
+        b'a' => lists::run_list(Direction::Analysis, fd),
+        _ => print(b" no such kind\n"),
     }
 }
 
