@@ -3,11 +3,11 @@
 # definition, theorem, contract, type, edit or run has names of that kind, after each group of
 # names its crate in brackets; names after another of these words are of that kind up to the next
 # semicolon; the first cell under the head entry, function or call has functions in the same way.
-# Each name must be declared, whole, where its kind stands. No entry has a `requires`,
-# each has two edits, every edit and every public function of a library is named (but those of
-# test_support, which the programs that only test share), and every rule that a comment cites has a row. Prints what does not hold: the row, the name, the crate, and where
-# else the name stands; if all holds, how many carriers there are, and how many of the edits are wrong
-# programs and how many wrong definitions.
+# Each name must be declared, whole, where its kind stands. No entry has a `requires`, each has two
+# edits, every edit and every public function of a library is named (but those of test_support, which
+# the programs that only test share), and every rule that a comment cites has a row. Prints what does
+# not hold: the row, the name, the crate, and where else the name stands; if all holds, how many
+# carriers there are, and how many of the edits are wrong programs and how many wrong definitions.
 set -u
 cd "$(dirname "$0")/.." || exit 2
 proved=docs/PROVED.md
