@@ -1,7 +1,7 @@
 /* Calls the library from C, through its header, and checks answers that follow from the rules of
    docs/PROVED.md. Prints each answer that is not the expected one; the exit status is 0 when there
-   is none. Log words out of reach are in reach.c, pass lists joined in joined.c, sound files in
-   waves.c, morning pages in pages.c, wide recordings in wide.c. */
+   is none. Bits by stem are in totals.c, log words out of reach in reach.c, pass lists joined in
+   joined.c, sound files in waves.c, morning pages in pages.c, wide recordings in wide.c. */
 #include <stdio.h>
 #include <string.h>
 #include "answers.h"
@@ -72,38 +72,38 @@ static const uint8_t payload[2] = {0x7e, 0x02};
 
 static void one_word(void)
 {
-    uint32_t state[13] = {0, 0, 0, 0, 0, 0, 0, 1, 1, 1, 1, 1, 1};
-    static const uint32_t after[13] = {9, 1, 1, 0, 0, 0, 0, 6, 6, 6, 1, 1, 1};
+    uint32_t state[15] = {0, 0, 0, 0, 0, 0, 0, 1, 1, 1, 1, 1, 1, 0, 0};
+    static const uint32_t after[15] = {9, 1, 1, 0, 0, 0, 0, 6, 6, 6, 1, 1, 1, 9, 0};
     int32_t sample[1] = {77};
     uint32_t report[2] = {77, 77};
-    expect("wv_word", wv_word(payload, 2, state, 13, sample, 1, report, 2), 0);
+    expect("wv_word", wv_word(payload, 2, state, 15, sample, 1, report, 2), 0);
     expect("the sample of a word", sample[0], 3);
     expect("the zone of a word", report[0], 4);
     expect("the count of a word", report[1], 3);
-    for (size_t i = 0; i < 13; i++)
+    for (size_t i = 0; i < 15; i++)
         expect("a number of the state", state[i], after[i]);
-    expect("wv_word past the end", wv_word(payload, 1, state, 13, sample, 1, report, 2), 3);
+    expect("wv_word past the end", wv_word(payload, 1, state, 15, sample, 1, report, 2), 3);
     expect("the place after a refusal", state[0], 9);
     state[1] = 2;
-    expect("wv_word for channel 2", wv_word(payload, 2, state, 13, sample, 1, report, 2), 12);
+    expect("wv_word for channel 2", wv_word(payload, 2, state, 15, sample, 1, report, 2), 12);
 }
 
 static void reading(void)
 {
     int32_t samples[5] = {77, 77, 77, 77, 77};
-    uint32_t answer[8];
-    expect("wv_read", wv_read(ones, 12, payload, 2, 1, samples, 2, answer, 8), 0);
+    uint32_t answer[10];
+    expect("wv_read", wv_read(ones, 12, payload, 2, 1, samples, 2, answer, 10), 0);
     expect_list("samples", samples, (const int32_t[]){3, -1, 77}, 3);
     expect("the bits of a reading", answer[0], 10);
     expect("the samples of a reading", answer[7], 2);
-    expect("wv_read of a run", wv_read(ones, 12, (const uint8_t[]){7}, 1, 2, samples, 4, answer, 8), 0);
+    expect("wv_read of a run", wv_read(ones, 12, (const uint8_t[]){7}, 1, 2, samples, 4, answer, 10), 0);
     expect_list("samples of a run", samples, (const int32_t[]){0, 0, 0, 0, 77}, 5);
     expect("the bits of a run", answer[0], 6);
-    expect("wv_read past the end", wv_read(ones, 12, payload, 1, 1, samples, 2, answer, 8), 3);
+    expect("wv_read past the end", wv_read(ones, 12, payload, 1, 1, samples, 2, answer, 10), 3);
     expect("the bits of a refused reading", answer[0], 0);
-    expect("wv_read into a list of another length", wv_read(ones, 12, payload, 2, 1, samples, 3, answer, 8),
+    expect("wv_read into a list of another length", wv_read(ones, 12, payload, 2, 1, samples, 3, answer, 10),
            6);
-    expect("wv_read of a mono payload", wv_read(ones, 6, payload, 2, 1, samples, 2, answer, 8), 2);
+    expect("wv_read of a mono payload", wv_read(ones, 6, payload, 2, 1, samples, 2, answer, 10), 2);
 }
 
 /* A count through the longest payload: of ones alone, and ended by a zero in its last byte. */
@@ -112,13 +112,13 @@ static void longest_count(void)
     static uint8_t longest[4194305];
     const size_t most = 4194304;
     int32_t samples[2] = {77, 77}, sample[1];
-    uint32_t answer[8], report[2], state[13] = {5, 0, 0, 0, 0, 1, 1, 0, 0, 0, 0, 0, 0};
+    uint32_t answer[10], report[2], state[15] = {[0] = 5, [5] = 1, [6] = 1};
     memset(longest, 0xff, sizeof longest);
-    expect("wv_read of ones", wv_read(ones, 12, longest, most, 1, samples, 2, answer, 8), 3);
-    expect("wv_read of one byte more", wv_read(ones, 12, longest, most + 1, 1, samples, 2, answer, 8), 5);
+    expect("wv_read of ones", wv_read(ones, 12, longest, most, 1, samples, 2, answer, 10), 3);
+    expect("wv_read of one byte more", wv_read(ones, 12, longest, most + 1, 1, samples, 2, answer, 10), 5);
     expect_list("samples of ones", samples, (const int32_t[]){77, 77}, 2);
     longest[most - 1] = 0x1f;
-    expect("wv_word of ones", wv_word(longest, most, state, 13, sample, 1, report, 2), 0);
+    expect("wv_word of ones", wv_word(longest, most, state, 15, sample, 1, report, 2), 0);
     expect("the place after the last bit", state[0], 33554432);
 }
 
@@ -162,11 +162,11 @@ static void silent_right(void)
     static const uint8_t negative[12] = {0, 1, 0, 1, 0, 1, 0, 0, 0, 0, 0, 0xff};
     int32_t samples[4] = {77, 77, 77, 77};
     uint8_t out[28] = {0};
-    uint32_t answer[8];
+    uint32_t answer[10];
     expect("wv_read of a negative right median",
-           wv_read(negative, 12, payload, 2, 1, samples, 2, answer, 8), 2);
+           wv_read(negative, 12, payload, 2, 1, samples, 2, answer, 10), 2);
     expect_list("samples after a refusal", samples, (const int32_t[]){77, 77}, 2);
-    expect("wv_read of a silent right", wv_read(left_only, 12, payload, 2, 1, samples, 2, answer, 8), 0);
+    expect("wv_read of a silent right", wv_read(left_only, 12, payload, 2, 1, samples, 2, answer, 10), 0);
     expect_list("samples of a silent right", samples, (const int32_t[]){3, -1, 77}, 3);
     expect("the bits of a silent right", answer[0], 10);
     expect("a right median after it", answer[4], 0);
@@ -174,7 +174,7 @@ static void silent_right(void)
     expect("a packed byte", out[0], 0x7e);
     expect("a packed byte", out[1], 0x02);
     expect("wv_pack of a mono payload", wv_pack(samples, 2, left_only, 6, 1, out, 28, answer, 7), 2);
-    expect("wv_read of silence", wv_read(silence, 12, (const uint8_t[]){7}, 1, 2, samples, 4, answer, 8), 0);
+    expect("wv_read of silence", wv_read(silence, 12, (const uint8_t[]){7}, 1, 2, samples, 4, answer, 10), 0);
     expect_list("samples of silence", samples, (const int32_t[]){0, 0, 0, 0}, 4);
     expect("the bits of silence", answer[0], 6);
 }
@@ -187,6 +187,7 @@ int main(void)
     entropy();
     one_word();
     reading();
+    bits_by_stem();
     longest_count();
     passes();
     joined_lists();

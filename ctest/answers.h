@@ -10,6 +10,9 @@
 void expect(const char *what, long long got, long long wanted);
 void expect_list(const char *what, const int32_t *got, const int32_t *wanted, size_t count);
 
+/* Checks the totals of bits by stem. */
+void bits_by_stem(void);
+
 /* Checks log words past the format's reach. */
 void log_words_out_of_reach(void);
 

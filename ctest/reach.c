@@ -49,14 +49,14 @@ static void expect_answer(const uint32_t *answer, size_t slots, size_t enough)
         expect("a number of the answer to a refusal", answer[i], slots >= enough && i < enough ? 0 : 77);
 }
 
-/* A reading of an empty payload that is refused before any word; 8 slots are enough. */
+/* A reading of an empty payload that is refused before any word; 10 slots are enough. */
 static void refuse_reading(size_t bytes, size_t frames, size_t count, size_t slots, uint32_t wanted)
 {
     int32_t samples[3] = {77, 77, 77};
-    uint32_t answer[9] = {77, 77, 77, 77, 77, 77, 77, 77, 77};
+    uint32_t answer[11] = {77, 77, 77, 77, 77, 77, 77, 77, 77, 77, 77};
     expect("wv_read", wv_read(entropy, bytes, entropy, 0, frames, samples, count, answer, slots), wanted);
     expect_list("samples after a refusal", samples, marks, 3);
-    expect_answer(answer, slots, 8);
+    expect_answer(answer, slots, 10);
 }
 
 /* A packing, of which the second residual is outside the span, that is refused; 7 slots are enough. */
@@ -81,15 +81,15 @@ static void in_each_place(void)
     for (size_t i = 0; i < 24; i++) {
         set_entropy(i / 4, past[i % 4], -256);
         refuse_medians(12, 7, 17);
-        refuse_reading(12, 0, 0, 8, 17);
-        refuse_reading(12, 1, 2, 9, 17);
+        refuse_reading(12, 0, 0, 10, 17);
+        refuse_reading(12, 1, 2, 11, 17);
         refuse_packing(12, 0, 0, 0, 7, 17);
         refuse_packing(12, 1, 2, 28, 8, 17);
         if (i / 4 < 3)
             refuse_medians(6, 6, 17);
         else
             expect("wv_entropy of three words", wv_entropy(entropy, 6, medians, 6), 0);
-        refuse_reading(6, 1, 2, 8, i / 4 < 3 ? 17 : 2);
+        refuse_reading(6, 1, 2, 10, i / 4 < 3 ? 17 : 2);
         refuse_packing(6, 1, 2, 28, 7, i / 4 < 3 ? 17 : 2);
     }
 }
@@ -100,18 +100,18 @@ static void within_reach(void)
     for (size_t place = 0; place < 6; place++) {
         int32_t medians[6], none[1] = {77};
         uint8_t out[1] = {77};
-        uint32_t answer[8];
+        uint32_t answer[10];
         set_entropy(place, 8191, 256);
         expect("wv_entropy of 8191", wv_entropy(entropy, 12, medians, 6), 0);
         expect("the median of 8191", medians[place], LARGEST);
-        expect("wv_read of 8191", wv_read(entropy, 12, entropy, 0, 0, none, 0, answer, 8), 0);
+        expect("wv_read of 8191", wv_read(entropy, 12, entropy, 0, 0, none, 0, answer, 10), 0);
         expect("the median of 8191", answer[1 + place], LARGEST);
         expect("wv_pack of 8191", wv_pack(none, 0, entropy, 12, 0, out, 0, answer, 7), 0);
         expect("the median of 8191", answer[1 + place], LARGEST);
         set_entropy(place, -8191, 256);
         expect("wv_entropy of -8191", wv_entropy(entropy, 12, medians, 6), 0);
         expect("the median of -8191", medians[place], -LARGEST);
-        refuse_reading(12, 1, 2, 8, 2);
+        refuse_reading(12, 1, 2, 10, 2);
         refuse_packing(12, 1, 2, 28, 7, 2);
     }
 }
@@ -123,18 +123,18 @@ static void in_order(void)
     refuse_medians(11, 5, 6);
     refuse_medians(11, 6, 1);
     refuse_medians(12, 6, 17);
-    refuse_reading(11, 131073, 3, 7, 6);
-    refuse_reading(11, 131073, 3, 8, 5);
-    refuse_reading(11, 1, 3, 8, 6);
-    refuse_reading(11, 1, 2, 8, 1);
-    refuse_reading(12, 1, 2, 8, 17);
+    refuse_reading(11, 131073, 3, 9, 6);
+    refuse_reading(11, 131073, 3, 10, 5);
+    refuse_reading(11, 1, 3, 10, 6);
+    refuse_reading(11, 1, 2, 10, 1);
+    refuse_reading(12, 1, 2, 10, 17);
     refuse_packing(11, 131073, 3, 27, 6, 6);
     refuse_packing(11, 131073, 3, 27, 7, 5);
     refuse_packing(11, 1, 3, 27, 7, 6);
     refuse_packing(11, 1, 2, 27, 7, 1);
     refuse_packing(12, 1, 2, 27, 7, 17);
     set_entropy(0, 8191, -256);
-    refuse_reading(12, 1, 2, 8, 2);
+    refuse_reading(12, 1, 2, 10, 2);
     refuse_packing(12, 1, 2, 27, 7, 2);
     set_entropy(0, 8191, 8191);
     refuse_packing(12, 1, 2, 27, 7, 11);

@@ -37,7 +37,7 @@ static uint64_t next(void)
 static uint8_t entropy[12], payload[64 * FRAMES], out[28 * FRAMES], file[44 + 4 * FRAMES];
 static int32_t numbers[2 * FRAMES], sounds[2 * FRAMES], wide[2 * FRAMES], blocks[TWO_LINES],
     passes[20 * MOST_PASSES], seed[8];
-static uint32_t answer[13], report[2], field[4];
+static uint32_t answer[15], report[2], field[4];
 
 /* Entropy payloads that reading accepts, payloads with many ones, numbers of any size. */
 static void fill(void)
@@ -50,11 +50,13 @@ static void fill(void)
         numbers[i] = (int32_t)next() >> (2 + next() % 30);
     for (size_t i = 0; i < 20 * MOST_PASSES; i++)
         passes[i] = (int32_t)next() >> next() % 32;
-    for (size_t i = 0; i < 13; i++)
+    for (size_t i = 0; i < 15; i++)
         answer[i] = (uint32_t)next() >> next() % 32;
     answer[0] %= 8 * sizeof payload;
     answer[1] %= 2;
     answer[4] %= 4 * (next() % 8 == 0) + 1;
+    answer[13] %= answer[0] + 1;
+    answer[14] %= answer[0] - answer[13] + 1;
 }
 
 /* Valid terms, now and then one that is not. */
@@ -100,10 +102,10 @@ static void log_word(void) { CALL(wv_log_word((int16_t)next(), numbers, 1)); }
 static void term_byte(void) { CALL(wv_term_byte((uint8_t)next(), numbers, 2)); }
 static void weight_byte(void) { CALL(wv_weight_byte((uint8_t)next(), numbers, 1)); }
 static void medians(void) { CALL(wv_entropy(entropy, next() % 2 ? 12 : 6, numbers, 6)); }
-static void word(void) { CALL(wv_word(payload, sizeof payload, answer, 13, numbers, 1, report, 2)); }
+static void word(void) { CALL(wv_word(payload, sizeof payload, answer, 15, numbers, 1, report, 2)); }
 static void reading(void)
 {
-    CALL(wv_read(entropy, 12, payload, sizeof payload, FRAMES, numbers, 2 * FRAMES, answer, 8));
+    CALL(wv_read(entropy, 12, payload, sizeof payload, FRAMES, numbers, 2 * FRAMES, answer, 10));
 }
 static void making(void) { CALL(wv_pass((int8_t)passes[0], 2, 3, 4, seed, 8, seed, 8, passes + 20, 20)); }
 static void decorrelation(void) { CALL(wv_decorrelate(passes, 20 * (next() % 18), numbers, 2 * FRAMES)); }

@@ -2,7 +2,7 @@
  *
  * Every function answers WV_ACCEPTED or the number of a refusal; `wv_refusal_text` gives its wording. Each
  * function below lists its refusals in the order in which it tests. The rules are the rows X1 to X9, Q1.3,
- * Q1.4, Q2.2, Q5.6, Q6.6 and Q7.1 to Q7.3 of docs/PROVED.md.
+ * Q1.4, Q2.2, Q5.6, Q6.6, Q7.1 to Q7.3 and Q8.1 to Q8.5 of docs/PROVED.md.
  *
  * A list is a pointer to its first element and its number of elements. A list of 0 elements still needs a
  * pointer that is not null and is aligned for its type. A function reads and writes nothing beyond the
@@ -70,8 +70,8 @@ extern "C" {
 #define WV_TERM_BYTE_SLOTS 2u
 #define WV_WEIGHT_BYTE_SLOTS 1u
 #define WV_ENTROPY_SLOTS 6u
-#define WV_READ_SLOTS 8u
-#define WV_WORD_STATE_SLOTS 13u
+#define WV_READ_SLOTS 10u
+#define WV_WORD_STATE_SLOTS 15u
 #define WV_WORD_SAMPLE_SLOTS 1u
 #define WV_WORD_REPORT_SLOTS 2u
 #define WV_PASS_SLOTS 20u
@@ -107,7 +107,9 @@ uint32_t wv_entropy(const uint8_t *entropy, size_t entropy_len, int32_t *medians
  * times frames elements. What it reads are residuals where the block has passes (`wv_decorrelate`). An
  * entropy payload of 12 bytes is stereo whatever it holds: three right medians of 0 are a right channel
  * that starts silent.
- * answer: bits used, left medians 0, 1, 2, right medians 0, 1, 2 after the last word, samples written.
+ * answer: bits used, left medians 0, 1, 2, right medians 0, 1, 2 after the last word, samples written, bits
+ *   read for left, bits read for right. The last two are the totals that `wv_word` has after as many words;
+ *   together they are the bits used.
  * Refuses WV_LIST_LENGTH for answer, with nothing written.
  * Then refuses WV_TOO_LARGE, WV_LIST_LENGTH for samples, WV_ENTROPY_LENGTH, WV_LOG_WORD_OUT_OF_REACH and
  * WV_NOT_STEREO, with the slots of answer 0 and samples as it was.
@@ -119,14 +121,18 @@ uint32_t wv_read(const uint8_t *entropy, size_t entropy_len, const uint8_t *payl
 /* Reads one word of a packed payload. The caller holds the state: before the first word the medians of the
  * entropy payload (`wv_entropy`), and 0 in every other slot.
  * state: place (how many bits stand before the word), next_channel (0 left, 1 right), last_zero, last_one,
- *   zero_run_pending, run_break, ever_took_zero_run, left medians 0, 1, 2, right medians 0, 1, 2; before
- *   the word, and then after it. A flag is set when it is not 0, and is written as 0 or 1.
+ *   zero_run_pending, run_break, ever_took_zero_run, left medians 0, 1, 2, right medians 0, 1, 2, bits read
+ *   for left, bits read for right; before the word, and then after it. A flag is set when it is not 0, and
+ *   is written as 0 or 1. The last two slots are totals: the bits from the place before the word to the
+ *   place after it, those of a run length among them, are added to the total of the channel that was due;
+ *   a zero out of a run adds nothing.
  * sample: the sample.
  * report: 0 for none, as a zero out of a run has it, or 1, 2, 3, 4 for the zones 0, 1, 2 and the overflow
  *   zone; then the count of the word, 0 for none.
  * Refuses WV_LIST_LENGTH for the slots, with nothing written.
- * Then refuses WV_TOO_LARGE for the payload, WV_INVALID_CHANNEL, WV_TRUNCATED or WV_END_OF_STREAM, with
- * sample 0, report 0, 0 and state as it was. */
+ * Then refuses WV_TOO_LARGE for the payload, WV_INVALID_CHANNEL for next_channel or for totals that
+ * together exceed the place, WV_TRUNCATED or WV_END_OF_STREAM, with sample 0, report 0, 0 and state as it
+ * was. */
 uint32_t wv_word(const uint8_t *payload, size_t payload_len, uint32_t *state, size_t state_len,
                  int32_t *sample, size_t sample_len, uint32_t *report, size_t report_len);
 

@@ -55,7 +55,7 @@ static inline const char *wv_refusal_text(uint32_t refusal)
     case WV_OUTPUT_TOO_SHORT:
         return "too little storage for the bytes or samples that are to be written";
     case WV_INVALID_CHANNEL:
-        return "a word state whose next channel is neither 0 nor 1";
+        return "a word state whose next channel is neither 0 nor 1, or whose totals exceed its place";
     case WV_SAMPLE_OUT_OF_SPAN:
         return "a sample outside -32,768 to 32,767";
     case WV_NOT_WAVE:

@@ -26,6 +26,11 @@ pub trait Case: Clone + Debug {
     fn out_of_reach(&self) -> bool {
         false
     }
+    /// Whether it is a word's state whose totals exceed its place, which is counted apart: there too the
+    /// rule decides.
+    fn totals_exceed(&self) -> bool {
+        false
+    }
 }
 
 /// Simpler inputs, made one after the other.
@@ -55,7 +60,7 @@ pub fn same_list<T: PartialEq + Debug>(what: &str, ours: &[T], theirs: &[T]) -> 
 }
 
 /// What inputs that are counted apart hold.
-const APART: [&str; 2] = ["a zero right set", "a log word out of reach"];
+const APART: [&str; 3] = ["a zero right set", "a log word out of reach", "totals that exceed the place"];
 
 /// How many counts there are: of all inputs, and of those with each of these.
 const COUNTS: usize = 1 + APART.len();
@@ -139,8 +144,10 @@ impl Run {
         }
         match case.compare() {
             Ok(refusal) => {
-                let counted = [true, case.silent_right(), case.out_of_reach()];
-                assert!(refusal > 0 || !counted[2], "a log word out of reach is never accepted");
+                let (out_of_reach, totals_exceed) = (case.out_of_reach(), case.totals_exceed());
+                assert!(refusal > 0 || !out_of_reach, "a log word out of reach is never accepted");
+                assert!(refusal > 0 || !totals_exceed, "totals that exceed the place are never accepted");
+                let counted = [true, case.silent_right(), out_of_reach, totals_exceed];
                 let counts = self.agreed.entry(refusal).or_default();
                 counts
                     .iter_mut()

@@ -10,6 +10,8 @@
 //! Sound files and morning pages are no part of the published Rust: there a plain statement of their
 //! rules stands for it, and in the table a plain loop. Wide samples are compared with both. A log word
 //! that the Rust accepts and the rule refuses is left to the rule, and the inputs that hold one are counted.
+//! So are the states of words whose totals exceed their place; the Rust has no totals, and the rule states
+//! them beside it.
 #![deny(unsafe_code)]
 #![warn(clippy::undocumented_unsafe_blocks)]
 
@@ -36,6 +38,7 @@ mod their_pages;
 mod their_passes;
 mod their_waves;
 mod theirs;
+mod totals;
 mod wave_headers;
 
 use case::{Failed, Run};

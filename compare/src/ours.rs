@@ -68,7 +68,7 @@ pub fn entropy(entropy: &[u8], medians: &mut [i32]) -> u32 {
 }
 
 pub fn read(entropy: &[u8], payload: &[u8], frames: usize, samples: &mut [i32], answer: &mut [u32]) -> u32 {
-    if watched() || answer.len() != 8 {
+    if watched() || answer.len() != 10 {
         return ffi::read(entropy, payload, frames, samples, answer);
     }
     let (refusal, reading) = match wavpack_stereo::read(entropy, payload, frames, samples) {
@@ -79,7 +79,7 @@ pub fn read(entropy: &[u8], payload: &[u8], frames: usize, samples: &mut [i32], 
     refusal
 }
 
-/// The state that has these slots; none where there are not 13, or a flag is neither 0 nor 1.
+/// The state that has these slots; none where there are not 15, or a flag is neither 0 nor 1.
 fn state_of(slots: &[u32]) -> Option<WordState> {
     let slots = slots.try_into().ok()?;
     let state = WordState::from_slots(slots);

@@ -1,8 +1,8 @@
 //! What the published Rust packs, in the terms of the rules (docs/PROVED.md).
-use crate::theirs::{MAX_FRAMES, expanded, read};
+use crate::theirs::{MAX_FRAMES, Read, expanded, read};
 use reference::error::Error;
 use reference::samples::{encode_packed_samples_stereo, encode_packed_samples_stereo_from_entropy};
-use wavpack_stereo::{Packed, Reading, Slots};
+use wavpack_stereo::{Packed, Slots};
 
 /// Packing accepts residuals from -SPAN up to but without SPAN.
 pub const SPAN: i32 = 1_879_048_192;
@@ -37,9 +37,8 @@ pub fn pack(
         whole,
         if info.is_mono() { Err(Error::InvalidEntropyInfoForStereo) } else { Ok(bytes.clone()) }
     );
-    let (refusal, read, samples) = read(entropy, &bytes, frames, 2 * frames);
+    let Read { refusal, answer: [bits_written, ..], samples, .. } = read(entropy, &bytes, frames, 2 * frames);
     assert!(refusal == 0 && samples == residuals, "the Rust reads back what it wrote");
-    let bits_written = Reading::from_slots(read).bits_used;
     let packed = Packed { bits_written, medians: medians.map(|set| set.values) };
     let length = packed.bytes();
     assert!(bytes.len() == length.next_multiple_of(2) && bytes[length..].iter().all(|&byte| byte == 0));

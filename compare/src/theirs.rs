@@ -18,13 +18,13 @@ use wavpack_stereo::{Reading, Slots, WordState};
 pub const MAX_FRAMES: usize = 131_072;
 pub const MAX_BYTES: usize = 4_194_304;
 
-/// The slots of a state.
+/// The slots of a state. The Rust has the first 13; the totals after them are left to `totals`.
 pub type State = <WordState as Slots>::List;
 
-/// An accepted word.
-pub struct Word {
+/// An accepted word, with the first slots of the state after it.
+pub struct Word<const SLOTS: usize> {
     pub sample: i32,
-    pub state: State,
+    pub state: [u32; SLOTS],
     pub report: [u32; 2],
 }
 
@@ -49,6 +49,7 @@ fn unpacked(state: &WordState) -> (StereoDecodeState, [AdaptiveMedians; 2]) {
     (flags, state.medians.map(AdaptiveMedians::new))
 }
 
+/// The state at a place, with no totals.
 fn packed(place: usize, flags: &StereoDecodeState, medians: &[AdaptiveMedians; 2]) -> WordState {
     WordState {
         place: place as u32,
@@ -59,6 +60,7 @@ fn packed(place: usize, flags: &StereoDecodeState, medians: &[AdaptiveMedians; 2
         run_break: flags.run_break,
         ever_took_zero_run: flags.ever_took_zero_run,
         medians: medians.map(|set| set.values),
+        bits_read: [0, 0],
     }
 }
 
@@ -76,8 +78,8 @@ fn report(
     Ok([1 + u32::from(zone.index()), zone.ones_count()])
 }
 
-/// One word, read from the place that the state names.
-pub fn word(payload: &[u8], state: &State) -> Result<Word, u32> {
+/// One word, read from the place that the state names, whatever its totals are.
+pub fn word(payload: &[u8], state: &State) -> Result<Word<13>, u32> {
     if payload.len() > MAX_BYTES {
         return Err(5);
     }
@@ -93,7 +95,7 @@ pub fn word(payload: &[u8], state: &State) -> Result<Word, u32> {
     let start = reader.bits_consumed();
     let report = report(&reader, &flags, &medians);
     let sample = decode_sample_stateful_stereo(&mut reader, &mut medians, &mut flags).map_err(number)?;
-    let state = packed(place + reader.bits_consumed() - start, &flags, &medians).slots();
+    let [state @ .., _, _] = packed(place + reader.bits_consumed() - start, &flags, &medians).slots();
     Ok(Word { sample, state, report: report.expect("an accepted word has a zone") })
 }
 
@@ -154,9 +156,19 @@ fn whole(
     decode_packed_samples_stereo(&payload, &mut seeds, frames)
 }
 
-/// A reading: its refusal number, the eight numbers of its answer, and the samples that were read.
-pub fn read(entropy: &[u8], payload: &[u8], frames: usize, length: usize) -> (u32, [u32; 8], Vec<i32>) {
-    let before = |refusal| (refusal, [0; 8], Vec::new());
+/// A reading.
+pub struct Read {
+    pub refusal: u32,
+    /// The numbers of its answer, without the totals.
+    pub answer: [u32; 8],
+    /// The samples that were read, and the place after each of their words.
+    pub samples: Vec<i32>,
+    pub places: Vec<u32>,
+}
+
+/// A reading of `frames` frames into a list of this length, word by word.
+pub fn read(entropy: &[u8], payload: &[u8], frames: usize, length: usize) -> Read {
+    let before = |refusal| Read { refusal, answer: [0; 8], samples: Vec::new(), places: Vec::new() };
     if frames > MAX_FRAMES || payload.len() > MAX_BYTES {
         return before(5);
     }
@@ -168,19 +180,21 @@ pub fn read(entropy: &[u8], payload: &[u8], frames: usize, length: usize) -> (u3
         Err(refusal) => return before(refusal),
     };
     let (mut reader, mut flags, mut medians) = (BitReader::new(payload), StereoDecodeState::new(), seeds);
-    let (mut refusal, mut state, mut samples) =
-        (Ok(()), packed(0, &flags, &medians), Vec::with_capacity(length));
+    let (mut refusal, mut state) = (Ok(()), packed(0, &flags, &medians));
+    let (mut samples, mut places) = (Vec::with_capacity(length), Vec::with_capacity(length));
     while samples.len() < length && refusal.is_ok() {
         match decode_sample_stateful_stereo(&mut reader, &mut medians, &mut flags) {
             Ok(sample) => {
                 samples.push(sample);
                 state = packed(reader.bits_consumed(), &flags, &medians);
+                places.push(state.place);
             }
             Err(error) => refusal = Err(error),
         }
     }
     // The Rust's own reading answers the same samples, or refuses for the same reason.
     assert_eq!(whole(payload, &info, seeds, frames), refusal.clone().map(|()| samples.clone()));
-    let reading = Reading { bits_used: state.place, medians: state.medians, written: samples.len() };
-    (refusal.map_or_else(number, |()| 0), reading.slots(), samples)
+    let WordState { place: bits_used, medians, bits_read, .. } = state;
+    let [answer @ .., _, _] = Reading { bits_used, medians, written: samples.len(), bits_read }.slots();
+    Read { refusal: refusal.map_or_else(number, |()| 0), answer, samples, places }
 }

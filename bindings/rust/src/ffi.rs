@@ -83,7 +83,7 @@ pub fn entropy(entropy: &[u8], medians: &mut [i32]) -> u32 {
     unsafe { wv_entropy(entropy.as_ptr(), entropy.len(), medians.as_mut_ptr(), medians.len()) }
 }
 
-/// `wv_read`: an answer of 8 slots.
+/// `wv_read`: an answer of 10 slots.
 #[rustfmt::skip]
 pub fn read(entropy: &[u8], payload: &[u8], frames: usize, samples: &mut [i32], answer: &mut [u32]) -> u32 {
     // SAFETY: all four are lists, whatever `frames` is; only `samples` and `answer`, each lent to
@@ -96,7 +96,7 @@ pub fn read(entropy: &[u8], payload: &[u8], frames: usize, samples: &mut [i32], 
     }
 }
 
-/// `wv_word`: a state of 13 slots, a sample of 1, a report of 2.
+/// `wv_word`: a state of 15 slots, a sample of 1, a report of 2.
 #[rustfmt::skip]
 pub fn word(payload: &[u8], state: &mut [u32], sample: &mut [i32], report: &mut [u32]) -> u32 {
     // SAFETY: all four are lists; only the last three, each lent to this call alone, are written.

@@ -23,7 +23,7 @@
 //! | [`deconstruct_int32`] | makes such samples narrow, before [`analyse`] |
 //!
 //! The example `wv_file` decodes real `.wv` files, by the steps of docs/WV_FILES.md; `sound_file` exports a
-//! recording, and `clicks` prints its morning page.
+//! recording, `clicks` prints its morning page, and `stem_bits` what each stem costs in bits a sample.
 //!
 //! ```
 //! use wavpack_stereo::{BYTES_PER_FRAME, Delta, Pass, Refusal, Weight};

@@ -13,6 +13,9 @@ pub struct Reading {
     pub medians: Medians,
     /// How many samples were written.
     pub written: usize,
+    /// The bits read for left and for right, as [`word`](crate::word) counts them: together the bits
+    /// used.
+    pub bits_read: [u32; 2],
 }
 
 /// A refused reading, with what it reports of the words before the one that ended it.
@@ -63,7 +66,7 @@ impl From<ReadError> for Refusal {
 /// let entropy = [0, 1, 0, 1, 0, 1, 0, 1, 0, 1, 0, 1];
 /// let mut samples = [0; 2];
 /// let reading = read(&entropy, &[0x7e, 0x02], 1, &mut samples)?;
-/// assert_eq!((samples, reading.bits_used), ([3, -1], 10));
+/// assert_eq!((samples, reading.bits_used, reading.bits_read), ([3, -1], 10, [9, 1]));
 ///
 /// let left_only = [0, 1, 0, 1, 0, 1, 0, 0, 0, 0, 0, 0];
 /// let reading = read(&left_only, &[0x7e, 0x02], 1, &mut samples)?;
@@ -81,7 +84,7 @@ pub fn read(
     frames: usize,
     samples: &mut [i32],
 ) -> Result<Reading, ReadError> {
-    let mut answer = [0; 8];
+    let mut answer = [0; 10];
     let outcome = Refusal::outcome(ffi::read(entropy, payload, frames, samples, &mut answer));
     let reading = Reading::from_slots(answer);
     match outcome {
@@ -103,8 +106,8 @@ mod tests {
 
     #[test]
     fn a_log_word_out_of_reach_leaves_zeros() {
-        let (mut samples, mut answer) = ([77; 2], [77; 9]);
+        let (mut samples, mut answer) = ([77; 2], [77; 11]);
         let number = ffi::read(&[0, 32, 0, 0, 0, 0], &[0x7e, 0x02], 1, &mut samples, &mut answer);
-        assert_eq!((number, samples, answer), (17, [77; 2], [0, 0, 0, 0, 0, 0, 0, 0, 77]));
+        assert_eq!((number, samples, answer), (17, [77; 2], [0, 0, 0, 0, 0, 0, 0, 0, 0, 0, 77]));
     }
 }

@@ -74,7 +74,7 @@ refusals! {
     9 TooManyPasses "over 16 passes",
     10 ResidualOutOfSpan "a residual outside -1,879,048,192 to 1,879,048,191",
     11 OutputTooShort "too little storage for the bytes or samples that are to be written",
-    12 InvalidChannel "a word state whose next channel is neither 0 nor 1",
+    12 InvalidChannel "a word state whose next channel is neither 0 nor 1, or whose totals exceed its place",
     13 SampleOutOfSpan "a sample outside -32,768 to 32,767",
     14 NotWave "not a sound file of the one form that is accepted, or a rate outside 1 to 192,000",
     15 FieldAbove31 "sent_bits, zeros, ones or dups is above 31",

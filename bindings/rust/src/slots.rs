@@ -42,19 +42,20 @@ impl Slots for TermByte {
     }
 }
 
-/// Bits used, medians, samples written.
+/// Bits used, medians, samples written, bits read for left and for right.
 impl Slots for Reading {
-    type List = [u32; 8];
+    type List = [u32; 10];
 
-    fn from_slots([bits_used, medians @ .., written]: [u32; 8]) -> Reading {
-        Reading { bits_used, medians: Medians::from_slots(medians), written: written as usize }
+    fn from_slots([bits_used, medians @ .., written, left, right]: [u32; 10]) -> Reading {
+        let (medians, written) = (Medians::from_slots(medians), written as usize);
+        Reading { bits_used, medians, written, bits_read: [left, right] }
     }
 
-    fn slots(&self) -> [u32; 8] {
-        let [a, b, c, d, e, f] = self.medians.slots();
+    fn slots(&self) -> [u32; 10] {
+        let ([a, b, c, d, e, f], [left, right]) = (self.medians.slots(), self.bits_read);
         // A reading writes at most 262,144 samples.
         let written = u32::try_from(self.written).unwrap_or(u32::MAX);
-        [self.bits_used, a, b, c, d, e, f, written]
+        [self.bits_used, a, b, c, d, e, f, written, left, right]
     }
 }
 
@@ -87,13 +88,13 @@ impl Slots for Wave {
 }
 
 /// Place, next_channel, last_zero, last_one, zero_run_pending, run_break, ever_took_zero_run,
-/// medians. A flag is set where its slot is not 0.
+/// medians, bits read for left and for right. A flag is set where its slot is not 0.
 impl Slots for WordState {
-    type List = [u32; 13];
+    type List = [u32; 15];
 
-    fn from_slots(list: [u32; 13]) -> WordState {
+    fn from_slots(list: [u32; 15]) -> WordState {
         let [place, next_channel, last_zero, last_one, zero_run_pending, rest @ ..] = list;
-        let [run_break, ever_took_zero_run, medians @ ..] = rest;
+        let [run_break, ever_took_zero_run, medians @ .., left, right] = rest;
         WordState {
             place,
             next_channel,
@@ -103,15 +104,16 @@ impl Slots for WordState {
             run_break: run_break != 0,
             ever_took_zero_run: ever_took_zero_run != 0,
             medians: Medians::from_slots(medians),
+            bits_read: [left, right],
         }
     }
 
     #[rustfmt::skip]
-    fn slots(&self) -> [u32; 13] {
-        let [a, b, c, d, e, f] = self.medians.slots();
+    fn slots(&self) -> [u32; 15] {
+        let ([a, b, c, d, e, f], [left, right]) = (self.medians.slots(), self.bits_read);
         [
             self.place, self.next_channel, self.last_zero.into(), self.last_one.into(), self.zero_run_pending,
-            self.run_break.into(), self.ever_took_zero_run.into(), a, b, c, d, e, f,
+            self.run_break.into(), self.ever_took_zero_run.into(), a, b, c, d, e, f, left, right,
         ]
     }
 }
@@ -147,12 +149,13 @@ mod tests {
 
     #[test]
     fn each_slot_stands_where_the_header_says() {
-        let state = WordState::from_slots([1, 2, 1, 0, 3, 0, 1, 10, 11, 12, 20, 21, 22]);
+        let state = WordState::from_slots([1, 2, 1, 0, 3, 0, 1, 10, 11, 12, 20, 21, 22, 30, 31]);
         assert_eq!((state.place, state.next_channel, state.zero_run_pending), (1, 2, 3));
         assert!(state.last_zero && !state.last_one && !state.run_break && state.ever_took_zero_run);
-        assert_eq!(state.medians, [[10, 11, 12], [20, 21, 22]]);
-        let reading = Reading::from_slots([1, 10, 11, 12, 20, 21, 22, 2]);
-        assert_eq!(reading, Reading { bits_used: 1, medians: [[10, 11, 12], [20, 21, 22]], written: 2 });
+        assert_eq!((state.medians, state.bits_read), ([[10, 11, 12], [20, 21, 22]], [30, 31]));
+        let reading = Reading::from_slots([1, 10, 11, 12, 20, 21, 22, 2, 30, 31]);
+        assert_eq!((reading.bits_used, reading.written, reading.bits_read), (1, 2, [30, 31]));
+        assert_eq!(reading.medians, [[10, 11, 12], [20, 21, 22]]);
         let packed = Packed::from_slots([1, 10, 11, 12, 20, 21, 22]);
         assert_eq!(packed, Packed { bits_written: 1, medians: [[10, 11, 12], [20, 21, 22]] });
         assert_eq!(Wave::from_slots([44_100, 2]), Wave { rate: 44_100, written: 2 });
@@ -164,11 +167,11 @@ mod tests {
     fn slots_come_back() {
         for flags in 0..16 {
             let [a, b, c, d] = [0, 1, 2, 3].map(|bit| flags >> bit & 1);
-            let slots = [1, 2, a, b, 3, c, d, 10, 11, 12, 20, 21, 22];
+            let slots = [1, 2, a, b, 3, c, d, 10, 11, 12, 20, 21, 22, 30, 31];
             assert_eq!(WordState::from_slots(slots).slots(), slots);
         }
-        assert_eq!(WordState::from_slots([u32::MAX; 13]).slots()[2..7], [1, 1, u32::MAX, 1, 1]);
-        let list = [1, 10, 11, 12, 20, 21, 22, 2];
+        assert_eq!(WordState::from_slots([u32::MAX; 15]).slots()[2..7], [1, 1, u32::MAX, 1, 1]);
+        let list = [1, 10, 11, 12, 20, 21, 22, 2, 30, 31];
         assert_eq!(Reading::from_slots(list).slots(), list);
         assert_eq!(Packed::from_slots([1, 2, 3, 4, 5, 6, 7]).slots(), [1, 2, 3, 4, 5, 6, 7]);
         assert_eq!(Wave::from_slots([192_000, 262_144]).slots(), [192_000, 262_144]);

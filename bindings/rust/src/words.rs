@@ -21,6 +21,10 @@ pub struct WordState {
     pub ever_took_zero_run: bool,
     /// The medians of both channels.
     pub medians: Medians,
+    /// The bits read for left and for right, two totals that together may not exceed the place. The
+    /// bits from the place before a word to the place after it, those of a run length among them, are
+    /// added to the total of the channel that was due; a zero out of a run adds nothing.
+    pub bits_read: [u32; 2],
 }
 
 /// An accepted word.
@@ -72,9 +76,10 @@ impl WordState {
 ///
 /// # Errors
 ///
-/// Refuses [`Refusal::TooLarge`] for the payload, [`Refusal::InvalidChannel`],
-/// [`Refusal::Truncated`] or [`Refusal::EndOfStream`], with the state as it was: a controller that
-/// follows a recording tries again when more bytes are there.
+/// Refuses [`Refusal::TooLarge`] for the payload, [`Refusal::InvalidChannel`] for `next_channel` or for
+/// totals in `bits_read` that together exceed the place, [`Refusal::Truncated`] or
+/// [`Refusal::EndOfStream`], with the state as it was: a controller that follows a recording tries
+/// again when more bytes are there.
 ///
 /// # Examples
 ///
@@ -89,7 +94,12 @@ impl WordState {
 /// let first = word(&[0x7e, 0x02], &mut state)?;
 /// assert_eq!((first.sample, first.zone), (3, Some(Zone::Zone2Overflow { ones_count: 3 })));
 /// assert_eq!((state.place, state.next_channel, state.medians), (9, 1, [[6, 6, 6], [1, 1, 1]]));
+/// assert_eq!(state.bits_read, [9, 0]);
 /// assert_eq!(word(&[0x7e, 0x02], &mut state)?.sample, -1);
+/// assert_eq!((state.place, state.bits_read), (10, [9, 1]));
+///
+/// state.bits_read = [9, 2];
+/// assert_eq!(word(&[0x7e, 0x02], &mut state), Err(Refusal::InvalidChannel));
 /// # Ok::<(), Refusal>(())
 /// ```
 pub fn word(payload: &[u8], state: &mut WordState) -> Result<Word, Refusal> {

@@ -89,6 +89,7 @@ fn words_give_what_a_reading_gives() -> Result<(), Refusal> {
             assert_eq!(word(&block.payload, &mut state)?.sample, sample);
         }
         assert_eq!((state.place, state.medians), (reading.bits_used, reading.medians));
+        assert_eq!(state.bits_read, reading.bits_read);
     }
     Ok(())
 }

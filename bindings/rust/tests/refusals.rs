@@ -26,7 +26,7 @@ fn readings() {
     assert_eq!(unread(&WORN, &PAYLOAD, 1, 2), Refusal::LogWordOutOfReach);
     assert_eq!(unread(&ONES[..6], &PAYLOAD, 1, 2), Refusal::NotStereo);
     let reading = read(&ONES, &[], 0, &mut []).unwrap();
-    assert_eq!(reading, Reading { bits_used: 0, medians: [[1; 3]; 2], written: 0 });
+    assert_eq!(reading, Reading { medians: [[1; 3]; 2], ..Reading::default() });
 }
 
 #[test]
@@ -81,7 +81,9 @@ fn words() {
     assert_eq!(refused(&[], state), Refusal::Truncated);
     assert_eq!(refused(&PAYLOAD, WordState { place: u32::MAX, ..state }), Refusal::Truncated);
     assert_eq!(refused(&PAYLOAD, WordState { next_channel: 2, ..state }), Refusal::InvalidChannel);
-    assert_eq!(refused(&vec![0; MAX_PAYLOAD_BYTES + 1], state), Refusal::TooLarge);
+    let over = WordState { bits_read: [u32::MAX, 1], ..state };
+    assert_eq!(refused(&[], over), Refusal::InvalidChannel);
+    assert_eq!(refused(&vec![0; MAX_PAYLOAD_BYTES + 1], over), Refusal::TooLarge);
     // A run length of 0, 16 ones, and 33 ones for the second count.
     let end = [0xfe, 0xff, 0xfd, 0xff, 0xff, 0xff, 0x07];
     assert_eq!(refused(&end, state), Refusal::EndOfStream);

@@ -1,6 +1,12 @@
 //! Reading, and one word a call, by an earlier archive, which the feature `before` links beside
-//! today's (`build.rs`).
+//! today's (`build.rs`). It has no totals: its lists have the slots that are named here.
 #![allow(unsafe_code)]
+
+/// The slots of its state.
+pub const STATE: usize = 13;
+
+/// The slots of its answer.
+const ANSWER: usize = 8;
 
 #[rustfmt::skip]
 unsafe extern "C" {
@@ -17,7 +23,7 @@ unsafe extern "C" {
 
 #[rustfmt::skip]
 pub fn read(entropy: &[u8], payload: &[u8], frames: usize, samples: &mut [i32]) -> u32 {
-    let mut answer = [0; 8];
+    let mut answer = [0; ANSWER];
     // SAFETY: as `wv_read`, whose other name it is, it reads and writes nothing beyond the elements
     // that it is given and keeps no pointer. All four are slices, whose lengths are given; only
     // `samples`, lent to this call alone, and `answer` are written.

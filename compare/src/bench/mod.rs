@@ -28,11 +28,11 @@ const BEFORE: Option<Read> = Some(before::read);
 #[cfg(not(feature = "before"))]
 const BEFORE: Option<Read> = None;
 
-/// One word a call by it.
+/// One word a call by it, and the slots of its state.
 #[cfg(feature = "before")]
-const BEFORE_WORD: Option<Word> = Some(before::word);
+const BEFORE_WORD: Option<(Word, usize)> = Some((before::word, before::STATE));
 #[cfg(not(feature = "before"))]
-const BEFORE_WORD: Option<Word> = None;
+const BEFORE_WORD: Option<(Word, usize)> = None;
 
 const TURNS: usize = 40;
 

@@ -8,14 +8,16 @@ use crate::theirs::{MAX_BYTES, State};
 use std::iter::successors;
 
 /// A run length is due, which code bits follow.
-const RUN: State = [0, 0, 0, 0, 0, 0, 0, 1, 40, 90, 1, 16, 15];
+const RUN: State = [0, 0, 0, 0, 0, 0, 0, 1, 40, 90, 1, 16, 15, 0, 0];
 /// A prefix is due, which code bits and a sign follow.
-const PREFIX: State = [0, 1, 0, 0, 0, 0, 0, 700, 5000, 3000, 100, 900, 5000];
+const PREFIX: State = [0, 1, 0, 0, 0, 0, 0, 700, 5000, 3000, 100, 900, 5000, 0, 0];
 /// A prefix is due, which a sign alone follows: there a count shows up to the payload's end.
-const PREFIX_AND_SIGN: State = [0, 0, 0, 0, 0, 1, 1, 0, 0, 0, 0, 0, 0];
+const PREFIX_AND_SIGN: State = [0, 0, 0, 0, 0, 1, 1, 0, 0, 0, 0, 0, 0, 0, 0];
 
+/// A word at `start`, all of whose bits before count for left and for right.
 fn word(payload: Vec<u8>, start: usize, mut state: State) -> Word {
     state[0] = start as u32;
+    [state[13], state[14]] = [state[0] / 3, state[0] - state[0] / 3];
     Word { payload, state, slots: SLOTS }
 }
 

@@ -5,6 +5,7 @@ mod chosen_fields;
 mod counts;
 pub mod deconstruction;
 pub mod entropy;
+mod histories;
 mod joined;
 mod log_words;
 pub mod making;
@@ -17,6 +18,7 @@ pub mod reads;
 pub mod reassembly;
 pub mod wave_exports;
 pub mod wave_imports;
+pub mod word_totals;
 pub mod words;
 
 /// A kind: its name, and what runs it.
@@ -29,6 +31,7 @@ pub const KINDS: &[Kind] = &[
     ("weight bytes", pass_bytes::run_weights),
     ("entropy payloads", entropy::run),
     ("words", words::run),
+    ("word histories", histories::run),
     ("counts", counts::run),
     ("readings", reads::run),
     ("pass making", making::run),

@@ -10,8 +10,12 @@ use crate::payloads::{around_reach, encoded, entropy, entropy_of, residuals, sil
 use crate::random::Random;
 use crate::reach;
 use crate::theirs::{self, MAX_BYTES, MAX_FRAMES};
+use crate::totals;
 use reference::samples::encode_packed_samples_stereo;
 use std::fmt;
+
+/// As many slots of the answer as the interface asks for.
+pub const SLOTS: usize = 10;
 
 #[derive(Clone)]
 pub struct Read {
@@ -43,16 +47,16 @@ impl Case for Read {
         let refusal = ours::read(entropy.list(), payload.list(), self.frames, samples.list(), answer.list());
         entropy.kept("entropy")?;
         payload.kept("payload")?;
-        if self.slots < 8 {
+        if self.slots < SLOTS {
             same("refusal", &refusal, &6)?;
             samples.kept("samples")?;
             answer.kept("answer")?;
             return Ok(refusal);
         }
-        let (number, answered, read) = theirs::read(&self.entropy, &self.payload, self.frames, self.length);
-        same("refusal", &refusal, &number)?;
-        answer.written("answer", &answered)?;
-        samples.written("samples", &read)?;
+        let read = theirs::read(&self.entropy, &self.payload, self.frames, self.length);
+        same("refusal", &refusal, &read.refusal)?;
+        answer.written("answer", &totals::answer(&read))?;
+        samples.written("samples", &read.samples)?;
         Ok(refusal)
     }
 
@@ -78,7 +82,7 @@ impl Case for Read {
 }
 
 fn agree_on(run: &mut Run, entropy: &[u8], payload: Vec<u8>, frames: usize) -> Result<(), Failed> {
-    run.agree(Read { entropy: entropy.to_vec(), payload, frames, length: 2 * frames, slots: 8 })
+    run.agree(Read { entropy: entropy.to_vec(), payload, frames, length: 2 * frames, slots: SLOTS })
 }
 
 /// Six words of each kind: small, middling, largest, and with a zero right set.
@@ -116,7 +120,7 @@ fn random_read(random: &mut Random, mut entropy: Vec<u8>, is_encoded: bool) -> R
         entropy.truncate(random.below(13));
     }
     let length = if random.once_in(16) { random.below(60) } else { 2 * frames };
-    let slots = if random.once_in(16) { random.below(11) } else { 8 };
+    let slots = if random.once_in(16) { random.below(SLOTS + 3) } else { SLOTS };
     Read { entropy, payload, frames, length, slots }
 }
 
@@ -160,7 +164,7 @@ fn plain_words(run: &mut Run) -> Result<(), Failed> {
 fn at_limits(run: &mut Run) -> Result<(), Failed> {
     for entropy in around_reach() {
         for (frames, length) in [(2, 4), (2, 3), (MAX_FRAMES + 1, 4)] {
-            for slots in 7..=9 {
+            for slots in SLOTS - 1..=SLOTS + 1 {
                 let payload = run.random.bytes(3);
                 run.agree(Read { entropy: entropy.clone(), payload, frames, length, slots })?;
             }
@@ -193,7 +197,7 @@ fn largest(run: &mut Run, words: [i16; 6]) -> Result<(), Failed> {
         agree_on(run, &entropy, vec![0xff; length], MAX_FRAMES)?;
     }
     for frames in [usize::MAX, usize::MAX / 2 + 1] {
-        run.agree(Read { entropy: entropy.clone(), payload: vec![0; 4], frames, length: 0, slots: 8 })?;
+        run.agree(Read { entropy: entropy.clone(), payload: vec![0; 4], frames, length: 0, slots: SLOTS })?;
     }
     Ok(())
 }

@@ -1,11 +1,13 @@
 //! One word at a time, from any state: every payload of up to 2 bytes, words cut at every bit,
-//! counts around each cap.
+//! counts around each cap, totals around the place.
+use super::word_totals;
 use crate::case::{Case, Failed, Run, Smaller, plainer, same, shorter};
 use crate::fields::{self, Bits};
 use crate::lent::Lent;
 use crate::ours;
 use crate::random::Random;
-use crate::theirs::{self, MAX_BYTES, State};
+use crate::theirs::{MAX_BYTES, State};
+use crate::totals;
 
 #[derive(Clone, Debug)]
 pub struct Word {
@@ -16,7 +18,7 @@ pub struct Word {
 }
 
 /// As many slots as the interface asks for.
-pub const SLOTS: [usize; 3] = [13, 1, 2];
+pub const SLOTS: [usize; 3] = [15, 1, 2];
 
 impl Case for Word {
     fn compare(&self) -> Result<u32, String> {
@@ -33,7 +35,7 @@ impl Case for Word {
             report.kept("report")?;
             return Ok(refusal);
         }
-        match theirs::word(&self.payload, &self.state) {
+        match totals::word(&self.payload, &self.state) {
             Ok(word) => {
                 same("refusal", &refusal, &0)?;
                 sample.written("sample", &[word.sample])?;
@@ -56,15 +58,19 @@ impl Case for Word {
         let states = plainer(&self.state).map(|state| state.try_into().unwrap());
         Box::new(payloads.chain(states.map(|state| Word { state, ..self.clone() })))
     }
+
+    fn totals_exceed(&self) -> bool {
+        totals::exceed(&self.state)
+    }
 }
 
-fn agree_on(run: &mut Run, payload: Vec<u8>, state: State) -> Result<(), Failed> {
+pub fn agree_on(run: &mut Run, payload: Vec<u8>, state: State) -> Result<(), Failed> {
     run.agree(Word { payload, state, slots: SLOTS })
 }
 
-/// States that lead to each part of a word: run due, prefix, count 0 by last_zero, one more by
-/// last_one, debt.
-fn states(medians: [u32; 6]) -> Vec<State> {
+/// States at place 0 that lead to each part of a word: run due, prefix, count 0 by last_zero, one more
+/// by last_one, debt.
+pub fn states(medians: [u32; 6]) -> Vec<State> {
     let mut out = Vec::new();
     for flags in [
         [0; 6],
@@ -74,7 +80,7 @@ fn states(medians: [u32; 6]) -> Vec<State> {
         [0, 1, 1, 0, 0, 0],
         [1, 0, 0, 3, 1, 1],
     ] {
-        out.push([&[0], &flags[..], &medians[..]].concat().try_into().unwrap());
+        out.push([&[0], &flags[..], &medians[..], &[0; 2]].concat().try_into().unwrap());
     }
     out
 }
@@ -108,7 +114,7 @@ fn cut_words(run: &mut Run) -> Result<(), Failed> {
                 let mut state = random.pick(&states(medians));
                 for count in 0..=bits.0.len() {
                     let (payload, place) = bits.cut(count);
-                    state[0] = place;
+                    word_totals::stand(&mut run.random, &mut state, place);
                     agree_on(run, payload, state)?;
                 }
             }
@@ -117,12 +123,13 @@ fn cut_words(run: &mut Run) -> Result<(), Failed> {
     Ok(())
 }
 
-/// A state with any medians and flags; rarely with a debt, a place past the end or a channel that
-/// does not exist.
+/// A state with any medians and flags; rarely with a debt, a place past the end, a channel that does
+/// not exist or totals that exceed the place.
 pub fn any_state(random: &mut Random, bits: usize) -> State {
     let flag = |random: &mut Random| random.pick(&[0, 0, 0, 1, 2, u32::MAX]);
     let mut state: State = std::array::from_fn(|_| fields::median(random));
-    state[0] = if random.once_in(8) { fields::median(random) } else { random.below(bits + 2) as u32 };
+    let place = if random.once_in(8) { fields::median(random) } else { random.below(bits + 2) as u32 };
+    word_totals::stand(random, &mut state, place);
     state[1] = if random.once_in(16) { random.pick(&[2, 3, 256, u32::MAX]) } else { random.below(2) as u32 };
     state[4] = if random.once_in(8) { fields::median(random) } else { 0 };
     for place in [2, 3, 5, 6] {
@@ -146,9 +153,10 @@ pub fn run(run: &mut Run) -> Result<(), Failed> {
         let payload = run.random.bytes(length);
         for _ in 0..20 {
             let mut state = any_state(&mut run.random, 0);
-            state[0] = (8 * length - run.random.below(100)) as u32;
+            let place = (8 * length - run.random.below(100)) as u32;
+            word_totals::stand(&mut run.random, &mut state, place);
             agree_on(run, payload.clone(), state)?;
         }
     }
-    Ok(())
+    word_totals::run(run)
 }

@@ -2,7 +2,7 @@
 use super::damage;
 use super::recordings::Recordings;
 use crate::kinds::entropy::Entropy;
-use crate::kinds::reads::Read;
+use crate::kinds::reads::{self, Read};
 use crate::random::Random;
 use crate::theirs::{MAX_BYTES, MAX_FRAMES};
 
@@ -59,7 +59,7 @@ pub fn read(random: &mut Random, from: &Recordings) -> Read {
     }
     let frames = frames_near(random, base.residuals.len() / 2);
     let length = length_near(random, frames);
-    Read { entropy, payload, frames, length, slots: slots_near(random, 8) }
+    Read { entropy, payload, frames, length, slots: slots_near(random, reads::SLOTS) }
 }
 
 pub fn entropy(random: &mut Random, from: &Recordings) -> Entropy {

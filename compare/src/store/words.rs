@@ -5,6 +5,7 @@ use crate::kinds::words;
 use crate::payloads;
 use crate::random::Random;
 use crate::theirs::{self, Word};
+use crate::totals;
 
 /// Words: payload length, state, 16 bytes, refusal, sample, state after, report.
 pub fn words() -> Records {
@@ -14,7 +15,7 @@ pub fn words() -> Records {
         let mut payload = fields::payload(random, length);
         payload.truncate(16);
         let state = words::any_state(random, 8 * payload.len());
-        let (refusal, word) = match theirs::word(&payload, &state) {
+        let (refusal, word) = match totals::word(&payload, &state) {
             Ok(word) => (0, word),
             Err(refusal) => (refusal, Word { sample: 0, state, report: [0, 0] }),
         };
@@ -39,12 +40,14 @@ pub fn readings() -> Records {
         let payload = if round % 2 == 0 { payloads::encoded(random, &entropy, frames) } else { None };
         let mut payload = payload.unwrap_or_else(|| fields::payload(random, length));
         payload.truncate(48);
-        let (refusal, answer, mut samples) = theirs::read(&entropy, &payload, frames, 2 * frames);
+        let read = theirs::read(&entropy, &payload, frames, 2 * frames);
+        let answer = totals::answer(&read);
+        let mut samples = read.samples;
         samples.resize(32, 0);
         out.numbers(&[payload.len() as u32, frames as u32]);
         out.bytes(&entropy, 12);
         out.bytes(&payload, 48);
-        out.numbers(&[refusal]);
+        out.numbers(&[read.refusal]);
         out.numbers(&answer);
         out.signed(&samples);
     }

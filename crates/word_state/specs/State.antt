@@ -1,14 +1,24 @@
 -- Document 01, "One word", the state (W0), and what a word does to it. Reader and packer walk the
--- same state by the same named steps.
+-- same state by the same named steps; none of them touches the totals of document 02, §8, which are
+-- charged where a word is accepted.
 -- Assumes nothing.
 use mathlib.Core.Bool.{Bool, true, false, not, _&&_}
-use Prim.Native.Nat.{ℕ, zero, suc}
-use lib.Dec.{leb}
+use Prim.Native.Nat.{ℕ, zero, suc, _+_}
+use lib.Dec.{leb, ltb}
 use Rattle.entropy.specs.Medians.{Medians, zeroSet, mediansOf}
 use Rattle.medians.specs.Adaptation.{adapt}
 
+-- document 02, §8 (Q8.1): "two totals, bits read for left and for right"
+pub record BitsRead : Type 0 where
+  pub left : ℕ
+  pub right : ℕ
+
+-- both totals 0
+abbrev pub noBits : BitsRead
+noBits = record { left = 0; right = 0 }
+
 -- document 01 (W0): two sets of three medians, last_zero, last_one, zero_run_pending (the debt),
--- run_break, ever_took_zero_run, next_channel
+-- run_break, ever_took_zero_run, next_channel; and the two totals (Q8.1)
 pub record State : Type 0 where
   pub left : Medians
   pub right : Medians
@@ -19,10 +29,11 @@ pub record State : Type 0 where
   pub runBreak : Bool
   pub everRun : Bool
   pub channel : ℕ
+  pub bitsRead : BitsRead
 
 -- document 01 (W0): "It starts at zero and false", with the seed medians
 abbrev pub start : Medians → Medians → State
-start l r = record { left = l; right = r; lastZero = false; lastOne = false; debt = 0; runBreak = false; everRun = false; channel = 0 }
+start l r = record { left = l; right = r; lastZero = false; lastOne = false; debt = 0; runBreak = false; everRun = false; channel = 0; bitsRead = noBits }
 
 -- the first of two for channel 0, else the second
 abbrev pub side : {A : Type 0} → ℕ → A → A → A
@@ -41,23 +52,27 @@ other s = side (s .channel) (s .right) (s .left)
 
 -- with both sets of medians
 abbrev pub withMedians : Medians → Medians → State → State
-withMedians l r s = record { left = l; right = r; lastZero = s .lastZero; lastOne = s .lastOne; debt = s .debt; runBreak = s .runBreak; everRun = s .everRun; channel = s .channel }
+withMedians l r s = record { left = l; right = r; lastZero = s .lastZero; lastOne = s .lastOne; debt = s .debt; runBreak = s .runBreak; everRun = s .everRun; channel = s .channel; bitsRead = s .bitsRead }
 
 -- with last_zero and last_one
 abbrev pub withFlags : Bool → Bool → State → State
-withFlags z o s = record { left = s .left; right = s .right; lastZero = z; lastOne = o; debt = s .debt; runBreak = s .runBreak; everRun = s .everRun; channel = s .channel }
+withFlags z o s = record { left = s .left; right = s .right; lastZero = z; lastOne = o; debt = s .debt; runBreak = s .runBreak; everRun = s .everRun; channel = s .channel; bitsRead = s .bitsRead }
 
 -- with the debt
 abbrev pub withDebt : ℕ → State → State
-withDebt d s = record { left = s .left; right = s .right; lastZero = s .lastZero; lastOne = s .lastOne; debt = d; runBreak = s .runBreak; everRun = s .everRun; channel = s .channel }
+withDebt d s = record { left = s .left; right = s .right; lastZero = s .lastZero; lastOne = s .lastOne; debt = d; runBreak = s .runBreak; everRun = s .everRun; channel = s .channel; bitsRead = s .bitsRead }
 
 -- with run_break and ever_took_zero_run
 abbrev pub withRun : Bool → Bool → State → State
-withRun b e s = record { left = s .left; right = s .right; lastZero = s .lastZero; lastOne = s .lastOne; debt = s .debt; runBreak = b; everRun = e; channel = s .channel }
+withRun b e s = record { left = s .left; right = s .right; lastZero = s .lastZero; lastOne = s .lastOne; debt = s .debt; runBreak = b; everRun = e; channel = s .channel; bitsRead = s .bitsRead }
 
 -- with the channel due
 abbrev pub withChannel : ℕ → State → State
-withChannel c s = record { left = s .left; right = s .right; lastZero = s .lastZero; lastOne = s .lastOne; debt = s .debt; runBreak = s .runBreak; everRun = s .everRun; channel = c }
+withChannel c s = record { left = s .left; right = s .right; lastZero = s .lastZero; lastOne = s .lastOne; debt = s .debt; runBreak = s .runBreak; everRun = s .everRun; channel = c; bitsRead = s .bitsRead }
+
+-- with the two totals
+abbrev pub withBits : BitsRead → State → State
+withBits b s = record { left = s .left; right = s .right; lastZero = s .lastZero; lastOne = s .lastOne; debt = s .debt; runBreak = s .runBreak; everRun = s .everRun; channel = s .channel; bitsRead = b }
 
 -- ---- what a word does to the state
 
@@ -106,3 +121,17 @@ runHere s = not (s .runBreak) && runDue (s .left) (s .right) (s .lastZero) (s .l
 abbrev pub onZeros : {A : Type 0} → ℕ → (ℕ → A) → A → A
 onZeros zero f a = a
 onZeros (suc d) f a = f d
+
+-- ---- bits by stem
+
+-- document 02, §8 (Q8.2): n bits more for the channel c
+abbrev pub plusBits : ℕ → ℕ → BitsRead → BitsRead
+plusBits c n b = record { left = side c (b .left + n) (b .left); right = side c (b .right) (b .right + n) }
+
+-- a state that is charged with them
+unfoldable pub charged : ℕ → ℕ → State → State
+charged c n s = withBits (plusBits c n (s .bitsRead)) s
+
+-- document 02, §8 (Q8.3): the "totals together exceed the reader's place"
+unfoldable pub exceeds : BitsRead → ℕ → Bool
+exceeds b p = ltb p (b .left + b .right)

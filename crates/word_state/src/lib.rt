@@ -1,13 +1,18 @@
 // Implements document 01, "One word": the state that reading and packing walk, and the one test of
-// whether a run length stands before a word. What a word does to the state is in specs/State.antt.
+// whether a run length stands before a word; and document 02, §8: the bits that each channel took. What
+// a word does to the state is in specs/State.antt.
 ghost use mathlib.Core.Path.{_≡_};
 ghost use mathlib.Core.Bool.{not, _&&_};
 ghost use Rattle.entropy.specs.Medians.{mediansOf};
-ghost use Rattle.word_state.specs.State.{runDue};
+ghost use Prim.Native.Nat.{_+_, _<_};
+ghost use lib.ListN.{getD};
+ghost use Rattle.word_state.specs.State.{runDue, charged, exceeds};
+ghost use Rattle.word_state.specs.View.{stateOf, bitsReadOf};
 use entropy::AdaptiveMedians;
+use wrapping::casts::u32_to_usize;
 
 // The state of the words: the medians of both channels, indexed by channel, and what one word
-// leaves to the next.
+// leaves to the next; and the bits read for each channel so far.
 pub struct StereoDecodeState {
     pub medians: [AdaptiveMedians; 2],
     pub last_zero: bool,
@@ -16,6 +21,7 @@ pub struct StereoDecodeState {
     pub run_break: bool,
     pub ever_took_zero_run: bool,
     pub next_channel: u32,
+    pub bits_read: [u32; 2],
 }
 
 // Whether a run length stands before a word, from the medians of both channels, in any order, and
@@ -46,4 +52,25 @@ pub fn zero_run_eligible(
         return false;
     }
     !last_one
+}
+
+// Whether both totals together exceed a place. A sum of two numbers of 32 bits fits 64.
+pub fn bits_exceed(bits_read: [u32; 2], place: usize) -> bool
+    ensures { λ r. ⌜ r ≡ exceeds (bitsReadOf «bits_read») place ⌝ }
+{
+    u32_to_usize(bits_read[0]) + u32_to_usize(bits_read[1]) > place
+}
+
+// The state with what a word took counted for the channel that was due.
+pub fn charged(state: StereoDecodeState, channel: u32, took: usize) -> StereoDecodeState
+    requires channel { ⌜ channel < 2 ⌝ }
+    requires fits { ⌜ getD (state .«bits_read») channel 0 + took < 4294967296 ⌝ }
+    ensures { λ r. ⌜ stateOf r ≡ charged channel took (stateOf state) ⌝ }
+{
+    let due = channel as usize;
+    let mut bits = state.bits_read;
+    bits[due] = bits[due] + took as u32;
+    let mut next = state;
+    next.bits_read = bits;
+    next
 }

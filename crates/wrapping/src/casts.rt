@@ -31,3 +31,11 @@ pub fn u32_to_u64(x: u32) -> u64
 {
     x as u64
 }
+
+// 32 bits as an index.
+pub fn u32_to_usize(x: u32) -> usize
+    ensures same { λ r. ⌜ r ≡ x ⌝ }
+    ensures word { λ r. ⌜ r ≤ 4294967295 ⌝ }
+{
+    x as usize
+}

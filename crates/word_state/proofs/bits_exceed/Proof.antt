@@ -1,0 +1,14 @@
+-- `word_state::bits_exceed` meets its contract: both totals have 32 bits.
+-- Assumes nothing.
+use borrow.Author.Needs.{needs}
+use native.Mathlib.Omega.{arith}
+use Rattle.word_state.specs.State.{exceeds}
+use Rattle.word_state.proofs.bits_exceed.Statement.{statement}
+use Rattle.word_state.proofs.bits_exceed.Tie as tie
+
+returns : tie.Need-returns
+unfolding exceeds
+returns c = rw (c .before .u32-to-usize .ensures .0, c .u32-to-usize2 .ensures .0)
+
+pub bits-exceed-spec : {M : Type 1} → statement M
+bits-exceed-spec = tie.close (tie.spec (λ c. search needs) (λ c κs. search needs) (λ c. search needs) (λ c κs. search needs) (λ c. search needs) returns)
