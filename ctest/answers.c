@@ -120,6 +120,7 @@ static void longest_count(void)
     longest[most - 1] = 0x1f;
     expect("wv_word of ones", wv_word(longest, most, state, 15, sample, 1, report, 2), 0);
     expect("the place after the last bit", state[0], 33554432);
+    expect("the bits read for left", state[13], 33554432 - 5);
 }
 
 static void passes(void)

@@ -39,7 +39,8 @@ static int32_t numbers[2 * FRAMES], sounds[2 * FRAMES], wide[2 * FRAMES], blocks
     passes[20 * MOST_PASSES], seed[8];
 static uint32_t answer[15], report[2], field[4];
 
-/* Entropy payloads that reading accepts, payloads with many ones, numbers of any size. */
+/* Entropy payloads that reading accepts, payloads with many ones, numbers of any size; as a word state
+   totals that its place allows. */
 static void fill(void)
 {
     for (size_t i = 0; i < 12; i++)

@@ -50,24 +50,27 @@ fn around(random: &mut Random, place: u32) -> Vec<[u32; 2]> {
     out
 }
 
+/// Every kind of state at a place, for each channel and one that does not exist.
+fn states_at(random: &mut Random, place: u32) -> impl Iterator<Item = State> {
+    let medians = std::array::from_fn(|_| fields::median(random));
+    let states = states(medians).into_iter().flat_map(|state| [0, 1, 2].map(|channel| (state, channel)));
+    states.map(move |(mut state, channel)| {
+        [state[0], state[1]] = [place, channel];
+        state
+    })
+}
+
 /// Such totals at places at the ends of their type and around a payload's end, in every kind of state,
-/// for each channel and one that does not exist, with a slot less, as many as are asked for and one more.
-fn at_ends(run: &mut Run) -> Result<(), Failed> {
-    for length in [0, 1, 9, 40] {
-        let payload = fields::fresh(&mut run.random, length);
-        let end = 8 * length as u32;
-        for place in [0, 1, end.saturating_sub(16), end, end + 1, u32::MAX - 1, u32::MAX] {
-            for totals in around(&mut run.random, place) {
-                let medians = std::array::from_fn(|_| fields::median(&mut run.random));
-                for (mut state, channel) in
-                    states(medians).into_iter().flat_map(|state| [(state, 0), (state, 1), (state, 2)])
-                {
-                    [state[0], state[1]] = [place, channel];
-                    [state[TOTALS[0]], state[TOTALS[1]]] = totals;
-                    for first in SLOTS[0] - 1..=SLOTS[0] + 1 {
-                        let slots = [first, SLOTS[1], SLOTS[2]];
-                        run.agree(Word { payload: payload.clone(), state, slots })?;
-                    }
+/// with a slot less, as many as are asked for and one more.
+fn at_ends(run: &mut Run, payload: &[u8]) -> Result<(), Failed> {
+    let end = 8 * payload.len() as u32;
+    for place in [0, 1, end / 2, end.saturating_sub(1), end, end + 1, u32::MAX - 1, u32::MAX] {
+        for totals in around(&mut run.random, place) {
+            for mut state in states_at(&mut run.random, place) {
+                [state[TOTALS[0]], state[TOTALS[1]]] = totals;
+                for first in SLOTS[0] - 1..=SLOTS[0] + 1 {
+                    let slots = [first, SLOTS[1], SLOTS[2]];
+                    run.agree(Word { payload: payload.to_vec(), state, slots })?;
                 }
             }
         }
@@ -86,26 +89,37 @@ fn run_and_word(random: &mut Random, run: usize, word: usize, fill: usize) -> Bi
     bits
 }
 
-/// Run fields with each channel due, cut at every bit: a run, a run of 0 and the word after it, and words
-/// that are refused after it. The totals are those of a reading, or around the place.
+/// A state in which a run length is due.
+fn run_due(random: &mut Random, channel: u32) -> State {
+    let mut state: State = std::array::from_fn(|_| fields::median(random));
+    state[1..7].copy_from_slice(&[channel, 0, 0, 0, 0, 0]);
+    // The gate of a run: both channels' first medians are below 2.
+    [state[7], state[10]] = [random.below(2) as u32, random.below(2) as u32];
+    state
+}
+
+/// The bits of a word where a run length is due, cut at every bit, after up to five bytes.
+fn cut_run(run: &mut Run, bits: &Bits, channel: u32) -> Result<(), Failed> {
+    for count in 0..=bits.0.len() {
+        let random = &mut run.random;
+        let ((cut, within), before) = (bits.cut(count), random.below(6));
+        let (payload, place) = ([random.bytes(before), cut].concat(), 8 * before as u32 + within);
+        let mut state = run_due(random, channel);
+        stand(random, &mut state, place);
+        agree_on(run, payload, state)?;
+    }
+    Ok(())
+}
+
+/// Run fields with each channel due: a run, a run of 0 and the word after it, and words that are refused
+/// after it.
 fn run_fields(run: &mut Run) -> Result<(), Failed> {
-    let counts = [0, 1, 2, 3, 5, 31, 32, 33, 34];
-    for (length, word) in
-        counts.into_iter().flat_map(|length| [0, 1, 2, 15, 16, 17, 33].map(|word| (length, word)))
-    {
-        for (channel, fill) in [(0, 0), (0, 1), (0, 2), (1, 0), (1, 1), (1, 2)] {
-            let bits = run_and_word(&mut run.random, length, word, fill);
-            for count in 0..=bits.0.len() {
-                let random = &mut run.random;
-                let (cut, within) = bits.cut(count);
-                let before = random.below(6);
-                let payload = [random.bytes(before), cut].concat();
-                let mut state: State = std::array::from_fn(|_| fields::median(random));
-                state[1..7].copy_from_slice(&[channel, 0, 0, 0, 0, 0]);
-                // The gate of a run: both channels' first medians are below 2.
-                [state[7], state[10]] = [random.below(2) as u32, random.below(2) as u32];
-                stand(random, &mut state, 8 * before as u32 + within);
-                agree_on(run, payload, state)?;
+    for length in [0, 1, 2, 3, 5, 31, 32, 33, 34] {
+        for word in [0, 1, 2, 15, 16, 17, 33] {
+            for fill in 0..3 {
+                let bits = run_and_word(&mut run.random, length, word, fill);
+                cut_run(run, &bits, 0)?;
+                cut_run(run, &bits, 1)?;
             }
         }
     }
@@ -113,6 +127,10 @@ fn run_fields(run: &mut Run) -> Result<(), Failed> {
 }
 
 pub fn run(run: &mut Run) -> Result<(), Failed> {
-    at_ends(run)?;
+    for length in [0, 1, 9, 40] {
+        let payload = fields::fresh(&mut run.random, length);
+        at_ends(run, &payload)?;
+        at_ends(run, &vec![0; length])?;
+    }
     run_fields(run)
 }

@@ -5,4 +5,5 @@ pub mod HeldLaws
 pub mod StandingLaws
 pub mod RefusalLaws
 pub mod LocalLaws
+pub mod CostLaws
 pub mod WordBounds

@@ -1,3 +1,4 @@
 pub mod Reading
+pub mod Costs
 pub mod Refused
 pub mod Standing
