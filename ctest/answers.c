@@ -175,7 +175,8 @@ static void silent_right(void)
     expect("a packed byte", out[0], 0x7e);
     expect("a packed byte", out[1], 0x02);
     expect("wv_pack of a mono payload", wv_pack(samples, 2, left_only, 6, 1, out, 28, answer, 7), 2);
-    expect("wv_read of silence", wv_read(silence, 12, (const uint8_t[]){7}, 1, 2, samples, 4, answer, 10), 0);
+    expect("wv_read of silence", wv_read(silence, 12, (const uint8_t[]){7}, 1, 2, samples, 4, answer, 10),
+           0);
     expect_list("samples of silence", samples, (const int32_t[]){0, 0, 0, 0}, 4);
     expect("the bits of silence", answer[0], 6);
 }

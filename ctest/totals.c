@@ -50,8 +50,8 @@ static void accept(const char *what, const uint8_t *payload, size_t bytes, struc
 }
 
 /* A word that is refused. */
-static void refuse(const char *what, const uint8_t *payload, size_t bytes, struct before before, size_t slots,
-                   uint32_t wanted)
+static void refuse(const char *what, const uint8_t *payload, size_t bytes, struct before before,
+                   size_t slots, uint32_t wanted)
 {
     uint32_t state[SLOTS + 1], kept[SLOTS + 1], report[2] = {77, 77};
     int32_t sample[1] = {77};
@@ -140,7 +140,7 @@ static void readings(void)
     read_totals("a reading of a run", run, 1, 2, 0, 6, 0);
     read_totals("a reading that its first word ends", two, 1, 1, 3, 0, 0);
     read_totals("a reading that its third word ends", end, 8, 2, 4, 9, 1);
-    read_totals("a reading that its seventh word ends", two, 2, 4, 3, 12, 4);
+    read_totals("a reading that its seventh word ends", two, 2, 4, 3, 13, 3);
     read_totals("a reading of too long a payload", too_long, sizeof too_long, 1, 5, 0, 0);
 }
 
@@ -150,7 +150,8 @@ static void as_many_words(const uint8_t *payload, size_t bytes, size_t frames)
 {
     int32_t samples[32], sample[1];
     uint32_t answer[READ_SLOTS], state[SLOTS + 1], report[2];
-    const uint32_t ended = wv_read(ones, 12, payload, bytes, frames, samples, 2 * frames, answer, READ_SLOTS);
+    const uint32_t ended =
+        wv_read(ones, 12, payload, bytes, frames, samples, 2 * frames, answer, READ_SLOTS);
     make_state((struct before){0}, state);
     for (size_t i = 0; i < answer[WRITTEN]; i++)
         expect("a word", wv_word(payload, bytes, state, SLOTS, sample, 1, report, 2), 0);

@@ -50,14 +50,14 @@ fn around(random: &mut Random, place: u32) -> Vec<[u32; 2]> {
     out
 }
 
-/// Every kind of state at a place, for each channel and one that does not exist.
-fn states_at(random: &mut Random, place: u32) -> impl Iterator<Item = State> {
+/// Every kind of state at a place with these totals, for each channel and one that does not exist.
+fn states_at(random: &mut Random, place: u32, [left, right]: [u32; 2]) -> Vec<State> {
     let medians = std::array::from_fn(|_| fields::median(random));
-    let states = states(medians).into_iter().flat_map(|state| [0, 1, 2].map(|channel| (state, channel)));
-    states.map(move |(mut state, channel)| {
-        [state[0], state[1]] = [place, channel];
+    let at = |mut state: State, channel| {
+        [state[0], state[1], state[TOTALS[0]], state[TOTALS[1]]] = [place, channel, left, right];
         state
-    })
+    };
+    states(medians).into_iter().flat_map(|state| [0, 1, 2].map(|channel| at(state, channel))).collect()
 }
 
 /// Such totals at places at the ends of their type and around a payload's end, in every kind of state,
@@ -66,8 +66,7 @@ fn at_ends(run: &mut Run, payload: &[u8]) -> Result<(), Failed> {
     let end = 8 * payload.len() as u32;
     for place in [0, 1, end / 2, end.saturating_sub(1), end, end + 1, u32::MAX - 1, u32::MAX] {
         for totals in around(&mut run.random, place) {
-            for mut state in states_at(&mut run.random, place) {
-                [state[TOTALS[0]], state[TOTALS[1]]] = totals;
+            for state in states_at(&mut run.random, place, totals) {
                 for first in SLOTS[0] - 1..=SLOTS[0] + 1 {
                     let slots = [first, SLOTS[1], SLOTS[2]];
                     run.agree(Word { payload: payload.to_vec(), state, slots })?;
@@ -78,8 +77,7 @@ fn at_ends(run: &mut Run, payload: &[u8]) -> Result<(), Failed> {
     Ok(())
 }
 
-/// A run length of `run` ones, then a word of `word` ones: where the run is 0 long, the word belongs to
-/// it, and otherwise the word after its zeros.
+/// A run length of `run` ones, then a word of `word` ones, which is read at once where the run is 0.
 fn run_and_word(random: &mut Random, run: usize, word: usize, fill: usize) -> Bits {
     let mut bits = Bits::default();
     bits.ones(run);

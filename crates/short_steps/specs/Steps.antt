@@ -22,10 +22,11 @@ pub record Ready (payload : List ℕ) (x : Standing) (w : ℕ) : Type 0 where
   pub window : Window (bitsOf payload) (x .place) 64 w
   pub no-run : runDue (mediansOf (x .left)) (mediansOf (x .right)) (x .«last_zero») (x .«last_one») ≡ false
 
--- where a reading stands behind a word, with these medians after it
-abbrev pub behind : Standing → ShortWord → AdaptiveMedians → AdaptiveMedians → Standing
-behind x word left right = record {
+-- where a reading stands behind a word, with left's bits and these medians after it
+abbrev pub behind : Standing → ShortWord → ℕ → AdaptiveMedians → AdaptiveMedians → Standing
+behind x word bits left right = record {
   place = x .place + word .used;
+  «left_bits» = bits;
   written = x .written + 1;
   left = left;
   right = right;
@@ -35,9 +36,9 @@ behind x word left right = record {
 
 -- the sample of a word is written, and the reading stands behind it
 pub record SteppedIs (payload : List ℕ) (before after : List ℤ) (from : Standing) (word : ShortWord)
-    (left right : AdaptiveMedians) (r : Step) : Type 0 where
+    (bits : ℕ) (left right : AdaptiveMedians) (r : Step) : Type 0 where
   pub list-is : after ≡ set before (from .written) (word .value)
-  pub at-is : r .at ≡ behind from word left right
+  pub at-is : r .at ≡ behind from word bits left right
   pub on-is : r .on ≡ word .on
   pub window : Window (bitsOf payload) (from .place + word .used) 64 (r .w)
 

@@ -13,9 +13,11 @@ use short_words::ShortWord;
 use short_words::left_word;
 use short_words::right_word;
 
-// Where a reading stands between two words.
+// Where a reading stands between two words. Of the bits before its place `left_bits` were left's; the
+// others are right's, so that one number more is all that the loop holds.
 pub struct Standing {
     pub place: usize,
+    pub left_bits: usize,
     pub written: usize,
     pub left: AdaptiveMedians,
     pub right: AdaptiveMedians,
@@ -38,6 +40,7 @@ fn stepped(
     from: Standing,
     w: u64,
     word: ShortWord,
+    left_bits: usize,
     left: AdaptiveMedians,
     right: AdaptiveMedians,
 ) -> Step
@@ -49,7 +52,7 @@ fn stepped(
     requires most { ⌜ word .used ≤ 57 ⌝ }
     ensures { λ r.
         ⌜ SteppedIs (now (payload .entry)) (now (out .entry)) (now (out .exit))
-        from word left right r ⌝ }
+        from word «left_bits» left right r ⌝ }
 {
     let i = from.written;
     let value = word.value;
@@ -59,6 +62,7 @@ fn stepped(
         w: moved(payload, from.place, w, word.used),
         at: Standing {
             place: from.place + word.used,
+            left_bits,
             written: i + 1,
             left,
             right,
@@ -68,12 +72,13 @@ fn stepped(
     }
 }
 
-// The left word of a frame.
+// The left word of a frame: its bits are left's.
 pub fn left_step(payload: &[u8], out: &mut [i32], from: Standing, w: u64) -> Step
     requires limit { ⌜ length (now payload) ≤ maxPayloadBytes ⌝ }
     requires inside { ⌜ from .place / 8 + 16 ≤ length (now payload) ⌝ }
     requires room { ⌜ from .written < length (now out) ⌝ }
     requires channel { ⌜ from .written % 2 ≡ 0 ⌝ }
+    requires part { ⌜ from .«left_bits» ≤ from .place ⌝ }
     requires ready { ⌜ Ready (now payload) from w ⌝ }
     ensures { λ r. ⌜ StepIs (now (payload .entry)) (now (out .entry)) (now (out .exit)) from r ⌝ }
 {
@@ -88,7 +93,8 @@ pub fn left_step(payload: &[u8], out: &mut [i32], from: Standing, w: u64) -> Ste
         };
     }
     let after = word.medians;
-    stepped(payload, out, from, w, word, after, right)
+    let left_bits = from.left_bits + word.used;
+    stepped(payload, out, from, w, word, left_bits, after, right)
 }
 
 // The right word of a frame.
@@ -97,6 +103,7 @@ pub fn right_step(payload: &[u8], out: &mut [i32], from: Standing, w: u64) -> St
     requires inside { ⌜ from .place / 8 + 16 ≤ length (now payload) ⌝ }
     requires room { ⌜ from .written < length (now out) ⌝ }
     requires channel { ⌜ from .written % 2 ≡ 1 ⌝ }
+    requires part { ⌜ from .«left_bits» ≤ from .place ⌝ }
     requires ready { ⌜ Ready (now payload) from w ⌝ }
     ensures { λ r. ⌜ StepIs (now (payload .entry)) (now (out .entry)) (now (out .exit)) from r ⌝ }
 {
@@ -111,5 +118,5 @@ pub fn right_step(payload: &[u8], out: &mut [i32], from: Standing, w: u64) -> St
         };
     }
     let after = word.medians;
-    stepped(payload, out, from, w, word, left, after)
+    stepped(payload, out, from, w, word, from.left_bits, left, after)
 }
