@@ -2,11 +2,12 @@
 // the zeros of a run, or a sample and the short words after it, as far as they go: most words are short, and
 // that is what is fast. The medians are an array that is indexed by channel. A run is one turn, so that no
 // debt is held.
+ghost use mathlib.Core.Path.{_≡_};
 ghost use Prim.Native.Nat.{_≤_, _<_};
 ghost use lib.ListN.{length};
 ghost use Rattle.answers.specs.Limits.{maxPayloadBytes};
 ghost use Rattle.reading_turns.specs.Zeros.{ZerosIs};
-ghost use Rattle.reading_turns.specs.Turns.{WordAt, AfterRun, AfterSample};
+ghost use Rattle.reading_turns.specs.Turns.{WordAt, leftAfter, AfterRun, AfterSample};
 use entropy::AdaptiveMedians;
 use medians::adaptation::adapt;
 use short_reading::read_short_words;
@@ -15,9 +16,11 @@ use word_state::zero_run_eligible;
 use words::coded::Coded;
 use words::coded::read_word;
 
-// Where the reading loop stands between two turns, and the state of the words there.
+// Where the reading loop stands between two turns, and the state of the words there. Of the bits read
+// `left_bits` were left's, the others right's.
 pub struct Turn {
     pub bits: usize,
+    pub left_bits: usize,
     pub written: usize,
     pub medians: [AdaptiveMedians; 2],
     pub run_break: bool,
@@ -56,14 +59,29 @@ fn put_zeros(out: &mut [i32], first: usize, owed: u32) -> usize
     i
 }
 
+// Left's bits after a word that ends at `next`: what it took counts for the channel due.
+fn left_bits_after(at: Turn, next: usize) -> usize
+    requires part { ⌜ at .«left_bits» ≤ at .bits ⌝ }
+    requires on { ⌜ at .bits ≤ next ⌝ }
+    ensures { λ r. ⌜ r ≡ leftAfter at next ⌝ }
+{
+    if at.written % 2 == 0 {
+        return at.left_bits + (next - at.bits);
+    }
+    at.left_bits
+}
+
 // After a run: its zeros are written, and no run length stands before the next word.
 pub fn after_run(out: &mut [i32], at: Turn, owed: u32, next: usize) -> Turn
-    requires { ⌜ at .written < length (now out) ⌝ }
+    requires room { ⌜ at .written < length (now out) ⌝ }
+    requires part { ⌜ at .«left_bits» ≤ at .bits ⌝ }
+    requires on { ⌜ at .bits ≤ next ⌝ }
     ensures { λ r. ⌜ AfterRun (now (out .entry)) (now (out .exit)) at owed next r ⌝ }
 {
     let none = AdaptiveMedians { values: [0, 0, 0] };
     Turn {
         bits: next,
+        left_bits: left_bits_after(at, next),
         written: put_zeros(out, at.written, owed),
         medians: [none, none],
         run_break: true,
@@ -85,6 +103,8 @@ pub fn after_sample(
 ) -> Turn
     requires limit { ⌜ length (now payload) ≤ maxPayloadBytes ⌝ }
     requires room { ⌜ at .written < length (now out) ⌝ }
+    requires part { ⌜ at .«left_bits» ≤ at .bits ⌝ }
+    requires on { ⌜ at .bits ≤ next ⌝ }
     ensures { λ r.
         ⌜ AfterSample (now (payload .entry)) (now (out .entry)) (now (out .exit))
         at value «ones_count» next zero one r ⌝ }
@@ -97,6 +117,7 @@ pub fn after_sample(
     let right = medians[1];
     let from = Standing {
         place: next,
+        left_bits: left_bits_after(at, next),
         written: written + 1,
         left,
         right,
@@ -108,6 +129,7 @@ pub fn after_sample(
     let right_after = to.right;
     Turn {
         bits: to.place,
+        left_bits: to.left_bits,
         written: to.written,
         medians: [left_after, right_after],
         run_break: false,

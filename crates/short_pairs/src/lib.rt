@@ -19,6 +19,7 @@ pub fn read_pairs(payload: &[u8], out: &mut [i32], from: Standing, stop: usize) 
     requires limit { ⌜ length (now payload) ≤ maxPayloadBytes ⌝ }
     requires stop { ⌜ stop / 8 + 32 ≤ length (now payload) ⌝ }
     requires place { ⌜ from .place ≤ stop ⌝ }
+    requires part { ⌜ from .«left_bits» ≤ from .place ⌝ }
     requires written { ⌜ from .written ≤ length (now out) ⌝ }
     requires channel { ⌜ from .written % 2 ≡ 0 ⌝ }
     requires due { ⌜ runDue (mediansOf (from .left)) (mediansOf (from .right))

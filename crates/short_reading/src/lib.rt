@@ -13,6 +13,7 @@ use word_state::zero_run_eligible;
 // the last bytes are left to the other reader.
 pub fn read_short_words(payload: &[u8], out: &mut [i32], from: Standing) -> Standing
     requires limit { ⌜ length (now payload) ≤ maxPayloadBytes ⌝ }
+    requires part { ⌜ from .«left_bits» ≤ from .place ⌝ }
     requires written { ⌜ from .written ≤ length (now out) ⌝ }
     ensures { λ r. ⌜ Onward (now (payload .entry)) (now (out .entry)) (now (out .exit)) from r ⌝ }
 {

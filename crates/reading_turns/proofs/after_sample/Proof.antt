@@ -5,7 +5,7 @@ use borrow.Author.Needs.{needs}
 use native.Mathlib.Omega.{arith}
 use mathlib.Core.Path.{_≡_, refl, _∙_}
 use mathlib.Core.List.{List}
-use Prim.Native.Nat.{ℕ, _+_, _%_, _≤_, _<_}
+use Prim.Native.Nat.{ℕ, _+_, _-_, _%_, _≤_, _<_}
 use denote.Ref.{now}
 use lib.IntN.{ℤ}
 use lib.ListN.{length, set, length-set}
@@ -13,6 +13,9 @@ use mir.Facts.{toZ-ofZ}
 use mir.Syntax.{w32}
 use mir.Val.{SFits}
 use Rattle.word_state.proofs.StateLaws.{length-mapped, there}
+use Rattle.readings.proofs.CostLaws.{either-stem}
+use Rattle.reading_turns.specs.Turns.{leftAfter}
+use Rattle.reading_turns.specs.declared.Turn.{Turn}
 use Rattle.reading_turns.proofs.after_sample.Statement.{statement}
 use Rattle.reading_turns.proofs.after_sample.Tie as tie
 
@@ -20,11 +23,21 @@ use Rattle.reading_turns.proofs.after_sample.Tie as tie
 room : (out : List ℤ) (i : ℕ) (v : ℤ) → i < length out → i + 1 ≤ length (set out i v)
 room out i v h = omega (arith, length-set out i v)
 
+-- left's bits are a part of those that are read
+left-part : (t : Turn) (q a : ℕ) → a ≡ leftAfter t q → t .«left_bits» ≤ t .bits → t .bits ≤ q → a ≤ q
+left-part t q a e h k = omega (arith, e, h, k, either-stem (t .written % 2) (q - t .bits))
+
 read-short-words-requires : tie.Need-read-short-words-requires
 read-short-words-requires c κs =
     let start : tie.Start = search needs in
     let a = start .args in
-    (start .pre .0, room (now (a .out)) (a .at .written) _ (start .pre .1))
+    let left : tie.After-left-bits-after = search needs in (
+      start .pre .0,
+      (
+        left-part (a .at) (a .next) _ (left .left-bits-after .ensures) (start .pre .1 .1 .0) (start .pre .1 .1 .1),
+        room (now (a .out)) (a .at .written) _ (start .pre .1 .0),
+      ),
+    )
 
 same-length : tie.Need-same-length
 same-length c =
@@ -42,6 +55,7 @@ returns c =
     let start : tie.Start = search needs in
     let adapt : tie.After-adapt = search needs in
     let words : tie.After-read-short-words = search needs in
+    let left : tie.After-left-bits-after = search needs in
     let a = start .args in
     let ms = a .at .medians in
     let i = a .at .written % 2 in
@@ -53,7 +67,7 @@ returns c =
       due = due;
       adapted = rw (there ms i l (omega arith)) at (adapt .adapt .ensures);
       to = words .read-short-words .result;
-      onward = rw (toZ-ofZ f, there (set ms i due) 0 k (omega arith), there (set ms i due) 1 k (omega arith))
+      onward = rw (toZ-ofZ f, left .left-bits-after .ensures, there (set ms i due) 0 k (omega arith), there (set ms i due) 1 k (omega arith))
           at (words .read-short-words .ensures);
       turn-is = refl;
     }
@@ -71,6 +85,7 @@ after-sample-spec =
     (λ c. search needs)
     (λ c. search needs)
     (λ c. search needs)
+    (λ c κs. search needs)
     (λ c. search needs)
     read-short-words-requires
     same-length

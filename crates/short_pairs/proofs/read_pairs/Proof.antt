@@ -30,8 +30,8 @@ loop-holds c =
     let start : tie.Start Inv-loop μ-loop = search needs in
     let a = start .args in
     record {
-      onward = onward-none (now (a .payload)) (now (a .out)) (a .from) (omega arith);
-      ready = record { window = c .first-window .ensures; no-run = start .pre .1 .1 .1 .1 .1 };
+      onward = onward-none (now (a .payload)) (now (a .out)) (a .from) (omega arith) (omega arith);
+      ready = record { window = c .first-window .ensures; no-run = start .pre .1 .1 .1 .1 .1 .1 };
       channel = omega arith;
     }
 
@@ -52,7 +52,7 @@ left-step-requires : tie.Need-left-step-requires Inv-loop μ-loop
 left-step-requires c κs =
     let l : tie.At-loop Inv-loop μ-loop = search needs in
     let i = l .loop .inv in
-    (omega arith, (omega arith, (omega arith, (i .channel, i .ready))))
+    (omega arith, (omega arith, (omega arith, (i .channel, (i .onward .part, i .ready)))))
 
 same-length-2 : tie.Need-same-length-2 Inv-loop μ-loop
 same-length-2 c =
@@ -73,7 +73,7 @@ right-step-requires c κs =
     let else3 : tie.Else3 Inv-loop μ-loop = search needs in
     let e = d .left-step .ensures in
     let on = not-false _ (else3 .if3 .left) in
-    (omega arith, (omega (arith, e .near), (omega (arith, e .next on, e .onward .same), (omega (arith, e .next on, l .loop .inv .channel), e .ready on))))
+    (omega arith, (omega (arith, e .near), (omega (arith, e .next on, e .onward .same), (omega (arith, e .next on, l .loop .inv .channel), (e .onward .part, e .ready on)))))
 
 same-length-3 : tie.Need-same-length-3 Inv-loop μ-loop
 same-length-3 c =

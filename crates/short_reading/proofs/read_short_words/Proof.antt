@@ -12,7 +12,7 @@ read-pairs-requires c κs =
     let start : tie.Start = search needs in
     let run : tie.After-zero-run-eligible = search needs in
     let else4 : tie.Else4 = search needs in
-    (omega arith, (omega arith, (omega arith, (omega arith, (omega arith, sym (run .zero-run-eligible .ensures) ∙ else4 .if4 .left)))))
+    (omega arith, (omega arith, (omega arith, (omega arith, (omega arith, (omega arith, sym (run .zero-run-eligible .ensures) ∙ else4 .if4 .left))))))
 
 pub read-short-words-spec : {M : Type 1} → statement M
 read-short-words-spec =
