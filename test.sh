@@ -90,6 +90,13 @@ example wv_file "$wv/plain.wv" "$wv/joint.wv" >target/wv_file.txt || fail 'two w
 for words in '' target/none.wv target/pair.bin "$wv/mono.wv"; do
     refused example wv_file $words
 done
+{
+    example stem_bits target/pair.bin target/stem.bin "$wv/plain.wv" "$wv/joint.wv" "$wv/silent_right.wv" &&
+        ! example stem_bits target/cut.bin "$wv/flipped.wv"
+} | diff bindings/rust/examples/stem_bits.txt - || fail 'the example stem_bits'
+for words in '' target/none.wv target/cut.bin "$wv/mono.wv"; do
+    refused example stem_bits $words
+done
 
 rm -f target/python.wav target/sox.wav target/none.wav
 {

@@ -1,6 +1,7 @@
-/* Decodes a recording as the program `wvpair` reads it, and prints its frames: decode FILE
+/* Decodes a recording as the program `wvpair` reads it, and prints its frames and then the bits that were
+   read for each stem: decode FILE
    FILE has 12 entropy bytes, the number of frames in 2 bytes, the low one first, and the payload. Where the
-   recording is refused the frames before the refusal are printed, and why it was refused; the exit status
+   recording is refused it prints what was read before the refusal, and why it was refused; the exit status
    is then 1. */
 #include <inttypes.h>
 #include <stdio.h>
@@ -8,6 +9,8 @@
 #include "wavpack_stereo.h"
 
 enum { FRAMES = WV_ENTROPY_BYTES, PAYLOAD = FRAMES + 2, MOST_FRAMES = 65535 };
+/* The slots of the answer that are used here. */
+enum { WRITTEN = 7, LEFT_BITS, RIGHT_BITS };
 
 /* Decodes the bytes of a file, and answers whether the recording was accepted. */
 static int decode(const uint8_t *file, size_t count, int32_t *samples)
@@ -16,9 +19,9 @@ static int decode(const uint8_t *file, size_t count, int32_t *samples)
     size_t frames = file[FRAMES] | (size_t)file[FRAMES + 1] << 8;
     uint32_t refusal = wv_read(file, WV_ENTROPY_BYTES, file + PAYLOAD, count - PAYLOAD, frames, samples,
                                2 * frames, answer, WV_READ_SLOTS);
-    uint32_t written = answer[WV_READ_SLOTS - 1];
-    for (uint32_t i = 0; i + 1 < written; i += 2)
+    for (uint32_t i = 0; i + 1 < answer[WRITTEN]; i += 2)
         printf("%" PRId32 " %" PRId32 "\n", samples[i], samples[i + 1]);
+    printf("bits: left %" PRIu32 ", right %" PRIu32 "\n", answer[LEFT_BITS], answer[RIGHT_BITS]);
     fflush(stdout);
     if (refusal != WV_ACCEPTED)
         fprintf(stderr, "refused, %" PRIu32 ": %s\n", refusal, wv_refusal_text(refusal));

@@ -147,8 +147,8 @@ fn write_and_decode() -> Result<(), Box<dyn Error>> {
         pass(0x47, [3, 0xfd], [&[], &[]]),
     ])?;
     let recording = write(samples.clone(), entropy, &mut passes.clone())?;
-    let (decoded, ended) = recording.decode(&mut passes.clone())?;
-    assert!(ended.is_none() && decoded == samples, "the recording does not come back");
+    let (decoded, outcome) = recording.decode(&mut passes.clone())?;
+    assert!(outcome.is_ok() && decoded == samples, "the recording does not come back");
     let found = print(&decoded, 2000)?;
     assert_eq!(found, put_in, "other clicks than were put in");
     println!("{} clicks in {} frames, {} bytes", found.len(), recording.frames, recording.payload.len());
@@ -157,11 +157,11 @@ fn write_and_decode() -> Result<(), Box<dyn Error>> {
 
 /// A file for `wvpair` has no passes.
 fn decode_file(name: &str, threshold: u32) -> Result<(), Box<dyn Error>> {
-    let (samples, ended) = Recording::open(name)?.decode(&mut [])?;
+    let (samples, outcome) = Recording::open(name)?.decode(&mut [])?;
     print(&samples, threshold)?;
-    match ended {
-        Some(refusal) => Err(format!("ended after {} frames: {refusal}", samples.len() / 2).into()),
-        None => Ok(()),
+    match outcome {
+        Ok(_) => Ok(()),
+        Err(error) => Err(format!("ended after {} frames: {}", samples.len() / 2, error.refusal).into()),
     }
 }
 

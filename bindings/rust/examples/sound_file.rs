@@ -16,10 +16,10 @@ use wavpack_stereo::{MAX_RATE, Refusal, WAVE_HEADER_BYTES, Wave, wave_export, wa
 fn samples_in(name: &str) -> Result<Vec<i32>, Box<dyn Error>> {
     let recording = Recording::open(name)?;
     match recording.decode(&mut [])? {
-        (samples, None) => Ok(samples),
-        (samples, Some(refusal)) => {
-            let (read, all) = (samples.len() / 2, recording.frames);
-            Err(format!("the reading ended after {read} of {all} frames: {refusal}").into())
+        (samples, Ok(_)) => Ok(samples),
+        (samples, Err(error)) => {
+            let (read, all, why) = (samples.len() / 2, recording.frames, error.refusal);
+            Err(format!("the reading ended after {read} of {all} frames: {why}").into())
         }
     }
 }

@@ -137,7 +137,8 @@ pub fn run(run: &mut Run) -> Result<(), Failed> {
     at_limits(run)?;
     largest(run, [1500, 1400, 1300, 1600, 1500, 1400])?;
     largest(run, [1500, 1400, 1300, 0, 0, 0])?;
-    largest(run, [0; 6])
+    largest(run, [0; 6])?;
+    long_words(run)
 }
 
 /// How many bytes before a payload's end no plain word is begun any more, and some.
@@ -198,6 +199,17 @@ fn largest(run: &mut Run, words: [i16; 6]) -> Result<(), Failed> {
     }
     for frames in [usize::MAX, usize::MAX / 2 + 1] {
         run.agree(Read { entropy: entropy.clone(), payload: vec![0; 4], frames, length: 0, slots: SLOTS })?;
+    }
+    Ok(())
+}
+
+/// One word that takes nearly all bits of the longest payload, of the left channel and of the right.
+fn long_words(run: &mut Run) -> Result<(), Failed> {
+    for zeros in 0..3 {
+        let mut payload = vec![0xff; MAX_BYTES];
+        payload[..zeros].fill(0);
+        payload[MAX_BYTES - 16..].fill(0);
+        agree_on(run, &entropy_of([1500, 1400, 1300, 1600, 1500, 1400]), payload, 4)?;
     }
     Ok(())
 }

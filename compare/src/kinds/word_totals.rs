@@ -4,7 +4,7 @@ use super::words::{SLOTS, Word, agree_on, states};
 use crate::case::{Failed, Run};
 use crate::fields::{self, Bits};
 use crate::random::Random;
-use crate::theirs::State;
+use crate::theirs::{MAX_BYTES, State};
 use crate::totals::TOTALS;
 
 /// The ends of 32 bits, and where the sum of two leaves them.
@@ -124,11 +124,25 @@ fn run_fields(run: &mut Run) -> Result<(), Failed> {
     Ok(())
 }
 
+/// Totals that exceed the place, one of them alone or both together, in the longest payload and in one
+/// that is too long, which is found first.
+fn in_longest(run: &mut Run) -> Result<(), Failed> {
+    for length in [MAX_BYTES, MAX_BYTES + 1] {
+        for totals in [[10, 0], [0, 10], [5, 5], [5, 4]] {
+            for state in states_at(&mut run.random, 9, totals) {
+                agree_on(run, vec![0; length], state)?;
+            }
+        }
+    }
+    Ok(())
+}
+
 pub fn run(run: &mut Run) -> Result<(), Failed> {
     for length in [0, 1, 9, 40] {
         let payload = fields::fresh(&mut run.random, length);
         at_ends(run, &payload)?;
         at_ends(run, &vec![0; length])?;
     }
+    in_longest(run)?;
     run_fields(run)
 }

@@ -14,12 +14,9 @@ use Rattle.answers.specs.Limits.{maxFrames, maxPayloadBytes}
 use Rattle.answers.specs.Numbers.{outcomeNumber}
 use Rattle.answers.proofs.GuardLaws.{guard-refused}
 use Rattle.answers.proofs.NumberLaws.{number-positive}
-use Rattle.bits.specs.Bits.{bitsOf}
 use Rattle.entropy.specs.Medians.{MedianPair}
 use Rattle.entropy.specs.Seed.{seedRefusal, seedMedians}
-use Rattle.word_state.specs.State.{start}
-use Rattle.readings.specs.Reading.{reading}
-use Rattle.samples.specs.View.{ReadTold, tellReading, readRefusal, refuseReading, readEntry}
+use Rattle.samples.specs.View.{ReadTold, readWords, readRefusal, refuseReading, readEntry}
 
 module _ (entropy payload : List ℕ) (frames : ℕ) (list : List ℤ) where
   -- the three tests before the entropy payload
@@ -50,6 +47,6 @@ module _ (entropy payload : List ℕ) (frames : ℕ) (list : List ℤ) where
 
   -- the words
   pub all-read : (told : ReadTold) (seeds : MedianPair) → 0 ≡ readRefusal entropy payload frames list → seeds ≡ seedMedians entropy → length list ≡ 2 * frames
-      → told ≡ tellReading list (reading (bitsOf payload) (length list) 0 (start (seeds .left) (seeds .right))) → told ≡ readEntry entropy payload frames list
+      → told ≡ readWords payload seeds (length list) list → told ≡ readEntry entropy payload frames list
   unfolding readEntry
-  all-read told seeds n e l t = rw (← n) (t ∙ ap₂ (λ (m : ℕ) (s : MedianPair). tellReading list (reading (bitsOf payload) m 0 (start (s .left) (s .right)))) l e)
+  all-read told seeds n e l t = rw (← n) (t ∙ ap₂ (λ (m : ℕ) (s : MedianPair). readWords payload s m list) l e)

@@ -1,10 +1,11 @@
 -- What a reading tells is small: each sample has 32 bits, the refusal is at most 17 and one above 6
--- comes before any bit is used, and the samples written and the bits used fit 32 bits.
+-- comes before any bit is used, and the samples written and the bits used fit 32 bits. The bits of both
+-- stems together are the bits used (document 02, §8).
 -- Assumes nothing.
 use mathlib.Core.Path.{_≡_, refl}
 use mathlib.Core.Bool.{Bool, true, false, cond, _||_}
 use mathlib.Core.List.{List}
-use Prim.Native.Nat.{ℕ, zero, suc, _*_, _≤_, _<_}
+use Prim.Native.Nat.{ℕ, zero, suc, _+_, _*_, _≤_, _<_}
 use native.Mathlib.Omega.{arith}
 use borrow.Author.Tests.{ltb-false}
 use lib.Dec.{ltb, eqb}
@@ -20,8 +21,9 @@ use Rattle.entropy.proofs.SeedBounds.{cond-le, seed-le}
 use Rattle.overlay.proofs.OverlayLaws.{overlay-take}
 use Rattle.word_state.specs.State.{State, start}
 use Rattle.readings.specs.Reading.{reading}
-use Rattle.samples.specs.View.{ReadTold, viewReading, tellReading, readRefusal, refuseReading, readEntry}
+use Rattle.samples.specs.View.{ReadTold, viewReading, readWords, readRefusal, refuseReading, readEntry}
 use Rattle.samples.specs.declared.ReadAnswer.{ReadAnswer}
+use Rattle.readings.proofs.CostLaws.{both-stems}
 use Rattle.readings.proofs.WordBounds.{small-reading}
 use Rattle.readings.proofs.LocalLaws.{reading-inside}
 
@@ -31,6 +33,7 @@ pub record SmallTold (bytes frames : ℕ) (t : ReadTold) : Type 0 where
   pub refused-before : 6 < t .refusal → t .bits ≡ 0
   pub bits : t .bits ≤ 8 * bytes
   pub bits-small : t .bits ≤ 8 * maxPayloadBytes
+  pub stems : t .bitsRead .left + t .bitsRead .right ≡ t .bits
   pub written : t .written ≤ 2 * frames
   pub written-small : t .written ≤ maxElements
   pub samples : (i : ℕ) → mag (getD (take (t .written) (t .list)) i (pos 0)) < 2147483648
@@ -63,7 +66,7 @@ module _ (entropy payload : List ℕ) (frames : ℕ) (list : List ℤ) where
       first = start (seedMedians entropy .left) (seedMedians entropy .right)
 
       go : (c : ℕ) → readRefusal entropy payload frames list ≡ c
-          → SmallTold (length payload) frames (unlessRefused c (refuseReading list) (tellReading list (reading (bitsOf payload) (2 * frames) 0 first)))
+          → SmallTold (length payload) frames (unlessRefused c (refuseReading list) (readWords payload (seedMedians entropy) (2 * frames) list))
       go zero e =
           let l = limits e in
           let s = small-reading (bitsOf payload) (2 * frames) 0 first in
@@ -73,6 +76,7 @@ module _ (entropy payload : List ℕ) (frames : ℕ) (list : List ℤ) where
             refused-before = λ h. absurd (omega (arith, s .refusal));
             bits = omega (arith, length-bits payload, inside);
             bits-small = omega (arith, length-bits payload, l .1, inside);
+            stems = omega (arith, both-stems (bitsOf payload) (2 * frames) 0 first);
             written = s .most;
             written-small = omega (arith, l .0, s .most);
             samples = λ i. rw (overlay-take list (reading (bitsOf payload) (2 * frames) 0 first .samples)) (s .samples i);
@@ -82,6 +86,7 @@ module _ (entropy payload : List ℕ) (frames : ℕ) (list : List ℤ) where
         refused-before = λ h. refl;
         bits = omega arith;
         bits-small = omega arith;
+        stems = refl;
         written = omega arith;
         written-small = omega arith;
         samples = λ i. omega arith;

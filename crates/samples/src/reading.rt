@@ -1,17 +1,14 @@
 // Implements document 01, "Reading": the refusals that come before any word, then turn after turn
 // (`reading_turns`) into a lent list.
 ghost use mathlib.Core.Path.{_≡_};
-ghost use mathlib.Core.List.{List};
-ghost use Prim.Native.Nat.{_≤_};
+ghost use mathlib.Core.List.{List, [], _∷_};
+ghost use Prim.Native.Nat.{_-_, _≤_};
 ghost use lib.IntN.{ℤ};
 ghost use lib.ListN.{length};
 ghost use Rattle.answers.specs.Limits.{maxPayloadBytes};
 ghost use Rattle.answers.specs.Numbers.{outcomeNumber};
-ghost use Rattle.bits.specs.Bits.{bitsOf};
 ghost use Rattle.entropy.specs.Medians.{pairOf};
-ghost use Rattle.word_state.specs.State.{start};
-ghost use Rattle.readings.specs.Reading.{reading};
-ghost use Rattle.samples.specs.View.{viewReading, tellReading, refuseReading, readEntry};
+ghost use Rattle.samples.specs.View.{viewReading, readWords, refuseReading, readEntry};
 use crate::ReadAnswer;
 use answers::Outcome;
 use answers::Refusal;
@@ -25,14 +22,17 @@ use reading_turns::word_at;
 use stereo_pair::stereo_pair_from_entropy;
 use words::coded::Coded;
 
-// The answer where the loop ended: what the accepted words used, left and gave.
+// The answer where the loop ended: what the accepted words used, left and gave. Bits that are not left's
+// are right's.
 fn answer(outcome: Outcome, at: Turn) -> ReadAnswer
+    requires { ⌜ at .«left_bits» ≤ at .bits ⌝ }
     ensures { λ r.
         ⌜ r ≡ record {
           outcome = outcome;
           bits = at .bits;
           medians = at .medians;
           written = at .written;
+          «bits_read» = at .«left_bits» ∷ (at .bits - at .«left_bits») ∷ [];
         } ⌝ }
 {
     let medians = at.medians;
@@ -41,6 +41,7 @@ fn answer(outcome: Outcome, at: Turn) -> ReadAnswer
         bits: at.bits,
         medians,
         written: at.written,
+        bits_read: [at.left_bits, at.bits - at.left_bits],
     }
 }
 
@@ -54,12 +55,12 @@ fn decode_packed_samples_stereo(
     requires { ⌜ length (now payload) ≤ maxPayloadBytes ⌝ }
     ensures { λ r.
         ⌜ viewReading r (now (out .exit))
-        ≡ tellReading (now (out .entry))
-        (reading (bitsOf (now (payload .entry))) (length (now (out .entry))) 0
-        (start (pairOf seeds .left) (pairOf seeds .right))) ⌝ }
+        ≡ readWords (now (payload .entry)) (pairOf seeds) (length (now (out .entry)))
+        (now (out .entry)) ⌝ }
 {
     let mut at = Turn {
         bits: 0,
+        left_bits: 0,
         written: 0,
         medians: seeds,
         run_break: false,
@@ -90,6 +91,7 @@ fn not_read(outcome: Outcome) -> ReadAnswer
         bits: 0,
         medians: [none, none],
         written: 0,
+        bits_read: [0, 0],
     }
 }
 

@@ -1,6 +1,6 @@
 //! A recording as the program `wvpair` reads it, for the examples that decode one.
 use std::error::Error;
-use wavpack_stereo::{Pass, Refusal, decorrelate, read};
+use wavpack_stereo::{Pass, ReadError, Reading, Refusal, decorrelate, read};
 
 /// What a file holds of a recording, but for its passes.
 pub struct Recording {
@@ -23,16 +23,14 @@ impl Recording {
         Some(Recording { entropy: *entropy, frames, payload: payload.to_vec() })
     }
 
-    /// The samples of a recording and, where the reading was refused, why; they are then those of the
-    /// whole frames before the word that ended it, or none.
-    pub fn decode(&self, passes: &mut [Pass]) -> Result<(Vec<i32>, Option<Refusal>), Refusal> {
+    /// The samples of a recording, and what its reading answered; where it was refused they are those
+    /// of the whole frames before the word that ended it, or none.
+    pub fn decode(&self, passes: &mut [Pass]) -> Result<(Vec<i32>, Result<Reading, ReadError>), Refusal> {
         let mut samples = vec![0; 2 * self.frames];
-        let (written, ended) = match read(&self.entropy, &self.payload, self.frames, &mut samples) {
-            Ok(reading) => (reading.written, None),
-            Err(error) => (error.reading.written, Some(error.refusal)),
-        };
-        samples.truncate(written / 2 * 2);
+        let outcome = read(&self.entropy, &self.payload, self.frames, &mut samples);
+        let (Ok(reading) | Err(ReadError { reading, .. })) = outcome;
+        samples.truncate(reading.written / 2 * 2);
         decorrelate(passes, &mut samples)?;
-        Ok((samples, ended))
+        Ok((samples, outcome))
     }
 }

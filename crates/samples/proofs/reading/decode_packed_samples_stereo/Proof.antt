@@ -4,7 +4,7 @@
 use borrow.Author.Needs.{needs}
 use native.Mathlib.Omega.{arith}
 use mathlib.Core.Path.{_≡_, ap}
-use Prim.Native.Nat.{_-_, _<_}
+use Prim.Native.Nat.{_-_, _≤_, _<_}
 use denote.Ref.{now}
 use lib.ListN.{length}
 use mir.Facts.{toZ-ofZ}
@@ -15,7 +15,7 @@ use Rattle.word_state.specs.State.{start}
 use Rattle.word_state.proofs.StateLaws.{length-mapped}
 use Rattle.words.specs.Parts.{codedWord}
 use Rattle.reading_turns.specs.declared.Turn.{Turn}
-use Rattle.samples.proofs.LoopLaws.{Loop, loop-start, loop-end, loop-run, loop-sample, loop-stop}
+use Rattle.samples.proofs.LoopLaws.{Loop, loop-start, loop-end, loop-on, loop-run, loop-sample, loop-stop}
 use Rattle.samples.proofs.reading.decode_packed_samples_stereo.Statement.{statement}
 use Rattle.samples.proofs.reading.decode_packed_samples_stereo.Tie as tie
 
@@ -35,6 +35,28 @@ loop-holds c =
 -- there is room for the word that was read
 room : (c : tie.Then1 Inv-loop μ-loop) → let l = c .before .before .loop in l .at .written < length (l .out)
 room c = omega (arith, c .if1 .taken)
+
+-- left's bits are a part of those that are read
+part : (c : tie.At-loop Inv-loop μ-loop) → let l = c .loop in l .at .«left_bits» ≤ l .at .bits
+part c = c .loop .inv .words .part
+
+after-run-requires : tie.Need-after-run-requires Inv-loop μ-loop
+after-run-requires c κs =
+    let i : tie.Then1 Inv-loop μ-loop = search needs in
+    let w : tie.After-word-at Inv-loop μ-loop = search needs in
+    let y : tie.After-owed Inv-loop μ-loop = search needs in
+    let l = i .before .before .loop .inv in
+    let on = loop-on _ _ _ _ _ l _ (room i) (w .word-at .ensures) _ _ _ _ (ap (codedWord (l .words .state)) (y .owed .given .1)) in
+    (search needs, (part (i .before .before), on))
+
+after-sample-requires : tie.Need-after-sample-requires Inv-loop μ-loop
+after-sample-requires c κs =
+    let i : tie.Then1 Inv-loop μ-loop = search needs in
+    let w : tie.After-word-at Inv-loop μ-loop = search needs in
+    let y : tie.After-value Inv-loop μ-loop = search needs in
+    let l = i .before .before .loop .inv in
+    let on = loop-on _ _ _ _ _ l _ (room i) (w .word-at .ensures) _ _ _ _ (ap (codedWord (l .words .state)) (y .value .given .1)) in
+    (search needs, (search needs, (part (i .before .before), on)))
 
 loop-less : tie.Need-loop-less Inv-loop μ-loop
 loop-less c =
@@ -100,11 +122,11 @@ decode-packed-samples-stereo-spec =
     loop-holds
     (λ c κs. search needs)
     (λ c. search needs)
-    (λ c κs. search needs)
+    after-run-requires
     loop-less
     loop-again
     (λ c. search needs)
-    (λ c κs. search needs)
+    after-sample-requires
     loop-less-2
     loop-again-2
     (λ c. search needs)
