@@ -146,6 +146,7 @@ fn hold_reading(entropy: &[u8], payload: &[u8], frames: usize, walk: &Walk, coun
         Ok(reading) => (reading, None),
         Err(error) => (error.reading, Some(error.refusal)),
     };
+    assert_eq!(reading.written, (2 * frames).min(walk.0.len() - 1));
     let after = walk.0[reading.written];
     assert_eq!((reading.bits_used, reading.bits_read), (after.place, after.bits_read));
     assert_eq!(reading.medians, after.medians);

@@ -96,8 +96,8 @@ fn history(random: &mut Random, words: usize) -> History {
 pub fn run(run: &mut Run) -> Result<(), Failed> {
     let (mut offered, mut accepted) = (0, 0);
     for round in 0..20_000 * run.scale {
-        let most = if round % 5_000 == 0 { 4_000 } else { 80 };
-        let words = 1 + run.random.below(most);
+        // Rarely one whose totals need more than 16 bits.
+        let words = if round % 10_000 == 0 { 12_000 } else { 1 + run.random.below(80) };
         let history = history(&mut run.random, words);
         run.agree(history.clone())?;
         offered += words;

@@ -1,24 +1,28 @@
 -- The one-word entry by its refusals, and the word where none applies.
 -- Assumes nothing.
 use mathlib.Core.Path.{_≡_, refl, sym, ap, _∙_}
-use mathlib.Core.Bool.{Bool, not, _&&_}
+use mathlib.Core.Bool.{Bool, true, false, cond, not, _&&_, _||_, or-true}
 use mathlib.Core.List.{List}
-use Prim.Native.Nat.{ℕ, _≤_, _<_}
+use Prim.Native.Nat.{ℕ, _-_, _≤_, _<_}
 use native.Mathlib.Omega.{arith}
 use borrow.Author.Tests.{lt-ltb, le-ltb}
+use lib.Dec.{ltb}
+use lib.IntN.{pos}
 use lib.ListN.{length, getD}
 use Rattle.answers.specs.Limits.{maxPayloadBytes}
 use Rattle.bits.specs.Bits.{bitsOf}
 use Rattle.entropy.specs.Medians.{mediansOf}
-use Rattle.word_state.specs.State.{State, runDue}
+use Rattle.word_state.specs.State.{State, paid, runDue, exceeds}
 use Rattle.word_state.specs.View.{stateOf}
 use Rattle.word_state.specs.declared.StereoDecodeState.{StereoDecodeState}
+use Rattle.word_state.proofs.BitsLaws.{charged-none}
 use Rattle.word_state.proofs.StateLaws.{noSet, there, picked}
-use Rattle.words.specs.Word.{Word, refused, word}
+use Rattle.words.specs.Word.{Word, given, refused, word}
 use Rattle.words.specs.Parts.{codedWord, CodedIs}
-use Rattle.one_word.specs.View.{tellWord, oneWord}
+use Rattle.one_word.specs.View.{tellWord, charge, oneWord}
 use Rattle.words.specs.declared.coded.Coded.{Coded}
-use Rattle.readings.proofs.WordLaws.{word-fresh}
+use Rattle.zones.specs.Report.{none}
+use Rattle.readings.proofs.WordLaws.{word-paid, word-fresh}
 
 -- a payload that is too large
 pub one-large : (payload : List ℕ) (p : ℕ) (s : State) → maxPayloadBytes < length payload → tellWord p s (refused 5) ≡ oneWord payload p s
@@ -30,22 +34,49 @@ pub one-channel : (payload : List ℕ) (p : ℕ) (s : State) → length payload 
 unfolding oneWord
 one-channel payload p s h l = rw (le-ltb maxPayloadBytes (length payload) h, lt-ltb 1 (s .channel) l)
 
--- the word itself
-pub one-word : (payload : List ℕ) (p : ℕ) (s : State) (w : Word) → length payload ≤ maxPayloadBytes → s .channel ≤ 1 → w ≡ word (bitsOf payload) p s → tellWord p s w ≡ oneWord payload p s
+-- totals that together exceed the place
+pub one-exceeded : (payload : List ℕ) (p : ℕ) (s : State) → length payload ≤ maxPayloadBytes → exceeds (s .bitsRead) p ≡ true → tellWord p s (refused 12) ≡ oneWord payload p s
 unfolding oneWord
-one-word payload p s w h l e = rw (le-ltb maxPayloadBytes (length payload) h, le-ltb 1 (s .channel) l) (ap (tellWord p s) e)
+one-exceeded payload p s h e = rw (le-ltb maxPayloadBytes (length payload) h, e, or-true (ltb 1 (s .channel)))
 
--- the entry, where no zero is owed: the word is what was read
-pub one-coded : (payload : List ℕ) (p : ℕ) (st : StereoDecodeState) (run : Bool) (r : Coded)
-    → length payload ≤ maxPayloadBytes → st .«next_channel» ≤ 1 → st .«zero_run_pending» ≡ 0 → length (st .medians) ≡ 2
+-- the word itself
+pub one-word : (payload : List ℕ) (p : ℕ) (s : State) (w : Word) → length payload ≤ maxPayloadBytes → s .channel ≤ 1 → exceeds (s .bitsRead) p ≡ false
+    → w ≡ word (bitsOf payload) p s → tellWord p s (charge p s w) ≡ oneWord payload p s
+unfolding oneWord
+one-word payload p s w h l x e = rw (le-ltb maxPayloadBytes (length payload) h, le-ltb 1 (s .channel) l, x) (ap (λ (w : Word). tellWord p s (charge p s w)) e)
+
+-- where no zero is owed, the word is what was read
+pub word-read : (payload : List ℕ) (p : ℕ) (st : StereoDecodeState) (run : Bool) (r : Coded)
+    → st .«next_channel» ≤ 1 → st .«zero_run_pending» ≡ 0 → length (st .medians) ≡ 2
     → run ≡ (not (st .«run_break») && runDue (mediansOf (getD (st .medians) 0 noSet)) (mediansOf (getD (st .medians) 1 noSet)) (st .«last_zero») (st .«last_one»))
     → CodedIs (bitsOf payload) p run (mediansOf (getD (st .medians) (st .«next_channel») noSet)) (st .«last_zero») (st .«last_one») r
-    → tellWord p (stateOf st) (codedWord (stateOf st) r) ≡ oneWord payload p (stateOf st)
-one-coded payload p st run r h l n m e c =
+    → codedWord (stateOf st) r ≡ word (bitsOf payload) p (stateOf st)
+word-read payload p st run r l n m e c =
     let ms = st .medians in
     let f = there ms 0 m (omega arith) in
     let g = there ms 1 m (omega arith) in
     let d = ap mediansOf (there ms (st .«next_channel») m (omega arith)) in
-    one-word payload p (stateOf st) (codedWord (stateOf st) r) h l
-    (c .is (stateOf st) (sym (rw (f, g) at e)) (picked ms (st .«next_channel») (omega arith) ∙ sym d) refl refl
-    ∙ sym (word-fresh (bitsOf payload) p (stateOf st) n))
+    c .is (stateOf st) (sym (rw (f, g) at e)) (picked ms (st .«next_channel») (omega arith) ∙ sym d) refl refl
+    ∙ sym (word-fresh (bitsOf payload) p (stateOf st) n)
+
+-- a zero that was owed takes nothing
+pub one-paid : (payload : List ℕ) (p : ℕ) (s : State) → length payload ≤ maxPayloadBytes → s .channel ≤ 1
+    → exceeds (s .bitsRead) p ≡ false → 0 < s .debt
+    → tellWord p s (given (pos 0) p (paid (s .debt - 1) s) none) ≡ oneWord payload p s
+one-paid payload p s h l x d =
+    ap (λ (t : State). tellWord p s (given (pos 0) p t none)) (sym (charged-none (s .channel) p (paid (s .debt - 1) s)))
+    ∙ one-word payload p s _ h l x (sym (word-paid (bitsOf payload) p s d))
+
+-- a refused word hands back the state and the place that it got (Q8.5): neither total grows
+pub refused-keeps : (payload : List ℕ) (p : ℕ) (s : State) → let w = oneWord payload p s in
+    (w .refusal ≡ 0 → ⊥) → (w .state ≡ s) × (w .place ≡ p)
+unfolding oneWord
+refused-keeps payload p s n =
+    go (ltb maxPayloadBytes (length payload)) (ltb 1 (s .channel) || exceeds (s .bitsRead) p) (word (bitsOf payload) p s) n
+  where
+    go : (b c : Bool) (w : Word) → let t = tellWord p s (cond b (refused 5) (cond c (refused 12) (charge p s w))) in
+        (t .refusal ≡ 0 → ⊥) → (t .state ≡ s) × (t .place ≡ p)
+    go true c w n = (refl, refl)
+    go false true w n = (refl, refl)
+    go false false (given v q t z) n = absurd (n refl)
+    go false false (refused c) n = (refl, refl)

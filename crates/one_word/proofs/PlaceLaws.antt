@@ -1,15 +1,16 @@
 -- The place after a word: within the payload the word ends within it, and at its end or behind it a
--- word is refused, or is a zero that stays where it is. So a place of 32 bits stays one.
+-- word is refused, or is a zero that stays where it is. So a place of 32 bits stays one, and so does a
+-- total that is at most the place.
 -- Assumes nothing.
 use mathlib.Core.Path.{_≡_, refl, sym, ap, _∙_}
-use mathlib.Core.Bool.{Bool, true, false, cond}
+use mathlib.Core.Bool.{Bool, true, false, cond, _||_}
 use mathlib.Core.List.{List}
-use Prim.Native.Nat.{ℕ, zero, suc, _+_, _-_, _≤_}
+use Prim.Native.Nat.{ℕ, zero, suc, _+_, _-_, _≤_, _<_}
 use native.Mathlib.Omega.{arith}
 use borrow.Author.Tests.{ltb-false, leb-true, leb-false}
 use lib.Dec.{ltb, leb}
 use lib.IntN.{ℤ}
-use lib.ListN.{length, drop-of-length-le}
+use lib.ListN.{length, getD, drop-of-length-le}
 use Rattle.answers.specs.Limits.{maxPayloadBytes}
 use Rattle.bits.specs.Bits.{ones, bitsOf}
 use Rattle.bits.specs.Fields.{getBits, unary}
@@ -22,10 +23,12 @@ use Rattle.fields.specs.declared.Prefix.{Prefix}
 use Rattle.fields.proofs.Local.{fieldEnd}
 use Rattle.fields.proofs.LocalLaws.{truncated-binary-local}
 use Rattle.medians.specs.Interval.{lowOf, highOf}
-use Rattle.word_state.specs.State.{State, due, cleared, unbroken, after, runDue}
+use Rattle.word_state.specs.State.{BitsRead, SmallBits, State, side, due, cleared, unbroken, after, runDue, exceeds}
+use Rattle.word_state.specs.View.{bitsReadOf}
+use Rattle.word_state.proofs.BitsLaws.{total-of, not-exceeded}
 use Rattle.words.specs.Word.{Word, given, refused, onField, signed, value, plain, fresh, word}
 use Rattle.zones.specs.Report.{Report, zoneOf}
-use Rattle.one_word.specs.View.{WordTold, viewWord, tellWord, oneWord}
+use Rattle.one_word.specs.View.{WordTold, viewWord, tellWord, charge, oneWord}
 use Rattle.one_word.specs.declared.WordAnswer.{WordAnswer}
 use Rattle.readings.proofs.WordLaws.{word-paid, word-fresh}
 use Rattle.readings.proofs.LocalLaws.{word-inside}
@@ -38,6 +41,11 @@ placeOf (refused c) = 0
 abbrev isGiven : Word → ℕ
 isGiven (given v q t z) = 1
 isGiven (refused c) = 0
+
+-- where an accepted word ends: within the payload, or where it was
+data Ends (a : List Bool) (p q : ℕ) : Type 0 where
+  inside : q ≤ length a → Ends a p q
+  still : q ≡ p → Ends a p q
 
 -- ---- at the end of the payload and behind it
 
@@ -86,26 +94,66 @@ module _ (a : List Bool) where
       either false true = refl
       either false false = refl
 
-  -- a limit that holds the payload's bits and a place holds the place after
-  word-near : (m p q : ℕ) (s t : State) (v : ℤ) (z : Report) → length a ≤ m → p ≤ m → word a p s ≡ given v q t z → q ≤ m
-  word-near m p q s t v z l h e = go (leb p (length a)) refl (s .debt) refl
+  -- an accepted word ends within the payload, or stays where it is
+  word-ends : (p q : ℕ) (s t : State) (v : ℤ) (z : Report) → word a p s ≡ given v q t z → Ends a p q
+  word-ends p q s t v z e = go (leb p (length a)) refl (s .debt) refl
     where
-      go : (b : Bool) → leb p (length a) ≡ b → (d : ℕ) → s .debt ≡ d → q ≤ m
-      go true i d j = omega (arith, l, word-inside a p q s t v z e (leb-true p (length a) i))
+      go : (b : Bool) → leb p (length a) ≡ b → (d : ℕ) → s .debt ≡ d → Ends a p q
+      go true i d j = inside (word-inside a p q s t v z e (leb-true p (length a) i))
       go false i zero j = absurd (omega (arith, ap isGiven (sym (fresh-past p s (omega (arith, leb-false p (length a) i))) ∙ sym (word-fresh a p s j) ∙ e)))
-      go false i (suc d) j = omega (arith, h, ap placeOf (sym (word-paid a p s (omega arith)) ∙ e))
+      go false i (suc d) j = still (ap placeOf (sym e ∙ word-paid a p s (omega arith)))
 
 -- ---- the two entries
+
+-- a payload within its limit has at most 33,554,432 bits
+few-bits : (payload : List ℕ) → length payload ≤ maxPayloadBytes → length (bitsOf payload) ≤ 33554432
+few-bits payload h = omega (arith, length-bits payload)
+
+-- a place of 32 bits stays one
+ends-near : (a : List Bool) (p q : ℕ) → length a ≤ 33554432 → p ≤ 4294967295 → Ends a p q → q ≤ 4294967295
+ends-near a p q l h (inside e) = omega arith
+ends-near a p q l h (still e) = omega arith
+
+-- and so does a total x that is at most the place (Q8.3): what is added ends within the payload, or is 0
+pub total-fits : (payload : List ℕ) (p q x : ℕ) (s t : State) (v : ℤ) (z : Report) → length payload ≤ maxPayloadBytes
+    → word (bitsOf payload) p s ≡ given v q t z → x ≤ p → x ≤ 4294967295 → x + (q - p) ≤ 4294967295
+total-fits payload p q x s t v z h e l m = go (word-ends (bitsOf payload) p q s t v z e)
+  where
+    go : Ends (bitsOf payload) p q → x + (q - p) ≤ 4294967295
+    go (inside i) = omega (arith, few-bits payload h)
+    go (still i) = omega arith
+
+-- the total of the channel due, as the code's array holds it, where its state has those that were given
+pub due-fits : (payload : List ℕ) (p q : ℕ) (b : BitsRead) (totals : List ℕ) (s t : State) (v : ℤ) (z : Report)
+    → length payload ≤ maxPayloadBytes → exceeds b p ≡ false → SmallBits b
+    → bitsReadOf totals ≡ b → s .channel < 2 → word (bitsOf payload) p s ≡ given v q t z
+    → getD totals (s .channel) 0 + (q - p) < 4294967296
+due-fits payload p q b totals s t v z h x m e c w =
+    let f : getD totals (s .channel) 0 ≡ side (s .channel) (b .left) (b .right) =
+    total-of totals (s .channel) c ∙ ap (λ (x : BitsRead). side (s .channel) (x .left) (x .right)) e in
+    let low = not-exceeded b p x in
+    let fits = total-fits payload p q (getD totals (s .channel) 0) s t v z h w
+    (rw f (at-most (s .channel) (b .left) (b .right) p (omega arith) (omega arith)))
+    (rw f (at-most (s .channel) (b .left) (b .right) 4294967295 (m .small-left) (m .small-right))) in
+    omega arith
+  where
+    at-most : (c x y n : ℕ) → x ≤ n → y ≤ n → side c x y ≤ n
+    at-most zero x y n i j = i
+    at-most (suc c) x y n i j = j
 
 -- the place after a word that was given a place of 32 bits
 word-fits : (payload : List ℕ) (p : ℕ) (s : State) → p ≤ 4294967295 → oneWord payload p s .place ≤ 4294967295
 unfolding oneWord
-word-fits payload p s h = go (ltb maxPayloadBytes (length payload)) (ltb 1 (s .channel)) (word (bitsOf payload) p s) refl refl
+word-fits payload p s h =
+    go (ltb maxPayloadBytes (length payload)) (ltb 1 (s .channel) || exceeds (s .bitsRead) p) (word (bitsOf payload) p s) refl refl
   where
-    go : (b c : Bool) (w : Word) → ltb maxPayloadBytes (length payload) ≡ b → word (bitsOf payload) p s ≡ w → tellWord p s (cond b (refused 5) (cond c (refused 12) w)) .place ≤ 4294967295
+    go : (b c : Bool) (w : Word) → ltb maxPayloadBytes (length payload) ≡ b → word (bitsOf payload) p s ≡ w
+        → tellWord p s (cond b (refused 5) (cond c (refused 12) (charge p s w))) .place ≤ 4294967295
     go true c w e f = h
     go false true w e f = h
-    go false false (given v q t z) e f = word-near (bitsOf payload) 4294967295 p q s t v z (omega (arith, length-bits payload, ltb-false maxPayloadBytes (length payload) e)) h f
+    go false false (given v q t z) e f =
+        let few = few-bits payload (omega (arith, ltb-false maxPayloadBytes (length payload) e)) in
+        ends-near (bitsOf payload) p q few h (word-ends (bitsOf payload) p q s t v z f)
     go false false (refused n) e f = h
 
 -- the place that was told fits its slot

@@ -1,15 +1,15 @@
 -- What the struct of the one-word entry stands for, and what the entry answers (X3).
 -- Assumes nothing.
-use mathlib.Core.Bool.{cond}
+use mathlib.Core.Bool.{cond, _||_}
 use mathlib.Core.List.{List}
-use Prim.Native.Nat.{ℕ}
+use Prim.Native.Nat.{ℕ, _-_}
 use lib.Dec.{ltb}
 use lib.IntN.{ℤ, pos}
 use lib.ListN.{length}
 use Rattle.answers.specs.Limits.{maxPayloadBytes}
 use Rattle.answers.specs.Numbers.{outcomeNumber}
 use Rattle.bits.specs.Bits.{bitsOf}
-use Rattle.word_state.specs.State.{State}
+use Rattle.word_state.specs.State.{State, charged, exceeds}
 use Rattle.word_state.specs.View.{stateOf}
 use Rattle.words.specs.Word.{Word, given, refused, word}
 use Rattle.zones.specs.Report.{Report, none, reportOf}
@@ -32,7 +32,16 @@ abbrev pub tellWord : ℕ → State → Word → WordTold
 tellWord p s (given v q t z) = record { refusal = 0; sample = v; place = q; state = t; report = z }
 tellWord p s (refused c) = record { refusal = c; sample = pos 0; place = p; state = s; report = none }
 
--- document 01 (X3): "One word: 5, the payload bytes only; 12, next_channel above 1; 3; 4"
+-- document 02, §8 (Q8.2, Q8.5): what an accepted word took, from its place to the next, counts for the
+-- channel that was due; "A refused word adds to neither"
+abbrev pub charge : ℕ → State → Word → Word
+charge p s (given v q t z) = given v q (charged (s .channel) (q - p) t) z
+charge p s (refused c) = refused c
+
+-- document 01 (X3): "One word: 5, the payload bytes only; 12, next_channel above 1; 3; 4"; document 02,
+-- §8 (Q8.3): 12 also for a state "whose totals together exceed the reader's place"
 unfoldable pub oneWord : List ℕ → ℕ → State → WordTold
 oneWord payload p s =
-    tellWord p s (cond (ltb maxPayloadBytes (length payload)) (refused 5) (cond (ltb 1 (s .channel)) (refused 12) (word (bitsOf payload) p s)))
+    tellWord p s
+    (cond (ltb maxPayloadBytes (length payload)) (refused 5)
+    (cond (ltb 1 (s .channel) || exceeds (s .bitsRead) p) (refused 12) (charge p s (word (bitsOf payload) p s))))

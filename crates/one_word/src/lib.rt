@@ -1,5 +1,5 @@
-// Implements document 01, "One word", as an entry of its own: for a caller that holds the state
-// from word to word.
+// Implements document 01, "One word", as an entry of its own, and document 02, §8: for a caller that holds
+// the state from word to word, and with it the bits that each channel took.
 ghost use mathlib.Core.Path.{_≡_};
 ghost use Prim.Native.Nat.{_<_};
 ghost use lib.IntN.{pos};
@@ -15,6 +15,8 @@ use answers::limits::MAX_PAYLOAD_BYTES;
 use entropy::AdaptiveMedians;
 use medians::adaptation::adapt;
 use word_state::StereoDecodeState;
+use word_state::bits_exceed;
+use word_state::charged;
 use word_state::zero_run_eligible;
 use words::coded::Coded;
 use words::coded::read_word;
@@ -131,9 +133,10 @@ fn adapted(
     next
 }
 
-// The word at a place of the payload, in any state. Refuses with 5 a payload of over 4,194,304
-// bytes, with 12 a channel above 1, then with 3 or 4 what the word runs into; a refusal gives
-// sample 0, the old place, the old state and no report.
+// The word at a place of the payload, in any state. What it took counts for the channel due. Refuses
+// with 5 a payload of over 4,194,304 bytes, with 12 a channel above 1 or totals that together exceed the
+// place, then with 3 or 4 what the word runs into; a refusal gives sample 0, the old place, the old state
+// and no report.
 pub fn decode_sample_stateful_stereo(
     payload: &[u8],
     place: usize,
@@ -147,6 +150,10 @@ pub fn decode_sample_stateful_stereo(
     if state.next_channel > 1 {
         return refused(Refusal::InvalidChannel, place, state);
     }
+    let totals = state.bits_read;
+    if bits_exceed(totals, place) {
+        return refused(Refusal::InvalidChannel, place, state);
+    }
     let debt = state.zero_run_pending;
     if debt > 0 {
         return zero(place, paid(state, debt - 1));
@@ -158,12 +165,16 @@ pub fn decode_sample_stateful_stereo(
     let run = zero_run_eligible(sets[0], sets[1], state.run_break, zero_before, one_before);
     let word = read_word(payload, place, run, sets[channel], zero_before, one_before);
     match word {
-        Coded::Run(owed, next) => zero(next, in_run(state, owed)),
+        Coded::Run(owed, next) => {
+            let after = in_run(state, owed);
+            zero(next, charged(after, state.next_channel, next - place))
+        }
         Coded::Sample(sample, ones_count, next, last_zero, last_one) => {
+            let after = adapted(state, ones_count, last_zero, last_one);
             given(
                 sample,
                 next,
-                adapted(state, ones_count, last_zero, last_one),
+                charged(after, state.next_channel, next - place),
                 ones_count,
             )
         }

@@ -3,7 +3,7 @@
 -- charged where a word is accepted.
 -- Assumes nothing.
 use mathlib.Core.Bool.{Bool, true, false, not, _&&_}
-use Prim.Native.Nat.{ℕ, zero, suc, _+_}
+use Prim.Native.Nat.{ℕ, zero, suc, _+_, _≤_}
 use lib.Dec.{leb, ltb}
 use Rattle.entropy.specs.Medians.{Medians, zeroSet, mediansOf}
 use Rattle.medians.specs.Adaptation.{adapt}
@@ -12,6 +12,11 @@ use Rattle.medians.specs.Adaptation.{adapt}
 pub record BitsRead : Type 0 where
   pub left : ℕ
   pub right : ℕ
+
+-- each total is a number of 32 bits, as the code holds it
+pub record SmallBits (b : BitsRead) : Type 0 where
+  pub small-left : b .left ≤ 4294967295
+  pub small-right : b .right ≤ 4294967295
 
 -- both totals 0
 abbrev pub noBits : BitsRead

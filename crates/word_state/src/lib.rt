@@ -6,7 +6,7 @@ ghost use mathlib.Core.Bool.{not, _&&_};
 ghost use Rattle.entropy.specs.Medians.{mediansOf};
 ghost use Prim.Native.Nat.{_+_, _<_};
 ghost use lib.ListN.{getD};
-ghost use Rattle.word_state.specs.State.{runDue, charged, exceeds};
+ghost use Rattle.word_state.specs.State.{runDue, SmallBits, charged, exceeds};
 ghost use Rattle.word_state.specs.View.{stateOf, bitsReadOf};
 use entropy::AdaptiveMedians;
 use wrapping::casts::u32_to_usize;
@@ -56,7 +56,8 @@ pub fn zero_run_eligible(
 
 // Whether both totals together exceed a place. A sum of two numbers of 32 bits fits 64.
 pub fn bits_exceed(bits_read: [u32; 2], place: usize) -> bool
-    ensures { λ r. ⌜ r ≡ exceeds (bitsReadOf «bits_read») place ⌝ }
+    ensures exceeds { λ r. ⌜ r ≡ exceeds (bitsReadOf «bits_read») place ⌝ }
+    ensures small { λ _. ⌜ SmallBits (bitsReadOf «bits_read») ⌝ }
 {
     u32_to_usize(bits_read[0]) + u32_to_usize(bits_read[1]) > place
 }
