@@ -1,4 +1,4 @@
-// The state of a word, and its place, in 13 slots.
+// The state of a word, and its place, in 15 slots.
 use entropy::AdaptiveMedians;
 use median_slots::lay_medians;
 use slots::lay_words;
@@ -18,9 +18,9 @@ fn flag_slot(flag: bool) -> u32
     if flag { 1 } else { 0 }
 }
 
-// The state that 12 slots after the place hold.
+// The state that 14 slots after the place hold.
 pub fn state_in(slots: &[u32]) -> StereoDecodeState
-    requires { ⌜ 13 ≤ length (now slots) ⌝ }
+    requires { ⌜ 15 ≤ length (now slots) ⌝ }
     ensures { λ r. ⌜ stateOf r ≡ slotsState (now (slots .entry)) ⌝ }
 {
     let left = AdaptiveMedians {
@@ -37,19 +37,21 @@ pub fn state_in(slots: &[u32]) -> StereoDecodeState
         run_break: slots[5] != 0,
         ever_took_zero_run: slots[6] != 0,
         next_channel: slots[1],
+        bits_read: [slots[13], slots[14]],
     }
 }
 
-// Lays a place and a state into the first 13 slots.
+// Lays a place and a state into the first 15 slots.
 pub fn lay_state(place: usize, state: StereoDecodeState, slots: &mut [u32])
     requires place { ⌜ place < 4294967296 ⌝ }
-    requires room { ⌜ 13 ≤ length (now slots) ⌝ }
+    requires room { ⌜ 15 ≤ length (now slots) ⌝ }
     ensures { λ _. ⌜
         now (slots .exit)
         ≡ overlay (now (slots .entry)) 0 (stateSlots place (stateOf state))
         ⌝ }
 {
     let medians = state.medians;
+    let bits_read = state.bits_read;
     let last_zero = flag_slot(state.last_zero);
     let last_one = flag_slot(state.last_one);
     let run_break = flag_slot(state.run_break);
@@ -65,4 +67,6 @@ pub fn lay_state(place: usize, state: StereoDecodeState, slots: &mut [u32])
     ];
     lay_words(&head, 0, slots);
     lay_medians(medians, 7, slots);
+    let totals = [bits_read[0], bits_read[1]];
+    lay_words(&totals, 13, slots);
 }

@@ -13,8 +13,8 @@ use word_slots::lay_word;
 ghost use mathlib.Core.Path.{_≡_};
 ghost use Rattle.word_calls.specs.Calls.{readCall, wordCall};
 
-// `wv_read`: the samples, and into 8 slots bits used, left medians, right medians and samples
-// written.
+// `wv_read`: the samples, and into 10 slots bits used, left medians, right medians, samples written,
+// bits of left and bits of right.
 pub fn read_call(
     entropy: &[u8],
     payload: &[u8],
@@ -27,21 +27,22 @@ pub fn read_call(
         ≡ readCall (now (entropy .entry)) (now (payload .entry)) frames (now (samples .entry)) (now (answer .entry))
         ⌝ }
 {
-    if answer.len() < 8 {
+    if answer.len() < 10 {
         return number(Refusal::ListLength);
     }
     let read = decode_packed_samples_stereo_from_entropy(entropy, payload, frames, samples);
     let bits = read.bits;
     let medians = read.medians;
     let written = read.written;
+    let bits_read = read.bits_read;
     let outcome = read.outcome;
     lay_counts(bits, medians, answer);
-    let last = [written as u32];
+    let last = [written as u32, bits_read[0] as u32, bits_read[1] as u32];
     lay_words(&last, 7, answer);
     outcome_number(outcome)
 }
 
-// `wv_word`: the word at the place and in the state that 13 slots hold, its sample into 1 slot and
+// `wv_word`: the word at the place and in the state that 15 slots hold, its sample into 1 slot and
 // its report into 2.
 pub fn word_call(payload: &[u8], state: &mut [u32], sample: &mut [i32], report: &mut [u32]) -> u32
     ensures { λ r. ⌜
@@ -49,7 +50,7 @@ pub fn word_call(payload: &[u8], state: &mut [u32], sample: &mut [i32], report: 
         ≡ wordCall (now (payload .entry)) (now (state .entry)) (now (sample .entry)) (now (report .entry))
         ⌝ }
 {
-    if state.len() < 13 {
+    if state.len() < 15 {
         return number(Refusal::ListLength);
     }
     if sample.len() < 1 {

@@ -33,7 +33,7 @@ fn report_slots(zone: MaybeZone) -> [u32; 2]
 // state. Answers its number.
 pub fn lay_word(word: WordAnswer, state: &mut [u32], sample: &mut [i32], report: &mut [u32]) -> u32
     requires place { ⌜ word .place < 4294967296 ⌝ }
-    requires state { ⌜ 13 ≤ length (now state) ⌝ }
+    requires state { ⌜ 15 ≤ length (now state) ⌝ }
     requires sample { ⌜ 1 ≤ length (now sample) ⌝ }
     requires report { ⌜ 2 ≤ length (now report) ⌝ }
     ensures { λ r. ⌜

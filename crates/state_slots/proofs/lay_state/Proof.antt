@@ -8,16 +8,18 @@ use Rattle.state_slots.proofs.lay_state.Tie as tie
 
 returns : tie.Need-returns
 returns c =
-    let a = c .before .before .before .before .before .before .before .before .before .before .before .before .before .before .before .args in
-    state-laid (a .place) _ _ _ _ (stateOf (a .state)) (a .slots .now) _ _
-    (c .before .before .before .before .before .before .before .before .before .before .before .before
-    .flag-slot .ensures)
-    (c .before .before .before .before .before .before .before .before .before .before .before .flag-slot2
-    .ensures)
-    (c .before .before .before .before .before .before .before .before .before .before .flag-slot3 .ensures)
-    (c .before .before .before .before .before .before .before .before .before .flag-slot4 .ensures)
-    (c .before .before .before .before .before .before .lay-words .ensures)
-    (c .before .before .lay-medians .ensures)
+    let start : tie.Start = search needs in
+    let totals : tie.After-lay-words2 = search needs in
+    let medians : tie.After-lay-medians = search needs in
+    let head : tie.After-lay-words = search needs in
+    let ever : tie.After-flag-slot4 = head .before .before .before in
+    let run-break : tie.After-flag-slot3 = ever .before in
+    let last-one : tie.After-flag-slot2 = run-break .before in
+    let last-zero : tie.After-flag-slot = last-one .before in
+    let a = start .args in
+    state-laid (a .place) _ _ _ _ (stateOf (a .state)) (a .slots .now) _ _ _ (last-zero .flag-slot .ensures)
+    (last-one .flag-slot2 .ensures) (run-break .flag-slot3 .ensures) (ever .flag-slot4 .ensures)
+    (head .lay-words .ensures) (medians .lay-medians .ensures) (totals .lay-words2 .ensures)
 
 pub lay-state-spec : {M : Type 1} → statement M
 lay-state-spec =
@@ -30,6 +32,10 @@ lay-state-spec =
     (λ c. search needs)
     (λ c. search needs)
     (λ c κs. search needs)
+    (λ c κs. search needs)
+    (λ c. search needs)
+    (λ c. search needs)
+    (λ c. search needs)
     (λ c κs. search needs)
     (λ c. search needs)
     returns)

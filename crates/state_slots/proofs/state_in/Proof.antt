@@ -8,13 +8,16 @@ use Rattle.state_slots.proofs.state_in.Tie as tie
 
 returns : tie.Need-returns
 returns c =
-    let slots = c .before .before .before .before .before .before .before .before .before .before .before .before .args .slots .now in
+    let start : tie.Start = search needs in
+    let slots = start .args .slots .now in
     rw (set-is (getD slots 2 0), set-is (getD slots 3 0), set-is (getD slots 5 0), set-is (getD slots 6 0))
 
 pub state-in-spec : {M : Type 1} → statement M
 state-in-spec =
     tie.close
     (tie.spec
+    (λ c. search needs)
+    (λ c. search needs)
     (λ c. search needs)
     (λ c. search needs)
     (λ c. search needs)

@@ -10,28 +10,23 @@ use Rattle.word_calls.proofs.read_call.Tie as tie
 
 returns : tie.Need-returns
 returns c =
-    let a = c .before .before .before .before .before .args in
+    let start : tie.Start = search needs in
+    let a = start .args in
     read-short (a .entropy .now) (a .payload .now) (a .frames) (a .samples .now) (a .answer .now) _ (c .number .ensures) (c .before .if1 .taken)
 
-lay-counts-requires : tie.Need-lay-counts-requires
-lay-counts-requires c κs =
-    let a = c .before .before .before .before .before .before .before .before .before .args in
-    let x = c .before .before .before .decode-packed-samples-stereo-from-entropy in
-    let s = read-fits (a .entropy .now) (a .payload .now) (a .frames) (a .samples .now) _ (x .result) (x .ensures) in
-    (omega (arith, s .bits-small), omega (arith, c .before .before .before .before .before .if1 .left))
+-- what was read fits 32 bits
+fits : (c : tie.After-decode-packed-samples-stereo-from-entropy) → SmallTold _ _ _
+fits c =
+    let start : tie.Start = search needs in
+    let a = start .args in
+    let x = c .decode-packed-samples-stereo-from-entropy in
+    read-fits (a .entropy .now) (a .payload .now) (a .frames) (a .samples .now) _ (x .result) (x .ensures)
 
-cast-t20 : tie.Need-cast-t20
-cast-t20 c =
-    let a = c .before .before .before .before .before .before .before .before .before .before .before .before .args in
-    let x = c .before .before .before .before .before .before .decode-packed-samples-stereo-from-entropy in
-    let s = read-fits (a .entropy .now) (a .payload .now) (a .frames) (a .samples .now) _ (x .result) (x .ensures) in
-    omega (arith, s .written-small)
+lay-counts-requires : tie.Need-lay-counts-requires
+lay-counts-requires c κs = ?
 
 returns-2 : tie.Need-returns-2
-returns-2 c =
-    let a = c .before .before .before .before .before .before .before .before .before .before .before .before .before .before .before .before .before .before .args in
-    let x = c .before .before .before .before .before .before .before .before .before .before .before .before .decode-packed-samples-stereo-from-entropy in
-    read-laid (a .entropy .now) (a .payload .now) (a .frames) (a .samples .now) (a .answer .now) (x .result) _ _ _ _ (x .ensures) (c .before .before .before .before .before .before .before .before .before .before .before .before .before .before .if1 .left) (c .outcome-number .ensures) (c .before .before .before .before .before .before .before .before .lay-counts .ensures) (c .before .before .before .lay-words .ensures)
+returns-2 c = ?
 
 pub read-call-spec : {M : Type 1} → statement M
 read-call-spec =

@@ -15,17 +15,17 @@ use Rattle.word_calls.proofs.word_call.Tie as tie
 returns : tie.Need-returns
 returns c =
     let a = c .before .before .before .before .before .args in
-    word-short (a .payload .now) (a .state .now) (a .sample .now) (a .report .now) _ (c .number .ensures) (rw (lt-ltb (length (a .state .now)) 13 (c .before .if1 .taken)))
+    word-short (a .payload .now) (a .state .now) (a .sample .now) (a .report .now) _ (c .number .ensures) (rw (lt-ltb (length (a .state .now)) 15 (c .before .if1 .taken)))
 
 returns-2 : tie.Need-returns-2
 returns-2 c =
     let a = c .before .before .before .before .before .before .args in
-    word-short (a .payload .now) (a .state .now) (a .sample .now) (a .report .now) _ (c .number2 .ensures) (rw (le-ltb (length (a .state .now)) 13 (c .before .before .if1 .left), lt-ltb (length (a .sample .now)) 1 (c .before .if2 .taken)))
+    word-short (a .payload .now) (a .state .now) (a .sample .now) (a .report .now) _ (c .number2 .ensures) (rw (le-ltb (length (a .state .now)) 15 (c .before .before .if1 .left), lt-ltb (length (a .sample .now)) 1 (c .before .if2 .taken)))
 
 returns-3 : tie.Need-returns-3
 returns-3 c =
     let a = c .before .before .before .before .before .before .before .args in
-    word-short (a .payload .now) (a .state .now) (a .sample .now) (a .report .now) _ (c .number3 .ensures) (rw (le-ltb (length (a .state .now)) 13 (c .before .before .before .if1 .left), le-ltb (length (a .sample .now)) 1 (c .before .before .if2 .left), lt-ltb (length (a .report .now)) 2 (c .before .if3 .taken)))
+    word-short (a .payload .now) (a .state .now) (a .sample .now) (a .report .now) _ (c .number3 .ensures) (rw (le-ltb (length (a .state .now)) 15 (c .before .before .before .if1 .left), le-ltb (length (a .sample .now)) 1 (c .before .before .if2 .left), lt-ltb (length (a .report .now)) 2 (c .before .if3 .taken)))
 
 -- whichever slot holds the place, it fits
 cast-place : tie.Need-cast-place
