@@ -7,7 +7,7 @@ use Prim.Native.Nat.{ℕ, _≤_, _<_}
 use native.Mathlib.Omega.{arith}
 use lib.Dec.{ltb}
 use lib.IntN.{ℤ}
-use lib.ListN.{length}
+use lib.ListN.{length, getD}
 use borrow.Author.Tests.{lt-ltb, le-ltb}
 use Rattle.answers.specs.Numbers.{outcomeNumber}
 use Rattle.overlay.specs.Overlay.{overlay}
@@ -18,6 +18,7 @@ use Rattle.word_state.specs.View.{bitsReadOf}
 use Rattle.samples.specs.View.{viewReading, readEntry}
 use Rattle.one_word.specs.View.{viewWord, oneWord}
 use Rattle.samples.specs.declared.ReadAnswer.{ReadAnswer}
+use Rattle.samples.proofs.ToldBounds.{read-fits}
 use Rattle.one_word.specs.declared.WordAnswer.{WordAnswer}
 use Rattle.median_slots.specs.MedianSlots.{countSlots}
 use Rattle.state_slots.specs.StateSlots.{slotsPlace, slotsState, bitsSlots}
@@ -25,6 +26,13 @@ use Rattle.word_slots.specs.WordSlots.{leaveWord}
 use Rattle.word_calls.specs.Calls.{readCall, wordCall}
 
 -- ---- reading
+
+-- the numbers of an answer that have 32 bits
+pub record CountsFit (x : ReadAnswer) : Type 0 where
+  pub bits : x .bits ≤ 4294967295
+  pub written : x .written ≤ 4294967295
+  pub left : getD (x .«bits_read») 0 0 ≤ 4294967295
+  pub right : getD (x .«bits_read») 1 0 ≤ 4294967295
 
 module _ (entropy payload : List ℕ) (frames : ℕ) (samples : List ℤ) (answer : List ℕ) where
   -- too few slots
@@ -42,6 +50,17 @@ module _ (entropy payload : List ℕ) (frames : ℕ) (samples : List ℤ) (answe
   read-laid x list r first after t h e f g =
       let both = overlay-two answer first after 0 7 (countSlots (x .bits) (pairOf (x .medians))) (x .written ∷ bitsSlots (bitsReadOf (x .«bits_read»))) (omega arith) (omega arith) f g in
       rw (le-ltb (length answer) 10 h, ← t, e, both)
+
+  -- each number that it told fits its slot
+  pub read-counts : (x : ReadAnswer) (list : List ℤ) → viewReading x list ≡ readEntry entropy payload frames samples → CountsFit x
+  read-counts x list t =
+      let s = read-fits entropy payload frames samples list x t in
+      record {
+        bits = omega (arith, s .bits-small);
+        written = omega (arith, s .written-small);
+        left = omega (arith, s .bits-small, s .stems);
+        right = omega (arith, s .bits-small, s .stems);
+      }
 
 -- ---- one word
 
