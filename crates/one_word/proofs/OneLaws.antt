@@ -12,14 +12,14 @@ use lib.ListN.{length, getD}
 use Rattle.answers.specs.Limits.{maxPayloadBytes}
 use Rattle.bits.specs.Bits.{bitsOf}
 use Rattle.entropy.specs.Medians.{mediansOf}
-use Rattle.word_state.specs.State.{State, paid, runDue, exceeds}
+use Rattle.word_state.specs.State.{State, paid, inRun, unbroken, after, runDue, charged, exceeds}
 use Rattle.word_state.specs.View.{stateOf}
 use Rattle.word_state.specs.declared.StereoDecodeState.{StereoDecodeState}
 use Rattle.word_state.proofs.BitsLaws.{charged-none}
 use Rattle.word_state.proofs.StateLaws.{noSet, there, picked}
 use Rattle.words.specs.Word.{Word, given, refused, word}
 use Rattle.words.specs.Parts.{codedWord, CodedIs}
-use Rattle.one_word.specs.View.{tellWord, charge, oneWord}
+use Rattle.one_word.specs.View.{tellWord, charge, bitsTaken, oneWord}
 use Rattle.words.specs.declared.coded.Coded.{Coded}
 use Rattle.zones.specs.Report.{none}
 use Rattle.readings.proofs.WordLaws.{word-paid, word-fresh}
@@ -58,6 +58,14 @@ word-read payload p st run r l n m e c =
     let d = ap mediansOf (there ms (st .«next_channel») m (omega arith)) in
     c .is (stateOf st) (sym (rw (f, g) at e)) (picked ms (st .«next_channel») (omega arith) ∙ sym d) refl refl
     ∙ sym (word-fresh (bitsOf payload) p (stateOf st) n)
+
+-- the steps of a word leave the totals alone, so they may be charged before them
+pub charged-before : (p : ℕ) (s : State) (r : Coded) → codedWord (charged (s .channel) (bitsTaken p r) s) r ≡ charge p s (codedWord s r)
+unfolding charged inRun after unbroken
+charged-before p s (Coded.Run d q) = refl
+charged-before p s (Coded.Sample v k q z o) = refl
+charged-before p s Coded.EndOfStream = refl
+charged-before p s Coded.Truncated = refl
 
 -- a zero that was owed takes nothing
 pub one-paid : (payload : List ℕ) (p : ℕ) (s : State) → length payload ≤ maxPayloadBytes → s .channel ≤ 1

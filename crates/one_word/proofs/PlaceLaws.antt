@@ -23,15 +23,18 @@ use Rattle.fields.specs.declared.Prefix.{Prefix}
 use Rattle.fields.proofs.Local.{fieldEnd}
 use Rattle.fields.proofs.LocalLaws.{truncated-binary-local}
 use Rattle.medians.specs.Interval.{lowOf, highOf}
-use Rattle.word_state.specs.State.{BitsRead, SmallBits, State, side, due, cleared, unbroken, after, runDue, exceeds}
-use Rattle.word_state.specs.View.{bitsReadOf}
+use Rattle.word_state.specs.State.{SmallBits, State, side, due, cleared, unbroken, after, runDue, exceeds}
+use Rattle.word_state.specs.View.{stateOf}
+use Rattle.word_state.specs.declared.StereoDecodeState.{StereoDecodeState}
 use Rattle.word_state.proofs.BitsLaws.{total-of, not-exceeded}
 use Rattle.words.specs.Word.{Word, given, refused, onField, signed, value, plain, fresh, word}
+use Rattle.words.specs.Parts.{codedWord}
+use Rattle.words.specs.declared.coded.Coded.{Coded}
 use Rattle.zones.specs.Report.{Report, zoneOf}
-use Rattle.one_word.specs.View.{WordTold, viewWord, tellWord, charge, oneWord}
+use Rattle.one_word.specs.View.{WordTold, viewWord, tellWord, charge, bitsTaken, Onward, oneWord}
 use Rattle.one_word.specs.declared.WordAnswer.{WordAnswer}
 use Rattle.readings.proofs.WordLaws.{word-paid, word-fresh}
-use Rattle.readings.proofs.LocalLaws.{word-inside}
+use Rattle.readings.proofs.LocalLaws.{word-on, word-inside}
 
 -- the place of a given word; a refused one has none
 abbrev placeOf : Word → ℕ
@@ -123,23 +126,45 @@ total-fits payload p q x s t v z h e l m = go (word-ends (bitsOf payload) p q s 
     go (inside i) = omega (arith, few-bits payload h)
     go (still i) = omega arith
 
--- the total of the channel due, as the code's array holds it, where its state has those that were given
-pub due-fits : (payload : List ℕ) (p q : ℕ) (b : BitsRead) (totals : List ℕ) (s t : State) (v : ℤ) (z : Report)
-    → length payload ≤ maxPayloadBytes → exceeds b p ≡ false → SmallBits b
-    → bitsReadOf totals ≡ b → s .channel < 2 → word (bitsOf payload) p s ≡ given v q t z
-    → getD totals (s .channel) 0 + (q - p) < 4294967296
-due-fits payload p q b totals s t v z h x m e c w =
-    let f : getD totals (s .channel) 0 ≡ side (s .channel) (b .left) (b .right) =
-    total-of totals (s .channel) c ∙ ap (λ (x : BitsRead). side (s .channel) (x .left) (x .right)) e in
-    let low = not-exceeded b p x in
-    let fits = total-fits payload p q (getD totals (s .channel) 0) s t v z h w
-    (rw f (at-most (s .channel) (b .left) (b .right) p (omega arith) (omega arith)))
-    (rw f (at-most (s .channel) (b .left) (b .right) 4294967295 (m .small-left) (m .small-right))) in
-    omega arith
-  where
-    at-most : (c x y n : ℕ) → x ≤ n → y ≤ n → side c x y ≤ n
-    at-most zero x y n i j = i
-    at-most (suc c) x y n i j = j
+-- ---- a word as the code read it
+
+module _ (payload : List ℕ) (p : ℕ) (st : StereoDecodeState) where
+  -- the word ends at its place or after it
+  pub coded-on : (r : Coded) → codedWord (stateOf st) r ≡ word (bitsOf payload) p (stateOf st) → Onward p r
+  coded-on (Coded.Run d q) e = word-on (bitsOf payload) p q (stateOf st) _ _ _ (sym e)
+  coded-on (Coded.Sample v k q z o) e = word-on (bitsOf payload) p q (stateOf st) _ _ _ (sym e)
+  coded-on Coded.EndOfStream e = omega arith
+  coded-on Coded.Truncated e = omega arith
+
+  -- the total of the channel due, as the code's array holds it, and what the word took
+  pub coded-fits : (r : Coded) → codedWord (stateOf st) r ≡ word (bitsOf payload) p (stateOf st)
+      → length payload ≤ maxPayloadBytes → exceeds (stateOf st .bitsRead) p ≡ false → SmallBits (stateOf st .bitsRead)
+      → st .«next_channel» < 2 → getD (st .«bits_read») (st .«next_channel») 0 + bitsTaken p r < 4294967296
+  coded-fits r e h x m c = go r e
+    where
+      due : ℕ
+      due = getD (st .«bits_read») (st .«next_channel») 0
+
+      at-most : (c x y n : ℕ) → x ≤ n → y ≤ n → side c x y ≤ n
+      at-most zero x y n i j = i
+      at-most (suc c) x y n i j = j
+
+      -- it is at most the place, and has 32 bits
+      low : (n : ℕ) → stateOf st .bitsRead .left ≤ n → stateOf st .bitsRead .right ≤ n → due ≤ n
+      low n i j = rw (total-of (st .«bits_read») (st .«next_channel») c) (at-most (st .«next_channel») _ _ n i j)
+
+      some : (q : ℕ) (t : State) (v : ℤ) (z : Report) → word (bitsOf payload) p (stateOf st) ≡ given v q t z → due + (q - p) < 4294967296
+      some q t v z e =
+          let b = not-exceeded (stateOf st .bitsRead) p x in
+          let f = total-fits payload p q due (stateOf st) t v z h e (low p (omega arith) (omega arith))
+          (low 4294967295 (m .small-left) (m .small-right)) in
+          omega arith
+
+      go : (r : Coded) → codedWord (stateOf st) r ≡ word (bitsOf payload) p (stateOf st) → due + bitsTaken p r < 4294967296
+      go (Coded.Run d q) e = some q _ _ _ (sym e)
+      go (Coded.Sample v k q z o) e = some q _ _ _ (sym e)
+      go Coded.EndOfStream e = omega (arith, low 4294967295 (m .small-left) (m .small-right))
+      go Coded.Truncated e = omega (arith, low 4294967295 (m .small-left) (m .small-right))
 
 -- the place after a word that was given a place of 32 bits
 word-fits : (payload : List ℕ) (p : ℕ) (s : State) → p ≤ 4294967295 → oneWord payload p s .place ≤ 4294967295

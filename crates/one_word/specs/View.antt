@@ -2,7 +2,7 @@
 -- Assumes nothing.
 use mathlib.Core.Bool.{cond, _||_}
 use mathlib.Core.List.{List}
-use Prim.Native.Nat.{ℕ, _-_}
+use Prim.Native.Nat.{ℕ, _-_, _≤_}
 use lib.Dec.{ltb}
 use lib.IntN.{ℤ, pos}
 use lib.ListN.{length}
@@ -12,6 +12,7 @@ use Rattle.bits.specs.Bits.{bitsOf}
 use Rattle.word_state.specs.State.{State, charged, exceeds}
 use Rattle.word_state.specs.View.{stateOf}
 use Rattle.words.specs.Word.{Word, given, refused, word}
+use Rattle.words.specs.declared.coded.Coded.{Coded}
 use Rattle.zones.specs.Report.{Report, none, reportOf}
 use Rattle.one_word.specs.declared.WordAnswer.{WordAnswer}
 
@@ -45,3 +46,19 @@ oneWord payload p s =
     tellWord p s
     (cond (ltb maxPayloadBytes (length payload)) (refused 5)
     (cond (ltb 1 (s .channel) || exceeds (s .bitsRead) p) (refused 12) (charge p s (word (bitsOf payload) p s))))
+
+-- ---- for the code alone
+
+-- the bits that a word took, as it was read at p; none where it was refused
+abbrev pub bitsTaken : ℕ → Coded → ℕ
+bitsTaken p (Coded.Run d q) = q - p
+bitsTaken p (Coded.Sample v k q z o) = q - p
+bitsTaken p Coded.EndOfStream = 0
+bitsTaken p Coded.Truncated = 0
+
+-- a word that was read at p ends there or after it
+abbrev pub Onward : ℕ → Coded → Type 0
+Onward p (Coded.Run d q) = p ≤ q
+Onward p (Coded.Sample v k q z o) = p ≤ q
+Onward p Coded.EndOfStream = p ≤ p
+Onward p Coded.Truncated = p ≤ p

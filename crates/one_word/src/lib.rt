@@ -8,7 +8,7 @@ ghost use Rattle.word_state.specs.State.{withFlags, paid, inRun, unbroken, afte
 ghost use Rattle.words.specs.Word.{given, refused};
 ghost use Rattle.word_state.specs.View.{stateOf};
 ghost use Rattle.zones.specs.Report.{none, zoneOf};
-ghost use Rattle.one_word.specs.View.{viewWord, tellWord, oneWord};
+ghost use Rattle.one_word.specs.View.{viewWord, tellWord, bitsTaken, Onward, oneWord};
 use answers::Outcome;
 use answers::Refusal;
 use answers::limits::MAX_PAYLOAD_BYTES;
@@ -133,6 +133,19 @@ fn adapted(
     next
 }
 
+// The bits that a word took, from its place to the next; a refused one takes none.
+fn bits_taken(word: Coded, place: usize) -> usize
+    requires { ⌜ Onward place word ⌝ }
+    ensures { λ r. ⌜ r ≡ bitsTaken place word ⌝ }
+{
+    match word {
+        Coded::Run(_, next) => next - place,
+        Coded::Sample(_, _, next, _, _) => next - place,
+        Coded::EndOfStream => 0,
+        Coded::Truncated => 0,
+    }
+}
+
 // The word at a place of the payload, in any state. What it took counts for the channel due. Refuses
 // with 5 a payload of over 4,194,304 bytes, with 12 a channel above 1 or totals that together exceed the
 // place, then with 3 or 4 what the word runs into; a refusal gives sample 0, the old place, the old state
@@ -164,17 +177,14 @@ pub fn decode_sample_stateful_stereo(
     let one_before = state.last_one;
     let run = zero_run_eligible(sets[0], sets[1], state.run_break, zero_before, one_before);
     let word = read_word(payload, place, run, sets[channel], zero_before, one_before);
+    let counted = charged(state, state.next_channel, bits_taken(word, place));
     match word {
-        Coded::Run(owed, next) => {
-            let after = in_run(state, owed);
-            zero(next, charged(after, state.next_channel, next - place))
-        }
+        Coded::Run(owed, next) => zero(next, in_run(counted, owed)),
         Coded::Sample(sample, ones_count, next, last_zero, last_one) => {
-            let after = adapted(state, ones_count, last_zero, last_one);
             given(
                 sample,
                 next,
-                charged(after, state.next_channel, next - place),
+                adapted(counted, ones_count, last_zero, last_one),
                 ones_count,
             )
         }

@@ -3,9 +3,10 @@
 // that is what is fast. The medians are an array that is indexed by channel. A run is one turn, so that no
 // debt is held.
 ghost use mathlib.Core.Path.{_≡_};
-ghost use Prim.Native.Nat.{_≤_, _<_};
+ghost use Prim.Native.Nat.{_%_, _≤_, _<_};
 ghost use lib.ListN.{length};
 ghost use Rattle.answers.specs.Limits.{maxPayloadBytes};
+ghost use Rattle.word_state.specs.State.{side};
 ghost use Rattle.reading_turns.specs.Zeros.{ZerosIs};
 ghost use Rattle.reading_turns.specs.Turns.{WordAt, leftAfter, AfterRun, AfterSample};
 use entropy::AdaptiveMedians;
@@ -59,16 +60,21 @@ fn put_zeros(out: &mut [i32], first: usize, owed: u32) -> usize
     i
 }
 
-// Left's bits after a word that ends at `next`: what it took counts for the channel due.
+// What a word took, where the left channel was due, and else 0. It does nothing else, so that the choice is
+// no branch: which channel is due where a run ends is as random as a coin.
+fn left_part(written: usize, took: usize) -> usize
+    ensures { λ r. ⌜ r ≡ side (written % 2) took 0 ⌝ }
+{
+    if written % 2 == 0 { took } else { 0 }
+}
+
+// Left's bits after a word that ends at `next`.
 fn left_bits_after(at: Turn, next: usize) -> usize
     requires part { ⌜ at .«left_bits» ≤ at .bits ⌝ }
     requires on { ⌜ at .bits ≤ next ⌝ }
     ensures { λ r. ⌜ r ≡ leftAfter at next ⌝ }
 {
-    if at.written % 2 == 0 {
-        return at.left_bits + (next - at.bits);
-    }
-    at.left_bits
+    at.left_bits + left_part(at.written, next - at.bits)
 }
 
 // After a run: its zeros are written, and no run length stands before the next word.

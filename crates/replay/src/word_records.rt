@@ -8,7 +8,7 @@ use test_support::numbers::read_signed;
 
 // Whether a word, read from the state that a record holds, is refused or given as stored.
 pub fn word_agrees(length: u32, fd: i32) -> bool {
-    let mut state = [0u32; 13];
+    let mut state = [0u32; 15];
     load(fd, &mut state);
     let mut payload = [0u8; 16];
     io::read_full(fd, &mut payload);
@@ -49,7 +49,7 @@ pub fn reading_agrees(length: u32, fd: i32) -> bool {
     let mut payload = [0u8; 48];
     io::read_full(fd, &mut payload);
     let mut samples = [0i32; 32];
-    let mut answer = [0u32; 8];
+    let mut answer = [0u32; 10];
     let refusal = read(
         &entropy,
         part(&payload, length as usize),

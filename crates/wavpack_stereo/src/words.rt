@@ -5,8 +5,8 @@ ghost use mathlib.Core.Path.{_≡_};
 ghost use Rattle.word_calls.specs.Calls.{readCall, wordCall};
 
 // The samples of `frames` frames into `samples`, left then right; bits used, left medians, right
-// medians and samples written into 8 slots of `answer`. Refuses 6 for `answer`, with nothing
-// written; then, with `answer` written, 5, 6, 1, 17, 2, and 3 or 4 in a word.
+// medians, samples written, bits of left and bits of right into 10 slots of `answer`. Refuses 6 for
+// `answer`, with nothing written; then, with `answer` written, 5, 6, 1, 17, 2, and 3 or 4 in a word.
 #[no_mangle]
 pub extern "C" fn wv_read(
     entropy: &[u8],
@@ -24,7 +24,7 @@ pub extern "C" fn wv_read(
     word_calls::read_call(entropy, payload, frames, samples, answer)
 }
 
-// The word at a place of the payload, in the state that the 13 slots of `state` hold; its sample
+// The word at a place of the payload, in the state that the 15 slots of `state` hold; its sample
 // into 1 slot, its report into 2. Refuses 6 for the slots, with nothing written; then 5, 12, 3 or
 // 4, with sample 0, no report, and `state` as it was.
 #[no_mangle]

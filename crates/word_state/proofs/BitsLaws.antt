@@ -1,13 +1,13 @@
 -- Laws of the two totals (document 02, §8): the array that the code holds, and what a word adds.
 -- Assumes nothing.
 use mathlib.Core.Path.{_≡_, refl, ap}
-use mathlib.Core.Bool.{Bool, false}
+use mathlib.Core.Bool.{false}
 use mathlib.Core.List.{List, [], _∷_}
 use Prim.Native.Nat.{ℕ, zero, suc, _+_, _-_, _≤_, _<_}
 use native.Mathlib.Omega.{arith}
 use borrow.Author.Tests.{ltb-false, le-ltb}
 use lib.ListN.{length, getD, set}
-use Rattle.word_state.specs.State.{BitsRead, State, side, withFlags, withBits, inRun, unbroken, after, plusBits, charged, exceeds}
+use Rattle.word_state.specs.State.{BitsRead, State, side, withBits, plusBits, charged, exceeds}
 use Rattle.word_state.specs.View.{bitsReadOf}
 
 -- the total of a channel, replaced in the code's array
@@ -35,6 +35,11 @@ unfolding charged
 charged-none zero p s = ap (λ (n : ℕ). withBits (record { left = n; right = s .bitsRead .right }) s) (omega arith)
 charged-none (suc c) p s = ap (λ (n : ℕ). withBits (record { left = s .bitsRead .left; right = n }) s) (omega arith)
 
+-- and the channel due stays
+pub charged-channel : (c n : ℕ) (s : State) → charged c n s .channel ≡ s .channel
+unfolding charged
+charged-channel c n s = refl
+
 -- the totals together, where they do not exceed a place
 pub not-exceeded : (b : BitsRead) (p : ℕ) → exceeds b p ≡ false → b .left + b .right ≤ p
 unfolding exceeds
@@ -44,13 +49,3 @@ not-exceeded b p e = omega (arith, ltb-false p (b .left + b .right) e)
 pub within-place : (b : BitsRead) (p : ℕ) → b .left + b .right ≤ p → exceeds b p ≡ false
 unfolding exceeds
 within-place b p h = le-ltb p (b .left + b .right) h
-
--- ---- no step of a word touches the totals
-
-pub run-keeps : (d : ℕ) (s : State) → inRun d s .bitsRead ≡ s .bitsRead
-unfolding inRun
-run-keeps d s = refl
-
-pub after-keeps : (k : ℕ) (z o : Bool) (s : State) → after k (withFlags z o (unbroken s)) .bitsRead ≡ s .bitsRead
-unfolding after unbroken
-after-keeps k z o s = refl

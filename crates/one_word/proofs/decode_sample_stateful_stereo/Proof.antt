@@ -5,26 +5,25 @@ use borrow.Author.Needs.{needs}
 use native.Mathlib.Omega.{arith}
 use mathlib.Core.Path.{_≡_, sym, ap, _∙_}
 use mathlib.Core.Bool.{false}
-use Prim.Native.Nat.{_-_, _≤_}
+use Prim.Native.Nat.{ℕ, _<_}
 use denote.Ref.{now}
 use lib.IntN.{pos}
-use lib.ListN.{length, getD}
+use lib.ListN.{length}
 use mir.Facts.{toZ-ofZ}
 use mir.Syntax.{w32}
 use mir.Val.{SFits}
 use Rattle.bits.specs.Bits.{bitsOf}
-use Rattle.word_state.specs.State.{State, withFlags, inRun, unbroken, after, exceeds, charged}
+use Rattle.word_state.specs.State.{State, exceeds, charged}
 use Rattle.word_state.specs.View.{stateOf}
 use Rattle.words.specs.Word.{given, word}
 use Rattle.zones.specs.Report.{none, zoneOf}
 use Rattle.words.specs.Parts.{codedWord}
-use Rattle.one_word.specs.View.{tellWord, charge, oneWord}
+use Rattle.one_word.specs.View.{tellWord, oneWord}
 use Rattle.words.specs.declared.coded.Coded.{Coded}
-use Rattle.word_state.proofs.BitsLaws.{run-keeps, after-keeps}
+use Rattle.word_state.proofs.BitsLaws.{charged-channel}
 use Rattle.word_state.proofs.StateLaws.{length-mapped}
-use Rattle.readings.proofs.LocalLaws.{word-on}
-use Rattle.one_word.proofs.OneLaws.{one-large, one-channel, one-exceeded, one-word, one-paid, word-read}
-use Rattle.one_word.proofs.PlaceLaws.{due-fits}
+use Rattle.one_word.proofs.OneLaws.{one-large, one-channel, one-exceeded, one-word, one-paid, word-read, charged-before}
+use Rattle.one_word.proofs.PlaceLaws.{coded-on, coded-fits}
 use Rattle.one_word.proofs.decode_sample_stateful_stereo.Statement.{statement}
 use Rattle.one_word.proofs.decode_sample_stateful_stereo.Tie as tie
 
@@ -80,111 +79,102 @@ read c =
     let l : length (a .state .medians) ≡ 2 = search (needs, length-mapped) in
     word-read (now (a .payload)) (a .place) (a .state) _ _ (omega arith) (omega arith) l (run .zero-run-eligible .ensures) (c .read-word .ensures)
 
--- and, charged, what the entry tells
-told : (c : tie.After-read-word) → let a = entry c .args in
-    let s = stateOf (a .state) in
-    tellWord (a .place) s (charge (a .place) s (codedWord s (c .read-word .result))) ≡ oneWord (now (a .payload)) (a .place) s
-told c =
-    let start : tie.Start = search needs in
-    let else3 : tie.Else3 = search needs in
-    let a = start .args in
-    one-word (now (a .payload)) (a .place) (stateOf (a .state)) _ (omega arith) (omega arith) (within else3) (read c)
-
--- a run as the word that it is
-run-is : (c : tie.After-word) → let a = entry (c .before .before) .args in
-    let s = stateOf (a .state) in
-    let w = c .word .given .0 in
-    given (pos 0) (w .1 .0) (inRun (w .0) s) none ≡ word (bitsOf (now (a .payload))) (a .place) s
-run-is c = let k = c .before .before in ap (codedWord (stateOf (entry k .args .state))) (sym (c .word .given .1)) ∙ read k
-
--- and a sample
-sample-is : (c : tie.After-word2) → let a = entry (c .before .before) .args in
-    let s = stateOf (a .state) in
-    let w = c .word2 .given .0 in
-    given (w .0) (w .1 .1 .0) (after (w .1 .0) (withFlags (w .1 .1 .1 .0) (w .1 .1 .1 .1 .0) (unbroken s))) (zoneOf (w .1 .0))
-    ≡ word (bitsOf (now (a .payload))) (a .place) s
-sample-is c = let k = c .before .before in ap (codedWord (stateOf (entry k .args .state))) (sym (c .word2 .given .1)) ∙ read k
-
-sub-charged : tie.Need-sub-charged
-sub-charged c =
-    let w : tie.After-word = search needs in
-    word-on _ _ _ _ _ _ _ (sym (run-is w))
+bits-taken-requires : tie.Need-bits-taken-requires
+bits-taken-requires c κs =
+    let k : tie.After-read-word = search needs in
+    let a = entry k .args in
+    coded-on (now (a .payload)) (a .place) (a .state) (k .read-word .result) (read k)
 
 charged-requires : tie.Need-charged-requires
 charged-requires c κs =
-    let w : tie.After-word = search needs in
+    let taken : tie.After-bits-taken = search needs in
+    let k : tie.After-read-word = search needs in
     let else3 : tie.Else3 = search needs in
     let exceed : tie.After-bits-exceed = search needs in
-    let a = tested else3 .args in
+    let a = entry k .args in
+    let fits = coded-fits (now (a .payload)) (a .place) (a .state) (k .read-word .result) (read k) (omega arith) (within else3)
+    (exceed .bits-exceed .ensures .1) (omega arith) in
+    (omega arith, rw (taken .bits-taken .ensures) fits)
+
+-- where the word was read, from where its bits were charged
+abbrev readOf : tie.After-charged → tie.After-read-word
+readOf c = c .before .before
+
+-- the word of the charged state is what the entry tells
+told : (c : tie.After-charged) → let k : tie.After-read-word = readOf c in
+    let a = entry k .args in
     let s = stateOf (a .state) in
-    let kept = ap (λ (t : State). t .bitsRead) (c .in-run .ensures) ∙ run-keeps _ s in (
-      omega arith,
-      due-fits (now (a .payload)) (a .place) _ (s .bitsRead) (c .in-run .result .«bits_read») s _ _ _ (omega arith) (within else3)
-          (exceed .bits-exceed .ensures .1) kept (omega arith) (sym (run-is w)),
-    )
-
-sub-charged-2 : tie.Need-sub-charged-2
-sub-charged-2 c =
-    let w : tie.After-word2 = search needs in
-    word-on _ _ _ _ _ _ _ (sym (sample-is w))
-
-charged-requires-2 : tie.Need-charged-requires-2
-charged-requires-2 c κs =
-    let w : tie.After-word2 = search needs in
+    tellWord (a .place) s (codedWord (stateOf (c .charged .result)) (k .read-word .result)) ≡ oneWord (now (a .payload)) (a .place) s
+told c =
+    let k : tie.After-read-word = readOf c in
     let else3 : tie.Else3 = search needs in
-    let exceed : tie.After-bits-exceed = search needs in
-    let a = tested else3 .args in
+    let taken : tie.After-bits-taken = search needs in
+    let a = entry k .args in
     let s = stateOf (a .state) in
-    let kept = ap (λ (t : State). t .bitsRead) (c .adapted .ensures) ∙ after-keeps _ _ _ s in (
-      omega arith,
-      due-fits (now (a .payload)) (a .place) _ (s .bitsRead) (c .adapted .result .«bits_read») s _ _ _ (omega arith) (within else3)
-          (exceed .bits-exceed .ensures .1) kept (omega arith) (sym (sample-is w)),
-    )
+    let r = k .read-word .result in
+    let e = c .charged .ensures ∙ ap (λ (n : ℕ). charged (s .channel) n s) (taken .bits-taken .ensures) in
+    ap (λ (t : State). tellWord (a .place) s (codedWord t r)) e ∙ ap (tellWord (a .place) s) (charged-before (a .place) s r)
+    ∙ one-word (now (a .payload)) (a .place) s _ (omega arith) (omega arith) (within else3) (read k)
+
+-- the channel due is one of two
+one-of-two : (c : tie.Else3) → stateOf (tested c .args .state) .channel < 2
+one-of-two c = omega arith
+
+-- and stays
+same-channel : (c : tie.After-charged) → stateOf (c .charged .result) .channel ≡ stateOf (entry (readOf c) .args .state) .channel
+same-channel c = ap (λ (t : State). t .channel) (c .charged .ensures) ∙ charged-channel _ _ (stateOf (entry (readOf c) .args .state))
+
+in-run-requires : tie.Need-in-run-requires
+in-run-requires c κs =
+    let k : tie.After-charged = search needs in
+    let else3 : tie.Else3 = search needs in
+    omega (arith, one-of-two else3, same-channel k)
+
+adapted-requires : tie.Need-adapted-requires
+adapted-requires c κs =
+    let k : tie.After-charged = search needs in
+    let else3 : tie.Else3 = search needs in
+    omega (arith, one-of-two else3, same-channel k)
 
 returns-5 : tie.Need-returns-5
 returns-5 c =
-    let k : tie.After-read-word = search needs in
+    let k : tie.After-charged = search needs in
     let y : tie.After-word = search needs in
     let run : tie.After-in-run = search needs in
-    let total : tie.After-charged = search needs in
-    let a = entry k .args in
+    let a = entry (readOf k) .args in
     let s = stateOf (a .state) in
-    let q = y .word .given .0 .1 .0 in
-    let e = total .charged .ensures ∙ ap (λ (t : State). charged (s .channel) (q - a .place) t) (run .in-run .ensures) in
-    c .zero2 .ensures ∙ ap (λ (t : State). tellWord (a .place) s (given (pos 0) q t none)) e
-    ∙ ap (λ (x : Coded). tellWord (a .place) s (charge (a .place) s (codedWord s x))) (sym (y .word .given .1)) ∙ told k
+    let w = y .word .given in
+    c .zero2 .ensures ∙ ap (λ (t : State). tellWord (a .place) s (given (pos 0) (w .0 .1 .0) t none)) (run .in-run .ensures)
+    ∙ ap (λ (x : Coded). tellWord (a .place) s (codedWord (stateOf (k .charged .result)) x)) (sym (w .1)) ∙ told k
 
 returns-6 : tie.Need-returns-6
 returns-6 c =
-    let k : tie.After-read-word = search needs in
+    let k : tie.After-charged = search needs in
     let y : tie.After-word2 = search needs in
     let state : tie.After-adapted = search needs in
-    let total : tie.After-charged2 = search needs in
-    let a = entry k .args in
+    let a = entry (readOf k) .args in
     let s = stateOf (a .state) in
-    let w = y .word2 .given .0 in
-    let q = w .1 .1 .0 in
-    let f : SFits w32 (w .0) = search needs in
-    let e = total .charged2 .ensures ∙ ap (λ (t : State). charged (s .channel) (q - a .place) t) (state .adapted .ensures) in
+    let w = y .word2 .given in
+    let f : SFits w32 (w .0 .0) = search needs in
     rw (toZ-ofZ f) at (c .given .ensures)
-    ∙ ap (λ (t : State). tellWord (a .place) s (given (w .0) q t (zoneOf (w .1 .0)))) e
-    ∙ ap (λ (x : Coded). tellWord (a .place) s (charge (a .place) s (codedWord s x))) (sym (y .word2 .given .1)) ∙ told k
+    ∙ ap (λ (t : State). tellWord (a .place) s (given (w .0 .0) (w .0 .1 .1 .0) t (zoneOf (w .0 .1 .0)))) (state .adapted .ensures)
+    ∙ ap (λ (x : Coded). tellWord (a .place) s (codedWord (stateOf (k .charged .result)) x)) (sym (w .1)) ∙ told k
 
 returns-7 : tie.Need-returns-7
 returns-7 c =
-    let k : tie.After-read-word = search needs in
-    let a = entry k .args in
+    let k : tie.After-charged = search needs in
+    let a = entry (readOf k) .args in
     let s = stateOf (a .state) in
     c .refused4 .ensures
-    ∙ ap (λ (x : Coded). tellWord (a .place) s (charge (a .place) s (codedWord s x))) (sym (c .before .enum-told .given .1)) ∙ told k
+    ∙ ap (λ (x : Coded). tellWord (a .place) s (codedWord (stateOf (k .charged .result)) x)) (sym (c .before .enum-told .given .1)) ∙ told k
 
 returns-8 : tie.Need-returns-8
 returns-8 c =
-    let k : tie.After-read-word = search needs in
-    let a = entry k .args in
+    let k : tie.After-charged = search needs in
+    let a = entry (readOf k) .args in
     let s = stateOf (a .state) in
     c .refused5 .ensures
-    ∙ ap (λ (x : Coded). tellWord (a .place) s (charge (a .place) s (codedWord s x))) (sym (c .before .enum-told2 .given .1)) ∙ told k
+    ∙ ap (λ (x : Coded). tellWord (a .place) s (codedWord (stateOf (k .charged .result)) x)) (sym (c .before .enum-told2 .given .1)) ∙ told k
 
 pub decode-sample-stateful-stereo-spec : {M : Type 1} → statement M
 decode-sample-stateful-stereo-spec =
@@ -208,15 +198,13 @@ decode-sample-stateful-stereo-spec =
     (λ c. search needs)
     (λ c. search needs)
     (λ c κs. search needs)
-    (λ c. search needs)
-    (λ c κs. search needs)
-    sub-charged
+    bits-taken-requires
     charged-requires
+    (λ c. search needs)
+    in-run-requires
     (λ c κs. search needs)
     (λ c. search needs)
-    (λ c κs. search needs)
-    sub-charged-2
-    charged-requires-2
+    adapted-requires
     (λ c κs. search needs)
     (λ c. search needs)
     (λ c κs. search needs)
