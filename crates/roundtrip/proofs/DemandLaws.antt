@@ -9,7 +9,7 @@ use lib.IntN.{ℤ}
 use lib.ListN.{length}
 use Rattle.answers.specs.Limits.{maxFrames, maxPayloadBytes, bytesPerFrame, maxElements}
 use Rattle.entropy.specs.Seed.{acceptsEntropy}
-use Rattle.samples.specs.View.{ReadTold, readEntry}
+use Rattle.samples.specs.View.{readEntry}
 use Rattle.passes.specs.declared.DecorrPass.{DecorrPass}
 use Rattle.passes.specs.Run.{Chain, decorrelated, analysed}
 use Rattle.passes.proofs.RunInverse.{analysed-fit, analysed-length, decorrelated-analysed}
@@ -20,7 +20,7 @@ use Rattle.decorrelation.proofs.Theorems.{Accepted, listed-accepts}
 use Rattle.word_bits.specs.Residuals.{spanned}
 use Rattle.packing.specs.Entry.{PackTold, packedFrom, tellPacking, packEntry, packedBytes}
 use Rattle.packing.proofs.EntryLaws.{packed-is}
-use Rattle.roundtrip.proofs.ReadTrips.{read-what-was-packed}
+use Rattle.roundtrip.proofs.ReadTrips.{ReadBack, read-what-was-packed}
 use Rattle.roundtrip.specs.Demand.{Recording, WellMade, Demand3, Writable, writtenBytes, NoTwoAlike}
 
 module _ (ps : List DecorrPass) (l : List ℤ) (w : WellMade ps) (h : length l ≤ maxElements) where
@@ -76,7 +76,7 @@ module _ (frames : ℕ) (passes : List DecorrPass) (recording : List ℤ) (few :
   -- what is read back is what was found
   pub read-is : (entropy buffer behind : List ℕ) (list : List ℤ) → spanned found ≡ true → acceptsEntropy entropy → bytesPerFrame * frames ≤ length buffer
       → let p = packEntry found entropy frames buffer in length (packedBytes p ++ behind) ≤ maxPayloadBytes → length list ≡ 2 * frames
-      → readEntry entropy (packedBytes p ++ behind) frames list ≡ record { refusal = 0; bits = p .bits; medians = p .medians; written = 2 * frames; list = found }
+      → ReadBack frames found p (readEntry entropy (packedBytes p ++ behind) frames list)
   read-is entropy buffer behind list s a r n l =
       read-what-was-packed found entropy frames buffer behind list (ap (λ (t : PackTold). t .refusal) (writes entropy buffer s a r)) n l
 
@@ -93,14 +93,14 @@ module _ (frames : ℕ) (passes : List DecorrPass) (recording : List ℤ) (few :
     returns = λ entropy buffer behind list s a r n l.
         let t = read-is entropy buffer behind list s a r n l in
         record {
-          read-accepted = ap (λ (q : ReadTold). q .refusal) t;
-          all-read = ap (λ (q : ReadTold). q .written) t;
-          bits-used = ap (λ (q : ReadTold). q .bits) t;
-          medians-after = ap (λ (q : ReadTold). q .medians) t;
-          decorrelation-accepted = ap (λ (q : ReadTold). decorrelation passes (q .list) .refusal) t ∙ ap (λ (q : Answer). q .refusal) decorrelated-is;
-          recording-back = ap (λ (q : ReadTold). decorrelation passes (q .list) .buffer) t ∙ ap (λ (q : Answer). q .buffer) decorrelated-is;
+          read-accepted = t .accepted;
+          all-read = t .all-read;
+          bits-used = t .bits-used;
+          medians-after = t .medians-after;
+          decorrelation-accepted = ap (λ (q : List ℤ). decorrelation passes q .refusal) (t .residuals-back) ∙ ap (λ (q : Answer). q .refusal) decorrelated-is;
+          recording-back = ap (λ (q : List ℤ). decorrelation passes q .buffer) (t .residuals-back) ∙ ap (λ (q : Answer). q .buffer) decorrelated-is;
           pass-states =
-              ap (λ (q : ReadTold). decorrelation passes (q .list) .passes) t ∙ ap (λ (q : Answer). q .passes) decorrelated-is
+              ap (λ (q : List ℤ). decorrelation passes q .passes) (t .residuals-back) ∙ ap (λ (q : Answer). q .passes) decorrelated-is
               ∙ sym (ap (λ (q : Answer). q .passes) analysed-is);
         };
   }

@@ -19,7 +19,7 @@ use Rattle.entropy.specs.Seed.{seedRefusal, seedMedians}
 use Rattle.word_state.specs.State.{State, start}
 use Rattle.readings.specs.Reading.{reading}
 use Rattle.readings.specs.Refused.{Why}
-use Rattle.samples.specs.View.{ReadTold, tellReading, readRefusal, refuseReading, readEntry}
+use Rattle.samples.specs.View.{ReadTold, readWords, readRefusal, refuseReading, readEntry}
 use Rattle.readings.proofs.RefusalLaws.{reading-why}
 use Rattle.word_bits.specs.Residuals.{spanned}
 use Rattle.packing.specs.Entry.{PackTold, refusePacking, tellPacking, packedFrom, packEntry}
@@ -58,9 +58,7 @@ module _ (n : ℕ) (own : payloads n ≡ true) where
 
   module _ (entropy payload : List ℕ) (frames : ℕ) (list : List ℤ) where
     words : ReadTold
-    words =
-        let m = seedMedians entropy in
-        tellReading list (reading (bitsOf payload) (2 * frames) 0 (start (m .left) (m .right)))
+    words = readWords payload (seedMedians entropy) (2 * frames) list
 
     -- it comes of the payload, with lengths in order
     reading-payload : readEntry entropy payload frames list .refusal ≡ n

@@ -15,7 +15,6 @@ use Rattle.answers.specs.Limits.{maxElements, maxPayloadBytes, maxWordBits}
 use Rattle.answers.specs.Numbers.{outcomeNumber}
 use Rattle.answers.proofs.GuardLaws.{guard-refused, guard-accepted}
 use Rattle.answers.proofs.NumberLaws.{number-positive}
-use Rattle.samples.specs.View.{ReadTold, readEntry}
 use Rattle.passes.specs.declared.DecorrPass.{DecorrPass}
 use Rattle.passes.specs.Run.{Fit, Chain, decorrelated}
 use Rattle.passes.proofs.RunInverse.{analysed-length, decorrelated-analysed}
@@ -27,11 +26,11 @@ use Rattle.packing.specs.Entry.{PackTold, viewPacking, refusalBeforeSpan, spanR
 use Rattle.packing.specs.declared.PackAnswer.{PackAnswer}
 use Rattle.packing.proofs.EntryLaws.{refusal-is, pack-refused, span-decides, packing-accepted, bytes-few, bits-within, bits-few}
 use Rattle.packing.proofs.RefusalLaws.{Ready, ready}
-use Rattle.trip_steps.specs.Steps.{earlyRefusal, cameBack, readBack, samplesBack, BackIs}
+use Rattle.trip_steps.specs.Steps.{earlyRefusal, cameBack, readBack, BackIs}
 use Rattle.trip_entry.specs.declared.TripAnswer.{TripAnswer}
 use Rattle.trip_entry.specs.Trip.{TripTold, viewTrip, refuseTrip, tellTrip}
 use Rattle.trip_entry.specs.Trip.{tripRefusal, found, tripEntry, TripRefuses}
-use Rattle.roundtrip.proofs.ReadTrips.{read-what-was-packed}
+use Rattle.roundtrip.proofs.ReadTrips.{ReadBack, read-what-was-packed}
 
 -- ---- the early tests
 
@@ -149,8 +148,7 @@ module _ (ps : List DecorrPass) (n : ℕ) (x : List ℤ) (entropy : List ℕ) (s
 
   -- what was packed is read back
   reads-back : (v : List ℤ) → let p = packEntry v entropy (length x / 2) buffer in p .refusal ≡ 0
-      → readBack entropy (packedBytes p) x v
-      ≡ record { refusal = 0; bits = p .bits; medians = p .medians; written = 2 * (length x / 2); list = v }
+      → ReadBack (length x / 2) v p (readBack entropy (packedBytes p) x v)
   reads-back v P =
       let f₀ = length x / 2 in
       let p = packEntry v entropy f₀ buffer in
@@ -158,8 +156,7 @@ module _ (ps : List DecorrPass) (n : ℕ) (x : List ℤ) (entropy : List ℕ) (s
       let few = bytes-few v entropy f₀ buffer acc in
       let limit : length (packedBytes p ++ []) ≤ maxPayloadBytes =
       rw (append-nil (packedBytes p)) (omega (arith, few, acc .before .frames-few)) in
-      ap (λ (t : List ℕ). readEntry entropy t f₀ v) (sym (append-nil (packedBytes p)))
-      ∙ read-what-was-packed v entropy f₀ buffer [] v P limit (acc .before .list-is)
+      rw (append-nil (packedBytes p)) at (read-what-was-packed v entropy f₀ buffer [] v P limit (acc .before .list-is))
 
   -- and decorrelated to the recording
   samples-back : (v : List ℤ) → Fit x → Found v
@@ -189,15 +186,15 @@ module _ (ps : List DecorrPass) (n : ℕ) (x : List ℤ) (entropy : List ℕ) (s
       let P : p .refusal ≡ 0 = sym (ap (λ (t : PackTold). t .refusal) k) ∙ ap outcomeNumber u in
       let B : w .bits ≡ p .bits = ap (λ (t : PackTold). t .bits) k in
       let acc = packing-accepted v entropy f₀ buffer P in
-      let R = ap (λ (t : List ℕ). readBack entropy t x v) (b ∙ ap packedBytes k) ∙ reads-back v P in
+      let R = subst (λ (t : List ℕ). ReadBack f₀ v p (readBack entropy t x v)) (sym (b ∙ ap packedBytes k)) (reads-back v P) in
       let S = samples-back v fit f in
-      let D = ap (samplesBack ps n) R ∙ S .0 in
+      let D = ap (λ (l : List ℤ). arrayAnswer Decorrelation ps n l) (R .residuals-back) ∙ S .0 in
       let back : y ≡ x = i .leaves ∙ ap (λ (t : Answer). t .buffer) D ∙ S .1 in
-      let used = ap (λ (t : ReadTold). t .bits) R ∙ sym B in
+      let used = R .bits-used ∙ sym B in
       let as-many = eq-eqb (readBack entropy payload x v .bits) (w .bits) used in
       let same : r .same ≡ true =
       i .told
-      ∙ rw (ap (λ (t : ReadTold). t .refusal) R, ap (λ (t : Answer). t .refusal) D, as-many)
+      ∙ rw (R .accepted, ap (λ (t : Answer). t .refusal) D, as-many)
       (i .equal-is .told (sym back)) in
       let v₀ = found ps n x in
       let s : spanRefusal v₀ ≡ 0 = rw (← f .is, acc .span) in
