@@ -12,7 +12,7 @@ use lib.ListN.{length, getD}
 use Rattle.answers.specs.Limits.{maxPayloadBytes}
 use Rattle.bits.specs.Bits.{bitsOf}
 use Rattle.entropy.specs.Medians.{mediansOf}
-use Rattle.word_state.specs.State.{State, paid, inRun, unbroken, after, runDue, charged, exceeds}
+use Rattle.word_state.specs.State.{State, withBits, paid, inRun, unbroken, after, runDue, plusBits, charged, exceeds}
 use Rattle.word_state.specs.View.{stateOf}
 use Rattle.word_state.specs.declared.StereoDecodeState.{StereoDecodeState}
 use Rattle.word_state.proofs.BitsLaws.{charged-none}
@@ -60,7 +60,7 @@ word-read payload p st run r l n m e c =
     ∙ sym (word-fresh (bitsOf payload) p (stateOf st) n)
 
 -- the steps of a word leave the totals alone, so they may be charged before them
-pub charged-before : (p : ℕ) (s : State) (r : Coded) → codedWord (charged (s .channel) (bitsTaken p r) s) r ≡ charge p s (codedWord s r)
+pub charged-before : (p : ℕ) (s : State) (r : Coded) → codedWord (withBits (plusBits (s .channel) (bitsTaken p r) (s .bitsRead)) s) r ≡ charge p s (codedWord s r)
 unfolding charged inRun after unbroken
 charged-before p s (Coded.Run d q) = refl
 charged-before p s (Coded.Sample v k q z o) = refl

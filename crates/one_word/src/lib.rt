@@ -4,9 +4,9 @@ ghost use mathlib.Core.Path.{_≡_};
 ghost use Prim.Native.Nat.{_<_};
 ghost use lib.IntN.{pos};
 ghost use Rattle.answers.specs.Numbers.{numberOf};
-ghost use Rattle.word_state.specs.State.{withFlags, paid, inRun, unbroken, after};
+ghost use Rattle.word_state.specs.State.{withFlags, withBits, paid, inRun, unbroken, after};
 ghost use Rattle.words.specs.Word.{given, refused};
-ghost use Rattle.word_state.specs.View.{stateOf};
+ghost use Rattle.word_state.specs.View.{stateOf, bitsReadOf};
 ghost use Rattle.zones.specs.Report.{none, zoneOf};
 ghost use Rattle.one_word.specs.View.{viewWord, tellWord, bitsTaken, Onward, oneWord};
 use answers::Outcome;
@@ -93,10 +93,10 @@ fn paid(state: StereoDecodeState, owed: u32) -> StereoDecodeState
     next
 }
 
-// Step 2: the first zero of a run, after which `owed` are left.
-fn in_run(state: StereoDecodeState, owed: u32) -> StereoDecodeState
+// Step 2: the first zero of a run, after which `owed` are left, and the totals with its bits.
+fn in_run(state: StereoDecodeState, totals: [u32; 2], owed: u32) -> StereoDecodeState
     requires { ⌜ state .«next_channel» < 2 ⌝ }
-    ensures { λ r. ⌜ stateOf r ≡ inRun owed (stateOf state) ⌝ }
+    ensures { λ r. ⌜ stateOf r ≡ inRun owed (withBits (bitsReadOf totals) (stateOf state)) ⌝ }
 {
     let none = AdaptiveMedians { values: [0, 0, 0] };
     let medians = [none, none];
@@ -106,12 +106,15 @@ fn in_run(state: StereoDecodeState, owed: u32) -> StereoDecodeState
     next.run_break = true;
     next.ever_took_zero_run = true;
     next.next_channel = 1 - state.next_channel;
+    next.bits_read = totals;
     next
 }
 
-// Steps 3 and 4: the flags after a word, and the medians due adapted to its count.
+// Steps 3 and 4: the flags after a word, the medians due adapted to its count, and the totals with its
+// bits.
 fn adapted(
     state: StereoDecodeState,
+    totals: [u32; 2],
     ones_count: u32,
     last_zero: bool,
     last_one: bool,
@@ -119,7 +122,8 @@ fn adapted(
     requires { ⌜ state .«next_channel» < 2 ⌝ }
     ensures { λ r.
         ⌜ stateOf r
-        ≡ after «ones_count» (withFlags «last_zero» «last_one» (unbroken (stateOf state))) ⌝ }
+        ≡ after «ones_count»
+        (withFlags «last_zero» «last_one» (unbroken (withBits (bitsReadOf totals) (stateOf state)))) ⌝ }
 {
     let channel = state.next_channel as usize;
     let mut medians = state.medians;
@@ -130,6 +134,7 @@ fn adapted(
     next.last_one = last_one;
     next.run_break = false;
     next.next_channel = 1 - state.next_channel;
+    next.bits_read = totals;
     next
 }
 
@@ -163,8 +168,8 @@ pub fn decode_sample_stateful_stereo(
     if state.next_channel > 1 {
         return refused(Refusal::InvalidChannel, place, state);
     }
-    let totals = state.bits_read;
-    if bits_exceed(totals, place) {
+    let before = state.bits_read;
+    if bits_exceed(before, place) {
         return refused(Refusal::InvalidChannel, place, state);
     }
     let debt = state.zero_run_pending;
@@ -177,14 +182,14 @@ pub fn decode_sample_stateful_stereo(
     let one_before = state.last_one;
     let run = zero_run_eligible(sets[0], sets[1], state.run_break, zero_before, one_before);
     let word = read_word(payload, place, run, sets[channel], zero_before, one_before);
-    let counted = charged(state, state.next_channel, bits_taken(word, place));
+    let totals = charged(before, state.next_channel, bits_taken(word, place));
     match word {
-        Coded::Run(owed, next) => zero(next, in_run(counted, owed)),
+        Coded::Run(owed, next) => zero(next, in_run(state, totals, owed)),
         Coded::Sample(sample, ones_count, next, last_zero, last_one) => {
             given(
                 sample,
                 next,
-                adapted(counted, ones_count, last_zero, last_one),
+                adapted(state, totals, ones_count, last_zero, last_one),
                 ones_count,
             )
         }

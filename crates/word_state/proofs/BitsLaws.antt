@@ -35,11 +35,6 @@ unfolding charged
 charged-none zero p s = ap (λ (n : ℕ). withBits (record { left = n; right = s .bitsRead .right }) s) (omega arith)
 charged-none (suc c) p s = ap (λ (n : ℕ). withBits (record { left = s .bitsRead .left; right = n }) s) (omega arith)
 
--- and the channel due stays
-pub charged-channel : (c n : ℕ) (s : State) → charged c n s .channel ≡ s .channel
-unfolding charged
-charged-channel c n s = refl
-
 -- the totals together, where they do not exceed a place
 pub not-exceeded : (b : BitsRead) (p : ℕ) → exceeds b p ≡ false → b .left + b .right ≤ p
 unfolding exceeds

@@ -6,8 +6,8 @@ ghost use mathlib.Core.Bool.{not, _&&_};
 ghost use Rattle.entropy.specs.Medians.{mediansOf};
 ghost use Prim.Native.Nat.{_+_, _<_};
 ghost use lib.ListN.{getD};
-ghost use Rattle.word_state.specs.State.{runDue, SmallBits, charged, exceeds};
-ghost use Rattle.word_state.specs.View.{stateOf, bitsReadOf};
+ghost use Rattle.word_state.specs.State.{runDue, SmallBits, plusBits, exceeds};
+ghost use Rattle.word_state.specs.View.{bitsReadOf};
 use entropy::AdaptiveMedians;
 use wrapping::casts::u32_to_usize;
 
@@ -62,16 +62,14 @@ pub fn bits_exceed(bits_read: [u32; 2], place: usize) -> bool
     u32_to_usize(bits_read[0]) + u32_to_usize(bits_read[1]) > place
 }
 
-// The state with what a word took counted for the channel that was due.
-pub fn charged(state: StereoDecodeState, channel: u32, took: usize) -> StereoDecodeState
+// The totals with what a word took counted for the channel that was due.
+pub fn charged(bits_read: [u32; 2], channel: u32, took: usize) -> [u32; 2]
     requires channel { ⌜ channel < 2 ⌝ }
-    requires fits { ⌜ getD (state .«bits_read») channel 0 + took < 4294967296 ⌝ }
-    ensures { λ r. ⌜ stateOf r ≡ charged channel took (stateOf state) ⌝ }
+    requires fits { ⌜ getD «bits_read» channel 0 + took < 4294967296 ⌝ }
+    ensures { λ r. ⌜ bitsReadOf r ≡ plusBits channel took (bitsReadOf «bits_read») ⌝ }
 {
     let due = channel as usize;
-    let mut bits = state.bits_read;
-    bits[due] = bits[due] + took as u32;
-    let mut next = state;
-    next.bits_read = bits;
-    next
+    let mut totals = bits_read;
+    totals[due] = totals[due] + took as u32;
+    totals
 }

@@ -5,7 +5,7 @@ use borrow.Author.Needs.{needs}
 use native.Mathlib.Omega.{arith}
 use mathlib.Core.Path.{_≡_, sym, ap, _∙_}
 use mathlib.Core.Bool.{false}
-use Prim.Native.Nat.{ℕ, _<_}
+use Prim.Native.Nat.{ℕ}
 use denote.Ref.{now}
 use lib.IntN.{pos}
 use lib.ListN.{length}
@@ -13,14 +13,13 @@ use mir.Facts.{toZ-ofZ}
 use mir.Syntax.{w32}
 use mir.Val.{SFits}
 use Rattle.bits.specs.Bits.{bitsOf}
-use Rattle.word_state.specs.State.{State, exceeds, charged}
-use Rattle.word_state.specs.View.{stateOf}
+use Rattle.word_state.specs.State.{BitsRead, State, withBits, plusBits, exceeds}
+use Rattle.word_state.specs.View.{stateOf, bitsReadOf}
 use Rattle.words.specs.Word.{given, word}
 use Rattle.zones.specs.Report.{none, zoneOf}
 use Rattle.words.specs.Parts.{codedWord}
 use Rattle.one_word.specs.View.{tellWord, oneWord}
 use Rattle.words.specs.declared.coded.Coded.{Coded}
-use Rattle.word_state.proofs.BitsLaws.{charged-channel}
 use Rattle.word_state.proofs.StateLaws.{length-mapped}
 use Rattle.one_word.proofs.OneLaws.{one-large, one-channel, one-exceeded, one-word, one-paid, word-read, charged-before}
 use Rattle.one_word.proofs.PlaceLaws.{coded-on, coded-fits}
@@ -100,11 +99,11 @@ charged-requires c κs =
 abbrev readOf : tie.After-charged → tie.After-read-word
 readOf c = c .before .before
 
--- the word of the charged state is what the entry tells
+-- the word of the state with the totals after it is what the entry tells
 told : (c : tie.After-charged) → let k : tie.After-read-word = readOf c in
     let a = entry k .args in
     let s = stateOf (a .state) in
-    tellWord (a .place) s (codedWord (stateOf (c .charged .result)) (k .read-word .result)) ≡ oneWord (now (a .payload)) (a .place) s
+    tellWord (a .place) s (codedWord (withBits (bitsReadOf (c .charged .result)) s) (k .read-word .result)) ≡ oneWord (now (a .payload)) (a .place) s
 told c =
     let k : tie.After-read-word = readOf c in
     let else3 : tie.Else3 = search needs in
@@ -112,29 +111,9 @@ told c =
     let a = entry k .args in
     let s = stateOf (a .state) in
     let r = k .read-word .result in
-    let e = c .charged .ensures ∙ ap (λ (n : ℕ). charged (s .channel) n s) (taken .bits-taken .ensures) in
-    ap (λ (t : State). tellWord (a .place) s (codedWord t r)) e ∙ ap (tellWord (a .place) s) (charged-before (a .place) s r)
+    let e = c .charged .ensures ∙ ap (λ (n : ℕ). plusBits (s .channel) n (s .bitsRead)) (taken .bits-taken .ensures) in
+    ap (λ (b : BitsRead). tellWord (a .place) s (codedWord (withBits b s) r)) e ∙ ap (tellWord (a .place) s) (charged-before (a .place) s r)
     ∙ one-word (now (a .payload)) (a .place) s _ (omega arith) (omega arith) (within else3) (read k)
-
--- the channel due is one of two
-one-of-two : (c : tie.Else3) → stateOf (tested c .args .state) .channel < 2
-one-of-two c = omega arith
-
--- and stays
-same-channel : (c : tie.After-charged) → stateOf (c .charged .result) .channel ≡ stateOf (entry (readOf c) .args .state) .channel
-same-channel c = ap (λ (t : State). t .channel) (c .charged .ensures) ∙ charged-channel _ _ (stateOf (entry (readOf c) .args .state))
-
-in-run-requires : tie.Need-in-run-requires
-in-run-requires c κs =
-    let k : tie.After-charged = search needs in
-    let else3 : tie.Else3 = search needs in
-    omega (arith, one-of-two else3, same-channel k)
-
-adapted-requires : tie.Need-adapted-requires
-adapted-requires c κs =
-    let k : tie.After-charged = search needs in
-    let else3 : tie.Else3 = search needs in
-    omega (arith, one-of-two else3, same-channel k)
 
 returns-5 : tie.Need-returns-5
 returns-5 c =
@@ -145,7 +124,7 @@ returns-5 c =
     let s = stateOf (a .state) in
     let w = y .word .given in
     c .zero2 .ensures ∙ ap (λ (t : State). tellWord (a .place) s (given (pos 0) (w .0 .1 .0) t none)) (run .in-run .ensures)
-    ∙ ap (λ (x : Coded). tellWord (a .place) s (codedWord (stateOf (k .charged .result)) x)) (sym (w .1)) ∙ told k
+    ∙ ap (λ (x : Coded). tellWord (a .place) s (codedWord (withBits (bitsReadOf (k .charged .result)) s) x)) (sym (w .1)) ∙ told k
 
 returns-6 : tie.Need-returns-6
 returns-6 c =
@@ -158,7 +137,7 @@ returns-6 c =
     let f : SFits w32 (w .0 .0) = search needs in
     rw (toZ-ofZ f) at (c .given .ensures)
     ∙ ap (λ (t : State). tellWord (a .place) s (given (w .0 .0) (w .0 .1 .1 .0) t (zoneOf (w .0 .1 .0)))) (state .adapted .ensures)
-    ∙ ap (λ (x : Coded). tellWord (a .place) s (codedWord (stateOf (k .charged .result)) x)) (sym (w .1)) ∙ told k
+    ∙ ap (λ (x : Coded). tellWord (a .place) s (codedWord (withBits (bitsReadOf (k .charged .result)) s) x)) (sym (w .1)) ∙ told k
 
 returns-7 : tie.Need-returns-7
 returns-7 c =
@@ -166,7 +145,7 @@ returns-7 c =
     let a = entry (readOf k) .args in
     let s = stateOf (a .state) in
     c .refused4 .ensures
-    ∙ ap (λ (x : Coded). tellWord (a .place) s (codedWord (stateOf (k .charged .result)) x)) (sym (c .before .enum-told .given .1)) ∙ told k
+    ∙ ap (λ (x : Coded). tellWord (a .place) s (codedWord (withBits (bitsReadOf (k .charged .result)) s) x)) (sym (c .before .enum-told .given .1)) ∙ told k
 
 returns-8 : tie.Need-returns-8
 returns-8 c =
@@ -174,7 +153,7 @@ returns-8 c =
     let a = entry (readOf k) .args in
     let s = stateOf (a .state) in
     c .refused5 .ensures
-    ∙ ap (λ (x : Coded). tellWord (a .place) s (codedWord (stateOf (k .charged .result)) x)) (sym (c .before .enum-told2 .given .1)) ∙ told k
+    ∙ ap (λ (x : Coded). tellWord (a .place) s (codedWord (withBits (bitsReadOf (k .charged .result)) s) x)) (sym (c .before .enum-told2 .given .1)) ∙ told k
 
 pub decode-sample-stateful-stereo-spec : {M : Type 1} → statement M
 decode-sample-stateful-stereo-spec =
@@ -201,10 +180,10 @@ decode-sample-stateful-stereo-spec =
     bits-taken-requires
     charged-requires
     (λ c. search needs)
-    in-run-requires
+    (λ c κs. search needs)
     (λ c κs. search needs)
     (λ c. search needs)
-    adapted-requires
+    (λ c κs. search needs)
     (λ c κs. search needs)
     (λ c. search needs)
     (λ c κs. search needs)
