@@ -6,4 +6,6 @@ pub mod StandingLaws
 pub mod RefusalLaws
 pub mod LocalLaws
 pub mod CostLaws
+pub mod EveryLaws
+pub mod TotalLaws
 pub mod WordBounds

@@ -23,32 +23,25 @@ use Rattle.word_state.specs.State.{State, due, paid, inRun, unbroken, cleared, 
 use Rattle.words.specs.Word.{Word, given, refused, signed, onField, onPrefix, value, plain, fresh, word}
 use Rattle.zones.specs.Report.{none, zoneOf}
 use Rattle.readings.specs.Reading.{Reading, onWord, more, reading}
+use Rattle.readings.proofs.EveryLaws.{Every, every-field, every-prefix, every-cond, every-zeros}
 
 -- ---- one word
 
 -- a word that gives a 32-bit number, or is refused with at most 4
 abbrev SmallWord : Word → Type 0
-SmallWord (given v q t z) = mag v < 2147483648
-SmallWord (refused c) = c ≤ 4
+SmallWord = Every (λ v q t. mag v < 2147483648) (λ c. c ≤ 4)
 
--- a field or a prefix, and the word that follows from it
-small-field : (f : Field) (next : ℕ → ℕ → Word) → ((v q : ℕ) → f ≡ Value v q → SmallWord (next v q)) → SmallWord (onField f next)
-small-field (Value v q) next k = k v q refl
-small-field Truncated next k = omega arith
+abbrev small-field : (f : Field) (next : ℕ → ℕ → Word) → ((v q : ℕ) → f ≡ Value v q → SmallWord (next v q)) → SmallWord (onField f next)
+small-field = every-field (λ v q t. mag v < 2147483648) (λ c. c ≤ 4) (omega arith)
 
-small-prefix : (f : Prefix) (next : ℕ → ℕ → Word) → ((v q : ℕ) → SmallWord (next v q)) → SmallWord (onPrefix f next)
-small-prefix (Prefix.Value v q) next k = k v q
-small-prefix Prefix.EndOfStream next k = omega arith
-small-prefix Prefix.Truncated next k = omega arith
+abbrev small-prefix : (f : Prefix) (next : ℕ → ℕ → Word) → ((v q : ℕ) → SmallWord (next v q)) → SmallWord (onPrefix f next)
+small-prefix = every-prefix (λ v q t. mag v < 2147483648) (λ c. c ≤ 4) (omega arith) (omega arith)
 
--- of two words, whichever
-small-cond : (t : Bool) (a b : Word) → SmallWord a → SmallWord b → SmallWord (cond t a b)
-small-cond true a b x y = x
-small-cond false a b x y = y
+abbrev small-cond : (t : Bool) (a b : Word) → SmallWord a → SmallWord b → SmallWord (cond t a b)
+small-cond = every-cond (λ v q t. mag v < 2147483648) (λ c. c ≤ 4) (omega arith)
 
-small-zeros : (n : ℕ) (a : ℕ → Word) (b : Word) → ((d : ℕ) → SmallWord (a d)) → SmallWord b → SmallWord (onZeros n a b)
-small-zeros zero a b x y = y
-small-zeros (suc d) a b x y = x d
+abbrev small-zeros : (n : ℕ) (a : ℕ → Word) (b : Word) → ((d : ℕ) → SmallWord (a d)) → SmallWord b → SmallWord (onZeros n a b)
+small-zeros = every-zeros (λ v q t. mag v < 2147483648) (λ c. c ≤ 4) (omega arith)
 
 -- the sign bit leaves the magnitude
 signed-mag : (t v : ℕ) → mag (signed t v) ≡ v
