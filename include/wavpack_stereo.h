@@ -29,9 +29,9 @@ extern "C" {
 #endif
 
 /* The version of this header, and of the Rust bindings. */
-#define WV_VERSION "0.2.0"
+#define WV_VERSION "0.3.0"
 #define WV_VERSION_MAJOR 0
-#define WV_VERSION_MINOR 2
+#define WV_VERSION_MINOR 3
 #define WV_VERSION_PATCH 0
 
 /* Limits: more is refused with WV_TOO_LARGE, and more passes with WV_TOO_MANY_PASSES. An element is a

@@ -3,11 +3,11 @@
 use mathlib.Core.Path.{_≡_, refl, sym, ap, _∙_}
 use mathlib.Core.Bool.{Bool, true, false, cond, not, _&&_, _||_, or-true}
 use mathlib.Core.List.{List}
-use Prim.Native.Nat.{ℕ, _-_, _≤_, _<_}
+use Prim.Native.Nat.{ℕ, _+_, _-_, _≤_, _<_}
 use native.Mathlib.Omega.{arith}
-use borrow.Author.Tests.{lt-ltb, le-ltb}
+use borrow.Author.Tests.{lt-ltb, le-ltb, ltb-false}
 use lib.Dec.{ltb}
-use lib.IntN.{pos}
+use lib.IntN.{ℤ, pos}
 use lib.ListN.{length, getD}
 use Rattle.answers.specs.Limits.{maxPayloadBytes}
 use Rattle.bits.specs.Bits.{bitsOf}
@@ -15,13 +15,14 @@ use Rattle.entropy.specs.Medians.{mediansOf}
 use Rattle.word_state.specs.State.{State, withBits, paid, inRun, unbroken, after, runDue, plusBits, charged, exceeds}
 use Rattle.word_state.specs.View.{stateOf}
 use Rattle.word_state.specs.declared.StereoDecodeState.{StereoDecodeState}
-use Rattle.word_state.proofs.BitsLaws.{charged-none}
+use Rattle.word_state.proofs.BitsLaws.{charged-none, not-exceeded}
 use Rattle.word_state.proofs.StateLaws.{noSet, there, picked}
 use Rattle.words.specs.Word.{Word, given, refused, word}
 use Rattle.words.specs.Parts.{codedWord, CodedIs}
-use Rattle.one_word.specs.View.{tellWord, charge, bitsTaken, oneWord}
+use Rattle.one_word.specs.View.{WordTold, tellWord, charge, bitsTaken, oneWord}
 use Rattle.words.specs.declared.coded.Coded.{Coded}
-use Rattle.zones.specs.Report.{none}
+use Rattle.zones.specs.Report.{Report, none}
+use Rattle.readings.proofs.RefusalLaws.{word-refused}
 use Rattle.readings.proofs.WordLaws.{word-paid, word-fresh}
 
 -- a payload that is too large
@@ -88,3 +89,41 @@ refused-keeps payload p s n =
     go false true w n = (refl, refl)
     go false false (given v q t z) n = absurd (n refl)
     go false false (refused c) n = (refl, refl)
+
+-- an accepted word: nothing was to refuse, and the word at the place was given and charged
+pub record Accepted (payload : List ℕ) (p : ℕ) (s : State) : Type 0 where
+  pub few : length payload ≤ maxPayloadBytes
+  pub channel : s .channel ≤ 1
+  pub within : s .bitsRead .left + s .bitsRead .right ≤ p
+  pub sample : ℤ
+  pub next : ℕ
+  pub after : State
+  pub report : Report
+  pub is : word (bitsOf payload) p s ≡ given sample next after report
+  pub told : oneWord payload p s ≡ tellWord p s (charge p s (given sample next after report))
+
+pub one-accepted : (payload : List ℕ) (p : ℕ) (s : State) → oneWord payload p s .refusal ≡ 0 → Accepted payload p s
+unfolding oneWord
+one-accepted payload p s e =
+    go (ltb maxPayloadBytes (length payload)) (ltb 1 (s .channel)) (exceeds (s .bitsRead) p) (word (bitsOf payload) p s) refl refl refl refl e
+  where
+    told : Bool → Bool → Bool → Word → WordTold
+    told a b c w = tellWord p s (cond a (refused 5) (cond (b || c) (refused 12) (charge p s w)))
+
+    go : (a b c : Bool) (w : Word) → ltb maxPayloadBytes (length payload) ≡ a → ltb 1 (s .channel) ≡ b → exceeds (s .bitsRead) p ≡ c
+        → word (bitsOf payload) p s ≡ w → told a b c w .refusal ≡ 0 → Accepted payload p s
+    go true b c w i j k f e = absurd (omega arith)
+    go false true c w i j k f e = absurd (omega arith)
+    go false false true w i j k f e = absurd (omega arith)
+    go false false false (given v q t z) i j k f e = record {
+      few = omega (arith, ltb-false maxPayloadBytes (length payload) i);
+      channel = omega (arith, ltb-false 1 (s .channel) j);
+      within = not-exceeded (s .bitsRead) p k;
+      sample = v;
+      next = q;
+      after = t;
+      report = z;
+      is = f;
+      told = rw (i, j, k, f);
+    }
+    go false false false (refused n) i j k f e = absurd (word-refused (bitsOf payload) p s n f e)

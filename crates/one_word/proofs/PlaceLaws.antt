@@ -46,7 +46,7 @@ isGiven (given v q t z) = 1
 isGiven (refused c) = 0
 
 -- where an accepted word ends: within the payload, or where it was
-data Ends (a : List Bool) (p q : ℕ) : Type 0 where
+pub data Ends (a : List Bool) (p q : ℕ) : Type 0 where
   inside : q ≤ length a → Ends a p q
   still : q ≡ p → Ends a p q
 
@@ -98,7 +98,7 @@ module _ (a : List Bool) where
       either false false = refl
 
   -- an accepted word ends within the payload, or stays where it is
-  word-ends : (p q : ℕ) (s t : State) (v : ℤ) (z : Report) → word a p s ≡ given v q t z → Ends a p q
+  pub word-ends : (p q : ℕ) (s t : State) (v : ℤ) (z : Report) → word a p s ≡ given v q t z → Ends a p q
   word-ends p q s t v z e = go (leb p (length a)) refl (s .debt) refl
     where
       go : (b : Bool) → leb p (length a) ≡ b → (d : ℕ) → s .debt ≡ d → Ends a p q
@@ -109,7 +109,7 @@ module _ (a : List Bool) where
 -- ---- the two entries
 
 -- a payload within its limit has at most 33,554,432 bits
-few-bits : (payload : List ℕ) → length payload ≤ maxPayloadBytes → length (bitsOf payload) ≤ 33554432
+pub few-bits : (payload : List ℕ) → length payload ≤ maxPayloadBytes → length (bitsOf payload) ≤ 33554432
 few-bits payload h = omega (arith, length-bits payload)
 
 -- a place of 32 bits stays one
