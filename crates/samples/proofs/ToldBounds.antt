@@ -47,15 +47,21 @@ module _ (entropy payload : List ℕ) (frames : ℕ) (list : List ℤ) where
       (cond-le (eqb (length list) (2 * frames)) (seedRefusal entropy) 6 17 (seed-le entropy) (omega arith))
 
   -- a reading that comes to its words has frames and payload bytes within their limits
-  limits : readRefusal entropy payload frames list ≡ 0 → (frames ≤ maxFrames) × (length payload ≤ maxPayloadBytes)
+  pub read-limits : readRefusal entropy payload frames list ≡ 0 → (frames ≤ maxFrames) × (length payload ≤ maxPayloadBytes)
   unfolding readRefusal
-  limits e = go (ltb maxFrames frames) (ltb maxPayloadBytes (length payload)) refl refl _ e
+  read-limits e = go (ltb maxFrames frames) (ltb maxPayloadBytes (length payload)) refl refl _ e
     where
       go : (a b : Bool) → ltb maxFrames frames ≡ a → ltb maxPayloadBytes (length payload) ≡ b → (n : ℕ) → cond (a || b) 5 n ≡ 0
           → (frames ≤ maxFrames) × (length payload ≤ maxPayloadBytes)
       go true b i j n e = absurd (omega arith)
       go false true i j n e = absurd (omega arith)
       go false false i j n e = (omega (arith, ltb-false maxFrames frames i), omega (arith, ltb-false maxPayloadBytes (length payload) j))
+
+  -- and tells what they gave
+  pub read-words : readRefusal entropy payload frames list ≡ 0
+      → readEntry entropy payload frames list ≡ readWords payload (seedMedians entropy) (2 * frames) list
+  unfolding readEntry
+  read-words e = rw e
 
   -- any reading
   pub read-small : SmallTold (length payload) frames (readEntry entropy payload frames list)
@@ -68,7 +74,7 @@ module _ (entropy payload : List ℕ) (frames : ℕ) (list : List ℤ) where
       go : (c : ℕ) → readRefusal entropy payload frames list ≡ c
           → SmallTold (length payload) frames (unlessRefused c (refuseReading list) (readWords payload (seedMedians entropy) (2 * frames) list))
       go zero e =
-          let l = limits e in
+          let l = read-limits e in
           let s = small-reading (bitsOf payload) (2 * frames) 0 first in
           let inside = reading-inside (bitsOf payload) (2 * frames) 0 first (omega arith) in
           record {

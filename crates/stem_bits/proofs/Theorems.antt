@@ -56,11 +56,10 @@ near payload p q h l (still e) = omega arith
 pub bits-by-stem : BitsByStem
 unfolding leftCost rightCost
 bits-by-stem left right words p s fresh = record { add-up = refl; each-its-own = refl; few = omega arith }
-bits-by-stem left right words p s (further ws p₀ s₀ payload h e) =
+bits-by-stem left right words p s (further ws p₀ s₀ payload w h f e) =
     let before = bits-by-stem left right ws p₀ s₀ h in
-    let a = one-accepted payload p₀ s₀ e in
-    let t = accepted-totals payload p₀ s₀ a in
-    let w = oneWord payload p₀ s₀ in
+    let a = one-accepted payload p₀ s₀ (ap (λ (w : WordTold). w .refusal) f ∙ e) in
+    let t = subst (Totals payload p₀ s₀) f (accepted-totals payload p₀ s₀ a) in
     let n = w .place - p₀ in
     let sum = ap (λ (b : BitsRead). b .left + b .right) (t .totals) in
     record {
@@ -71,9 +70,27 @@ bits-by-stem left right words p s (further ws p₀ s₀ payload h e) =
 
 -- ---- every word
 
--- a total of 32 bits that is at most the place stays one
-totals-stay-small : TotalsStaySmall
-totals-stay-small payload p s m = ?
+-- what is added to one of two totals that are at most the place
+small-added : (c n p : ℕ) (b : BitsRead) → SmallBits b → b .left + b .right ≤ p
+    → ((x : ℕ) → x ≤ p → x ≤ 4294967295 → x + n ≤ 4294967295) → SmallBits (plusBits c n b)
+small-added zero n p b m h f = record { small-left = f (b .left) (omega arith) (m .small-left); small-right = m .small-right }
+small-added (suc c) n p b m h f = record { small-left = m .small-left; small-right = f (b .right) (omega arith) (m .small-right) }
 
+pub totals-stay-small : TotalsStaySmall
+totals-stay-small payload p s m = go (oneWord payload p s .refusal) refl
+  where
+    go : (n : ℕ) → oneWord payload p s .refusal ≡ n → SmallBits (oneWord payload p s .state .bitsRead)
+    go zero e =
+        let a = one-accepted payload p s e in
+        let t = accepted-totals payload p s a in
+        let n = oneWord payload p s .place - p in
+        rw (t .totals) (small-added (s .channel) n p (s .bitsRead) m (a .within) (λ x h k.
+        rw (ap (λ (w : WordTold). w .place) (a .told))
+        (total-fits payload p (a .next) x s (a .after) (a .sample) (a .report) (a .few) (a .is) h k)))
+    go (suc n) e =
+        let k = refused-keeps payload p s (λ z. absurd (omega (arith, z, e))) in
+        rw (k .0) m
+
+-- a refused word hands back what it got
 pub refused-word-keeps : RefusedKeeps
 refused-word-keeps = refused-keeps
