@@ -1,7 +1,7 @@
 -- The one-word entry by its refusals, and the word where none applies.
 -- Assumes nothing.
 use mathlib.Core.Path.{_≡_, refl, sym, ap, _∙_}
-use mathlib.Core.Bool.{Bool, true, false, cond, not, _&&_, _||_, or-true}
+use mathlib.Core.Bool.{Bool, true, false, cond, not, _&&_, _||_}
 use mathlib.Core.List.{List}
 use Prim.Native.Nat.{ℕ, _+_, _-_, _≤_, _<_}
 use native.Mathlib.Omega.{arith}
@@ -30,15 +30,11 @@ pub one-large : (payload : List ℕ) (p : ℕ) (s : State) → maxPayloadBytes <
 unfolding oneWord
 one-large payload p s h = rw (lt-ltb maxPayloadBytes (length payload) h)
 
--- a channel that is none
-pub one-channel : (payload : List ℕ) (p : ℕ) (s : State) → length payload ≤ maxPayloadBytes → 1 < s .channel → tellWord p s (refused 12) ≡ oneWord payload p s
+-- a channel that is none, or totals that together exceed the place
+pub one-state : (payload : List ℕ) (p : ℕ) (s : State) → length payload ≤ maxPayloadBytes → (ltb 1 (s .channel) || exceeds (s .bitsRead) p) ≡ true
+    → tellWord p s (refused 12) ≡ oneWord payload p s
 unfolding oneWord
-one-channel payload p s h l = rw (le-ltb maxPayloadBytes (length payload) h, lt-ltb 1 (s .channel) l)
-
--- totals that together exceed the place
-pub one-exceeded : (payload : List ℕ) (p : ℕ) (s : State) → length payload ≤ maxPayloadBytes → exceeds (s .bitsRead) p ≡ true → tellWord p s (refused 12) ≡ oneWord payload p s
-unfolding oneWord
-one-exceeded payload p s h e = rw (le-ltb maxPayloadBytes (length payload) h, e, or-true (ltb 1 (s .channel)))
+one-state payload p s h e = rw (le-ltb maxPayloadBytes (length payload) h, e)
 
 -- the word itself
 pub one-word : (payload : List ℕ) (p : ℕ) (s : State) (w : Word) → length payload ≤ maxPayloadBytes → s .channel ≤ 1 → exceeds (s .bitsRead) p ≡ false

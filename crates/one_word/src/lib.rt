@@ -165,11 +165,8 @@ pub fn decode_sample_stateful_stereo(
     if payload.len() > MAX_PAYLOAD_BYTES {
         return refused(Refusal::TooLarge, place, state);
     }
-    if state.next_channel > 1 {
-        return refused(Refusal::InvalidChannel, place, state);
-    }
     let before = state.bits_read;
-    if bits_exceed(before, place) {
+    if (state.next_channel > 1) | bits_exceed(before, place) {
         return refused(Refusal::InvalidChannel, place, state);
     }
     let debt = state.zero_run_pending;
