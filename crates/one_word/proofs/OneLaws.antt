@@ -69,7 +69,7 @@ pub one-paid : (payload : List ℕ) (p : ℕ) (s : State) → length payload ≤
     → exceeds (s .bitsRead) p ≡ false → 0 < s .debt
     → tellWord p s (given (pos 0) p (paid (s .debt - 1) s) none) ≡ oneWord payload p s
 one-paid payload p s h l x d =
-    ap (λ (t : State). tellWord p s (given (pos 0) p t none)) (sym (charged-none (s .channel) p (paid (s .debt - 1) s)))
+    ap (λ (t : State). tellWord p s (given (pos 0) p t none)) (sym (charged-none _ p (paid (s .debt - 1) s)))
     ∙ one-word payload p s _ h l x (sym (word-paid (bitsOf payload) p s d))
 
 -- a refused word hands back the state and the place that it got (Q8.5): neither total grows
