@@ -30,14 +30,17 @@ pub fn run_entropy(fd: i32) {
     print_values(&right);
 }
 
-// One frame of a packed payload: the bits used, the samples written, and the list, which held 77
-// before.
+// One frame of a packed payload: the bits used, those of left and of right, the samples written, and the
+// list, which held 77 before.
 fn read_frame(entropy: &[u8], payload: &[u8]) {
     let mut list = [77, 77];
     let answer = decode_packed_samples_stereo_from_entropy(entropy, payload, 1, &mut list);
     let outcome = answer.outcome;
+    let totals = answer.bits_read;
     print_refusal(outcome_number(outcome));
     print_named(b" bits ", answer.bits);
+    print_named(b" left ", totals[0]);
+    print_named(b" right ", totals[1]);
     print_named(b" written ", answer.written);
     print_values(&list);
 }
