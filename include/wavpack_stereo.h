@@ -2,7 +2,7 @@
  *
  * Every function answers WV_ACCEPTED or the number of a refusal; `wv_refusal_text` gives its wording. Each
  * function below lists its refusals in the order in which it tests. The rules are the rows X1 to X9, Q1.3,
- * Q1.4, Q2.2, Q5.6, Q6.6, Q7.1 to Q7.3 and Q8.1 to Q8.5 of docs/PROVED.md.
+ * Q1.4, Q2.2, Q5.6, Q6.6, Q7.1 to Q7.3, Q8.1 to Q8.5 and Q8.7 of docs/PROVED.md.
  *
  * A list is a pointer to its first element and its number of elements. A list of 0 elements still needs a
  * pointer that is not null and is aligned for its type. A function reads and writes nothing beyond the

@@ -26,18 +26,21 @@ use Rattle.readings.proofs.RefusalLaws.{word-refused}
 use Rattle.readings.proofs.WordLaws.{word-paid, word-fresh}
 
 -- a payload that is too large
-pub one-large : (payload : List ℕ) (p : ℕ) (s : State) → maxPayloadBytes < length payload → tellWord p s (refused 5) ≡ oneWord payload p s
+pub one-large : (payload : List ℕ) (p : ℕ) (s : State) → maxPayloadBytes < length payload
+    → tellWord p s (refused 5) ≡ oneWord payload p s
 unfolding oneWord
 one-large payload p s h = rw (lt-ltb maxPayloadBytes (length payload) h)
 
 -- a channel that is none, or totals that together exceed the place
-pub one-state : (payload : List ℕ) (p : ℕ) (s : State) → length payload ≤ maxPayloadBytes → (ltb 1 (s .channel) || exceeds (s .bitsRead) p) ≡ true
+pub one-state : (payload : List ℕ) (p : ℕ) (s : State) → length payload ≤ maxPayloadBytes
+    → (ltb 1 (s .channel) || exceeds (s .bitsRead) p) ≡ true
     → tellWord p s (refused 12) ≡ oneWord payload p s
 unfolding oneWord
 one-state payload p s h e = rw (le-ltb maxPayloadBytes (length payload) h, e)
 
 -- the word itself
-pub one-word : (payload : List ℕ) (p : ℕ) (s : State) (w : Word) → length payload ≤ maxPayloadBytes → s .channel ≤ 1 → exceeds (s .bitsRead) p ≡ false
+pub one-word : (payload : List ℕ) (p : ℕ) (s : State) (w : Word) → length payload ≤ maxPayloadBytes
+    → s .channel ≤ 1 → exceeds (s .bitsRead) p ≡ false
     → w ≡ word (bitsOf payload) p s → tellWord p s (charge p s w) ≡ oneWord payload p s
 unfolding oneWord
 one-word payload p s w h l x e = rw (le-ltb maxPayloadBytes (length payload) h, le-ltb 1 (s .channel) l, x) (ap (λ (w : Word). tellWord p s (charge p s w)) e)
@@ -57,7 +60,8 @@ word-read payload p st run r l n m e c =
     ∙ sym (word-fresh (bitsOf payload) p (stateOf st) n)
 
 -- the steps of a word leave the totals alone, so they may be charged before them
-pub charged-before : (p : ℕ) (s : State) (r : Coded) → codedWord (withBits (plusBits (s .channel) (bitsTaken p r) (s .bitsRead)) s) r ≡ charge p s (codedWord s r)
+pub charged-before : (p : ℕ) (s : State) (r : Coded)
+    → codedWord (withBits (plusBits (s .channel) (bitsTaken p r) (s .bitsRead)) s) r ≡ charge p s (codedWord s r)
 unfolding charged inRun after unbroken
 charged-before p s (Coded.Run d q) = refl
 charged-before p s (Coded.Sample v k q z o) = refl
@@ -79,7 +83,8 @@ unfolding oneWord
 refused-keeps payload p s n =
     go (ltb maxPayloadBytes (length payload)) (ltb 1 (s .channel) || exceeds (s .bitsRead) p) (word (bitsOf payload) p s) n
   where
-    go : (b c : Bool) (w : Word) → let t = tellWord p s (cond b (refused 5) (cond c (refused 12) (charge p s w))) in
+    go : (b c : Bool) (w : Word)
+        → let t = tellWord p s (cond b (refused 5) (cond c (refused 12) (charge p s w))) in
         (t .refusal ≡ 0 → ⊥) → (t .state ≡ s) × (t .place ≡ p)
     go true c w n = (refl, refl)
     go false true w n = (refl, refl)
@@ -98,7 +103,8 @@ pub record Accepted (payload : List ℕ) (p : ℕ) (s : State) : Type 0 where
   pub is : word (bitsOf payload) p s ≡ given sample next after report
   pub told : oneWord payload p s ≡ tellWord p s (charge p s (given sample next after report))
 
-pub one-accepted : (payload : List ℕ) (p : ℕ) (s : State) → oneWord payload p s .refusal ≡ 0 → Accepted payload p s
+pub one-accepted : (payload : List ℕ) (p : ℕ) (s : State) → oneWord payload p s .refusal ≡ 0
+    → Accepted payload p s
 unfolding oneWord
 one-accepted payload p s e =
     go (ltb maxPayloadBytes (length payload)) (ltb 1 (s .channel)) (exceeds (s .bitsRead) p) (word (bitsOf payload) p s) refl refl refl refl e
@@ -106,7 +112,8 @@ one-accepted payload p s e =
     told : Bool → Bool → Bool → Word → WordTold
     told a b c w = tellWord p s (cond a (refused 5) (cond (b || c) (refused 12) (charge p s w)))
 
-    go : (a b c : Bool) (w : Word) → ltb maxPayloadBytes (length payload) ≡ a → ltb 1 (s .channel) ≡ b → exceeds (s .bitsRead) p ≡ c
+    go : (a b c : Bool) (w : Word) → ltb maxPayloadBytes (length payload) ≡ a → ltb 1 (s .channel) ≡ b
+        → exceeds (s .bitsRead) p ≡ c
         → word (bitsOf payload) p s ≡ w → told a b c w .refusal ≡ 0 → Accepted payload p s
     go true b c w i j k f e = absurd (omega arith)
     go false true c w i j k f e = absurd (omega arith)

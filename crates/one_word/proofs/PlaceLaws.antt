@@ -31,7 +31,7 @@ use Rattle.words.specs.Word.{Word, given, refused, onField, signed, value, plai
 use Rattle.words.specs.Parts.{codedWord}
 use Rattle.words.specs.declared.coded.Coded.{Coded}
 use Rattle.zones.specs.Report.{Report, zoneOf}
-use Rattle.one_word.specs.View.{WordTold, viewWord, tellWord, charge, bitsTaken, Onward, oneWord}
+use Rattle.one_word.specs.View.{WordTold, viewWord, tellWord, charge, bitsTaken, EndsAfter, oneWord}
 use Rattle.one_word.specs.declared.WordAnswer.{WordAnswer}
 use Rattle.readings.proofs.WordLaws.{word-paid, word-fresh}
 use Rattle.readings.proofs.LocalLaws.{word-on, word-inside}
@@ -118,7 +118,8 @@ ends-near a p q l h (inside e) = omega arith
 ends-near a p q l h (still e) = omega arith
 
 -- and so does a total x that is at most the place (Q8.3): what is added ends within the payload, or is 0
-pub total-fits : (payload : List ℕ) (p q x : ℕ) (s t : State) (v : ℤ) (z : Report) → length payload ≤ maxPayloadBytes
+pub total-fits : (payload : List ℕ) (p q x : ℕ) (s t : State) (v : ℤ) (z : Report)
+    → length payload ≤ maxPayloadBytes
     → word (bitsOf payload) p s ≡ given v q t z → x ≤ p → x ≤ 4294967295 → x + (q - p) ≤ 4294967295
 total-fits payload p q x s t v z h e l m = go (word-ends (bitsOf payload) p q s t v z e)
   where
@@ -130,7 +131,7 @@ total-fits payload p q x s t v z h e l m = go (word-ends (bitsOf payload) p q s 
 
 module _ (payload : List ℕ) (p : ℕ) (st : StereoDecodeState) where
   -- the word ends at its place or after it
-  pub coded-on : (r : Coded) → codedWord (stateOf st) r ≡ word (bitsOf payload) p (stateOf st) → Onward p r
+  pub coded-on : (r : Coded) → codedWord (stateOf st) r ≡ word (bitsOf payload) p (stateOf st) → EndsAfter p r
   coded-on (Coded.Run d q) e = word-on (bitsOf payload) p q (stateOf st) _ _ _ (sym e)
   coded-on (Coded.Sample v k q z o) e = word-on (bitsOf payload) p q (stateOf st) _ _ _ (sym e)
   coded-on Coded.EndOfStream e = omega arith
@@ -138,7 +139,8 @@ module _ (payload : List ℕ) (p : ℕ) (st : StereoDecodeState) where
 
   -- the total of the channel due, as the code's array holds it, and what the word took
   pub coded-fits : (r : Coded) → codedWord (stateOf st) r ≡ word (bitsOf payload) p (stateOf st)
-      → length payload ≤ maxPayloadBytes → exceeds (stateOf st .bitsRead) p ≡ false → SmallBits (stateOf st .bitsRead)
+      → length payload ≤ maxPayloadBytes → exceeds (stateOf st .bitsRead) p ≡ false
+      → SmallBits (stateOf st .bitsRead)
       → st .«next_channel» < 2 → getD (st .«bits_read») (st .«next_channel») 0 + bitsTaken p r < 4294967296
   coded-fits r e h x m c = go r e
     where
@@ -153,14 +155,16 @@ module _ (payload : List ℕ) (p : ℕ) (st : StereoDecodeState) where
       low : (n : ℕ) → stateOf st .bitsRead .left ≤ n → stateOf st .bitsRead .right ≤ n → due ≤ n
       low n i j = rw (total-of (st .«bits_read») (st .«next_channel») c) (at-most (st .«next_channel») _ _ n i j)
 
-      some : (q : ℕ) (t : State) (v : ℤ) (z : Report) → word (bitsOf payload) p (stateOf st) ≡ given v q t z → due + (q - p) < 4294967296
+      some : (q : ℕ) (t : State) (v : ℤ) (z : Report) → word (bitsOf payload) p (stateOf st) ≡ given v q t z
+          → due + (q - p) < 4294967296
       some q t v z e =
           let b = not-exceeded (stateOf st .bitsRead) p x in
           let f = total-fits payload p q due (stateOf st) t v z h e (low p (omega arith) (omega arith))
           (low 4294967295 (m .small-left) (m .small-right)) in
           omega arith
 
-      go : (r : Coded) → codedWord (stateOf st) r ≡ word (bitsOf payload) p (stateOf st) → due + bitsTaken p r < 4294967296
+      go : (r : Coded) → codedWord (stateOf st) r ≡ word (bitsOf payload) p (stateOf st)
+          → due + bitsTaken p r < 4294967296
       go (Coded.Run d q) e = some q _ _ _ (sym e)
       go (Coded.Sample v k q z o) e = some q _ _ _ (sym e)
       go Coded.EndOfStream e = omega (arith, low 4294967295 (m .small-left) (m .small-right))
@@ -182,5 +186,6 @@ word-fits payload p s h =
     go false false (refused n) e f = h
 
 -- the place that was told fits its slot
-pub place-fits : (payload : List ℕ) (p : ℕ) (s : State) (x : WordAnswer) → viewWord x ≡ oneWord payload p s → p ≤ 4294967295 → x .place ≤ 4294967295
+pub place-fits : (payload : List ℕ) (p : ℕ) (s : State) (x : WordAnswer) → viewWord x ≡ oneWord payload p s
+    → p ≤ 4294967295 → x .place ≤ 4294967295
 place-fits payload p s x t h = rw (ap (λ (w : WordTold). w .place) t) (word-fits payload p s h)

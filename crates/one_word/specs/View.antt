@@ -57,8 +57,8 @@ bitsTaken p Coded.EndOfStream = 0
 bitsTaken p Coded.Truncated = 0
 
 -- a word that was read at p ends there or after it
-abbrev pub Onward : ℕ → Coded → Type 0
-Onward p (Coded.Run d q) = p ≤ q
-Onward p (Coded.Sample v k q z o) = p ≤ q
-Onward p Coded.EndOfStream = p ≤ p
-Onward p Coded.Truncated = p ≤ p
+abbrev pub EndsAfter : ℕ → Coded → Type 0
+EndsAfter p (Coded.Run d q) = p ≤ q
+EndsAfter p (Coded.Sample v k q z o) = p ≤ q
+EndsAfter p Coded.EndOfStream = p ≤ p
+EndsAfter p Coded.Truncated = p ≤ p

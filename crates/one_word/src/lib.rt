@@ -8,7 +8,7 @@ ghost use Rattle.word_state.specs.State.{withFlags, withBits, paid, inRun, unbr
 ghost use Rattle.words.specs.Word.{given, refused};
 ghost use Rattle.word_state.specs.View.{stateOf, bitsReadOf};
 ghost use Rattle.zones.specs.Report.{none, zoneOf};
-ghost use Rattle.one_word.specs.View.{viewWord, tellWord, bitsTaken, Onward, oneWord};
+ghost use Rattle.one_word.specs.View.{viewWord, tellWord, bitsTaken, EndsAfter, oneWord};
 use answers::Outcome;
 use answers::Refusal;
 use answers::limits::MAX_PAYLOAD_BYTES;
@@ -140,7 +140,7 @@ fn adapted(
 
 // The bits that a word took, from its place to the next; a refused one takes none.
 fn bits_taken(word: Coded, place: usize) -> usize
-    requires { ⌜ Onward place word ⌝ }
+    requires { ⌜ EndsAfter place word ⌝ }
     ensures { λ r. ⌜ r ≡ bitsTaken place word ⌝ }
 {
     match word {

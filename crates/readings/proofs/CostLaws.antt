@@ -14,19 +14,22 @@ use Rattle.readings.specs.Costs.{Cost, costAt, leftCost, rightCost, cost
 use Rattle.readings.proofs.LocalLaws.{word-on}
 
 -- an accepted word, and those after it
-pub costs-on : (bits : List Bool) (n p q : ℕ) (s t : State) (v : ℤ) (z : Report) → word bits p s ≡ given v q t z
+pub costs-on : (bits : List Bool) (n p q : ℕ) (s t : State) (v : ℤ) (z : Report)
+    → word bits p s ≡ given v q t z
     → costs bits (suc n) p s ≡ costAt p q s ∷ costs bits n q t
 unfolding costs
 costs-on bits n p q s t v z e = rw e
 
 -- and what left's words cost with it
-pub left-on : (bits : List Bool) (n p q : ℕ) (s t : State) (v : ℤ) (z : Report) → word bits p s ≡ given v q t z
+pub left-on : (bits : List Bool) (n p q : ℕ) (s t : State) (v : ℤ) (z : Report)
+    → word bits p s ≡ given v q t z
     → leftCost (costs bits (suc n) p s) ≡ side (s .channel) (q - p) 0 + leftCost (costs bits n q t)
 unfolding leftCost
 left-on bits n p q s t v z e = rw (costs-on bits n p q s t v z e)
 
 -- a refused word costs nothing
-pub costs-stop : (bits : List Bool) (n p c : ℕ) (s : State) → word bits p s ≡ refused c → costs bits (suc n) p s ≡ []
+pub costs-stop : (bits : List Bool) (n p c : ℕ) (s : State) → word bits p s ≡ refused c
+    → costs bits (suc n) p s ≡ []
 unfolding costs
 costs-stop bits n p c s e = rw e
 

@@ -17,12 +17,14 @@ Every G R (refused c) = R c
 
 module _ (G : ℤ → ℕ → State → Type 0) (R : ℕ → Type 0) (three : R 3) where
   -- a field, and the word that follows from it
-  pub every-field : (f : Field) (next : ℕ → ℕ → Word) → ((v q : ℕ) → f ≡ Value v q → Every G R (next v q)) → Every G R (onField f next)
+  pub every-field : (f : Field) (next : ℕ → ℕ → Word) → ((v q : ℕ) → f ≡ Value v q → Every G R (next v q))
+      → Every G R (onField f next)
   every-field (Value v q) next k = k v q refl
   every-field Truncated next k = three
 
   -- a prefix
-  pub every-prefix : R 4 → (f : Prefix) (next : ℕ → ℕ → Word) → ((v q : ℕ) → Every G R (next v q)) → Every G R (onPrefix f next)
+  pub every-prefix : R 4 → (f : Prefix) (next : ℕ → ℕ → Word) → ((v q : ℕ) → Every G R (next v q))
+      → Every G R (onPrefix f next)
   every-prefix four (Prefix.Value v q) next k = k v q
   every-prefix four Prefix.EndOfStream next k = four
   every-prefix four Prefix.Truncated next k = three
@@ -33,6 +35,7 @@ module _ (G : ℤ → ℕ → State → Type 0) (R : ℕ → Type 0) (three : R 
   every-cond false a b x y = y
 
   -- a zero, or the rest
-  pub every-zeros : (n : ℕ) (a : ℕ → Word) (b : Word) → ((d : ℕ) → Every G R (a d)) → Every G R b → Every G R (onZeros n a b)
+  pub every-zeros : (n : ℕ) (a : ℕ → Word) (b : Word) → ((d : ℕ) → Every G R (a d)) → Every G R b
+      → Every G R (onZeros n a b)
   every-zeros zero a b x y = y
   every-zeros (suc d) a b x y = x d

@@ -34,8 +34,10 @@ nothing-taken (suc c) a p = omega arith
 
 module _ (payload : List ℕ) (out₀ : List ℤ) (s₀ : State) (out : List ℤ) (ms : List AdaptiveMedians) (owed : ℕ) (b z o : Bool) (p a i : ℕ) (l : Words payload out₀ s₀ out ms owed b z o p a i) where
   -- an accepted word: its sample is written, and the locals hold the state after it
-  step : (v : ℤ) (q : ℕ) (t : State) (x : Report) (ns : List AdaptiveMedians) (d : ℕ) (b' z' o' : Bool) → i < length out
-      → word (bitsOf payload) p (l .state) ≡ given v q t x → Held t ns d b' z' o' (i + 1) → Words payload out₀ s₀ (set out i v) ns d b' z' o' q (a + side (i % 2) (q - p) 0) (i + 1)
+  step : (v : ℤ) (q : ℕ) (t : State) (x : Report) (ns : List AdaptiveMedians) (d : ℕ) (b' z' o' : Bool)
+      → i < length out
+      → word (bitsOf payload) p (l .state) ≡ given v q t x → Held t ns d b' z' o' (i + 1)
+      → Words payload out₀ s₀ (set out i v) ns d b' z' o' q (a + side (i % 2) (q - p) 0) (i + 1)
   step v q t x ns d b' z' o' h e g =
       let n = length out₀ - (i + 1) in
       let m : length out₀ - i ≡ suc n = omega (arith, l .same) in
@@ -50,7 +52,8 @@ module _ (payload : List ℕ) (out₀ : List ℤ) (s₀ : State) (out : List ℤ
         is =
             rw k (sym (reading-on (bitsOf payload) n p q (l .state) t v x (take i out) e)
             ∙ ap (λ (x : ℕ). prepend (take i out) (reading (bitsOf payload) x p (l .state))) (sym m) ∙ l .is);
-        others = drop-set-lt (i + 1) out i v (omega arith) ∙ sym (drop-drop 1 i out) ∙ ap (drop 1) (l .others) ∙ drop-drop 1 i out₀;
+        others = drop-set-lt (i + 1) out i v (omega arith) ∙ sym (drop-drop 1 i out)
+            ∙ ap (drop 1) (l .others) ∙ drop-drop 1 i out₀;
         left-bits = omega (arith, rw (m, left-on (bitsOf payload) n p q (l .state) t v x e, c) at (l .left-bits));
         part = omega (arith, l .part, either-stem (i % 2) (q - p));
       }
@@ -73,7 +76,8 @@ module _ (payload : List ℕ) (out₀ : List ℤ) (s₀ : State) (out : List ℤ
         step (pos 0) q _ _ (zeroSet ∷ zeroSet ∷ []) d true z o h (sym c ∙ ap (codedWord (l .state)) e)
         (held-run (l .state) ms owed b z o i (l .held) d)
 
-    pub words-sample : (v : ℤ) (k q : ℕ) (z' o' : Bool) (x : AdaptiveMedians) → r ≡ Coded.Sample v k q z' o' → mediansOf x ≡ adapt (mediansOf (getD ms (i % 2) noSet)) k
+    pub words-sample : (v : ℤ) (k q : ℕ) (z' o' : Bool) (x : AdaptiveMedians) → r ≡ Coded.Sample v k q z' o'
+        → mediansOf x ≡ adapt (mediansOf (getD ms (i % 2) noSet)) k
         → Words payload out₀ s₀ (set out i v) (set ms (i % 2) x) owed false z' o' q (a + side (i % 2) (q - p) 0) (i + 1)
     words-sample v k q z' o' x e f =
         step v q _ _ (set ms (i % 2) x) owed false z' o' h (sym c ∙ ap (codedWord (l .state)) e)

@@ -28,43 +28,51 @@ onBits b (given v q t z) = given v q (withBits b t) z
 onBits b (refused c) = refused c
 
 module _ (b : BitsRead) where
-  field-bits : (f : Field) (n m : ℕ → ℕ → Word) → ((v q : ℕ) → n v q ≡ onBits b (m v q)) → onField f n ≡ onBits b (onField f m)
+  field-bits : (f : Field) (n m : ℕ → ℕ → Word) → ((v q : ℕ) → n v q ≡ onBits b (m v q))
+      → onField f n ≡ onBits b (onField f m)
   field-bits (Value v q) n m h = h v q
   field-bits Truncated n m h = refl
 
-  prefix-bits : (f : Prefix) (n m : ℕ → ℕ → Word) → ((v q : ℕ) → n v q ≡ onBits b (m v q)) → onPrefix f n ≡ onBits b (onPrefix f m)
+  prefix-bits : (f : Prefix) (n m : ℕ → ℕ → Word) → ((v q : ℕ) → n v q ≡ onBits b (m v q))
+      → onPrefix f n ≡ onBits b (onPrefix f m)
   prefix-bits (Prefix.Value v q) n m h = h v q
   prefix-bits Prefix.EndOfStream n m h = refl
   prefix-bits Prefix.Truncated n m h = refl
 
-  cond-bits : (t : Bool) (x y x′ y′ : Word) → x ≡ onBits b x′ → y ≡ onBits b y′ → cond t x y ≡ onBits b (cond t x′ y′)
+  cond-bits : (t : Bool) (x y x′ y′ : Word) → x ≡ onBits b x′ → y ≡ onBits b y′
+      → cond t x y ≡ onBits b (cond t x′ y′)
   cond-bits true x y x′ y′ h k = h
   cond-bits false x y x′ y′ h k = k
 
-  zeros-bits : (n : ℕ) (f g : ℕ → Word) (x y : Word) → ((d : ℕ) → f d ≡ onBits b (g d)) → x ≡ onBits b y → onZeros n f x ≡ onBits b (onZeros n g y)
+  zeros-bits : (n : ℕ) (f g : ℕ → Word) (x y : Word) → ((d : ℕ) → f d ≡ onBits b (g d)) → x ≡ onBits b y
+      → onZeros n f x ≡ onBits b (onZeros n g y)
   zeros-bits zero f g x y h k = k
   zeros-bits (suc d) f g x y h k = h d
 
-  value-bits : (bits : List Bool) (p k : ℕ) (s : State) → value bits p k (withBits b s) ≡ onBits b (value bits p k s)
+  value-bits : (bits : List Bool) (p k : ℕ) (s : State)
+      → value bits p k (withBits b s) ≡ onBits b (value bits p k s)
   unfolding value after
   value-bits bits p k s =
       field-bits (truncatedBinary bits p (highOf (due s) k - lowOf (due s) k)) _ _ λ c q.
       field-bits (getBits bits q 1) _ _ λ t n. refl
 
-  plain-bits : (bits : List Bool) (p : ℕ) (s : State) → plain bits p (withBits b s) ≡ onBits b (plain bits p s)
+  plain-bits : (bits : List Bool) (p : ℕ) (s : State)
+      → plain bits p (withBits b s) ≡ onBits b (plain bits p s)
   unfolding plain cleared flagged
   plain-bits bits p s =
       cond-bits (s .lastZero) _ _ _ _ (value-bits bits p 0 (cleared s))
       (prefix-bits (prefix bits p) _ _ λ r q. value-bits bits q (r / 2 + val (s .lastOne)) (flagged (bitOf (r % 2)) s))
 
-  fresh-bits : (bits : List Bool) (p : ℕ) (s : State) → fresh bits p (withBits b s) ≡ onBits b (fresh bits p s)
+  fresh-bits : (bits : List Bool) (p : ℕ) (s : State)
+      → fresh bits p (withBits b s) ≡ onBits b (fresh bits p s)
   unfolding fresh unbroken inRun
   fresh-bits bits p s =
       cond-bits (s .runBreak) _ _ _ _ (plain-bits bits p (unbroken s))
       (cond-bits (runDue (s .left) (s .right) (s .lastZero) (s .lastOne)) _ _ _ _
       (field-bits (runLength bits p) _ _ λ n q. zeros-bits n _ _ _ _ (λ d. refl) (plain-bits bits q s)) (plain-bits bits p s))
 
-  pub word-bits : (bits : List Bool) (p : ℕ) (s : State) → word bits p (withBits b s) ≡ onBits b (word bits p s)
+  pub word-bits : (bits : List Bool) (p : ℕ) (s : State)
+      → word bits p (withBits b s) ≡ onBits b (word bits p s)
   unfolding word paid
   word-bits bits p s = zeros-bits (s .debt) _ _ _ _ (λ d. refl) (fresh-bits bits p s)
 
@@ -80,20 +88,23 @@ module _ (c : ℕ) (b : BitsRead) where
   abbrev KeptWord : Word → Type 0
   KeptWord = Every Kept Any
 
-  kept-value : (bits : List Bool) (p k : ℕ) (s : State) → s .channel ≡ c → s .bitsRead ≡ b → KeptWord (value bits p k s)
+  kept-value : (bits : List Bool) (p k : ℕ) (s : State) → s .channel ≡ c → s .bitsRead ≡ b
+      → KeptWord (value bits p k s)
   unfolding value after
   kept-value bits p k s h e =
       every-field Kept Any (omega arith) (truncatedBinary bits p (highOf (due s) k - lowOf (due s) k)) _ λ x q i.
       every-field Kept Any (omega arith) (getBits bits q 1) _ λ t n j. (rw h, e)
 
-  kept-plain : (bits : List Bool) (p : ℕ) (s : State) → s .channel ≡ c → s .bitsRead ≡ b → KeptWord (plain bits p s)
+  kept-plain : (bits : List Bool) (p : ℕ) (s : State) → s .channel ≡ c → s .bitsRead ≡ b
+      → KeptWord (plain bits p s)
   unfolding plain cleared flagged
   kept-plain bits p s h e =
       every-cond Kept Any (omega arith) (s .lastZero) _ _ (kept-value bits p 0 (cleared s) h e)
       (every-prefix Kept Any (omega arith) (omega arith) (prefix bits p) _ λ r q.
       kept-value bits q (r / 2 + val (s .lastOne)) (flagged (bitOf (r % 2)) s) h e)
 
-  kept-fresh : (bits : List Bool) (p : ℕ) (s : State) → s .channel ≡ c → s .bitsRead ≡ b → KeptWord (fresh bits p s)
+  kept-fresh : (bits : List Bool) (p : ℕ) (s : State) → s .channel ≡ c → s .bitsRead ≡ b
+      → KeptWord (fresh bits p s)
   unfolding fresh unbroken inRun
   kept-fresh bits p s h e =
       every-cond Kept Any (omega arith) (s .runBreak) _ _ (kept-plain bits p (unbroken s) h e)
@@ -101,12 +112,14 @@ module _ (c : ℕ) (b : BitsRead) where
       (every-field Kept Any (omega arith) (runLength bits p) _ λ n q i.
       every-zeros Kept Any (omega arith) n _ _ (λ d. (rw h, e)) (kept-plain bits q s h e)) (kept-plain bits p s h e))
 
-  kept-word : (bits : List Bool) (p : ℕ) (s : State) → s .channel ≡ c → s .bitsRead ≡ b → KeptWord (word bits p s)
+  kept-word : (bits : List Bool) (p : ℕ) (s : State) → s .channel ≡ c → s .bitsRead ≡ b
+      → KeptWord (word bits p s)
   unfolding word paid
   kept-word bits p s h e =
       every-zeros Kept Any (omega arith) (s .debt) _ _ (λ d. (rw h, e)) (kept-fresh bits p s h e)
 
 -- the state after an accepted word: the other channel is due, and the totals are those before it
-pub word-keeps : (bits : List Bool) (p q : ℕ) (s t : State) (v : ℤ) (z : Report) → word bits p s ≡ given v q t z
+pub word-keeps : (bits : List Bool) (p q : ℕ) (s t : State) (v : ℤ) (z : Report)
+    → word bits p s ≡ given v q t z
     → (t .channel ≡ flip (s .channel)) × (t .bitsRead ≡ s .bitsRead)
 word-keeps bits p q s t v z e = rw e at (kept-word (s .channel) (s .bitsRead) bits p s refl refl)

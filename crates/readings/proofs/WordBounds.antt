@@ -31,16 +31,19 @@ use Rattle.readings.proofs.EveryLaws.{Every, every-field, every-prefix,
 abbrev SmallWord : Word → Type 0
 SmallWord = Every (λ v q t. mag v < 2147483648) (λ c. c ≤ 4)
 
-abbrev small-field : (f : Field) (next : ℕ → ℕ → Word) → ((v q : ℕ) → f ≡ Value v q → SmallWord (next v q)) → SmallWord (onField f next)
+abbrev small-field : (f : Field) (next : ℕ → ℕ → Word) → ((v q : ℕ) → f ≡ Value v q → SmallWord (next v q))
+    → SmallWord (onField f next)
 small-field = every-field (λ v q t. mag v < 2147483648) (λ c. c ≤ 4) (omega arith)
 
-abbrev small-prefix : (f : Prefix) (next : ℕ → ℕ → Word) → ((v q : ℕ) → SmallWord (next v q)) → SmallWord (onPrefix f next)
+abbrev small-prefix : (f : Prefix) (next : ℕ → ℕ → Word) → ((v q : ℕ) → SmallWord (next v q))
+    → SmallWord (onPrefix f next)
 small-prefix = every-prefix (λ v q t. mag v < 2147483648) (λ c. c ≤ 4) (omega arith) (omega arith)
 
 abbrev small-cond : (t : Bool) (a b : Word) → SmallWord a → SmallWord b → SmallWord (cond t a b)
 small-cond = every-cond (λ v q t. mag v < 2147483648) (λ c. c ≤ 4) (omega arith)
 
-abbrev small-zeros : (n : ℕ) (a : ℕ → Word) (b : Word) → ((d : ℕ) → SmallWord (a d)) → SmallWord b → SmallWord (onZeros n a b)
+abbrev small-zeros : (n : ℕ) (a : ℕ → Word) (b : Word) → ((d : ℕ) → SmallWord (a d)) → SmallWord b
+    → SmallWord (onZeros n a b)
 small-zeros = every-zeros (λ v q t. mag v < 2147483648) (λ c. c ≤ 4) (omega arith)
 
 -- the sign bit leaves the magnitude
@@ -92,7 +95,8 @@ pub record SmallReading (n : ℕ) (r : Reading) : Type 0 where
   pub samples : (i : ℕ) → mag (getD (r .samples) i (pos 0)) < 2147483648
 
 -- a word, and the reading behind it
-small-behind : (bits : List Bool) (n p : ℕ) (s : State) (w : Word) → SmallWord w → ((q : ℕ) (t : State) → SmallReading n (reading bits n q t))
+small-behind : (bits : List Bool) (n p : ℕ) (s : State) (w : Word) → SmallWord w
+    → ((q : ℕ) (t : State) → SmallReading n (reading bits n q t))
     → SmallReading (suc n) (onWord w (λ v q t. more v (reading bits n q t)) (λ c. record { refusal = c; samples = []; place = p; state = s }))
 small-behind bits n p s (given v q t z) h rest =
     let r = rest q t in

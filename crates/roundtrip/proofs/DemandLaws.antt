@@ -61,21 +61,25 @@ module _ (frames : ℕ) (passes : List DecorrPass) (recording : List ℤ) (few :
   decorrelated-is = decorrelation-is passes found w (size found (found-is .two-per-frame)) ∙ ap done back
 
   -- no other list does
-  only : (other : List ℤ) → Recording frames other → decorrelation passes other .buffer ≡ recording → other ≡ found
+  only : (other : List ℤ) → Recording frames other → decorrelation passes other .buffer ≡ recording
+      → other ≡ found
   only other o e =
       residuals-unique passes other found (o .samples-fit) (found-is .samples-fit)
       (sym (ap (λ (a : Answer). a .buffer) (decorrelation-is passes other w (size other (o .two-per-frame)))) ∙ e ∙ sym (ap (λ (c : Chain). c .buffer) back))
 
   -- in the span they are packed
-  writes : (entropy buffer : List ℕ) → spanned found ≡ true → acceptsEntropy entropy → bytesPerFrame * frames ≤ length buffer
+  writes : (entropy buffer : List ℕ) → spanned found ≡ true → acceptsEntropy entropy
+      → bytesPerFrame * frames ≤ length buffer
       → packEntry found entropy frames buffer ≡ tellPacking buffer (packedFrom entropy found)
   writes entropy buffer s a r =
       packed-is found entropy frames buffer
       (record { before = record { frames-few = few; list-is = found-is .two-per-frame; seeded = sym a; enough = r }; span = s })
 
   -- what is read back is what was found
-  pub read-is : (entropy buffer behind : List ℕ) (list : List ℤ) → spanned found ≡ true → acceptsEntropy entropy → bytesPerFrame * frames ≤ length buffer
-      → let p = packEntry found entropy frames buffer in length (packedBytes p ++ behind) ≤ maxPayloadBytes → length list ≡ 2 * frames
+  pub read-is : (entropy buffer behind : List ℕ) (list : List ℤ) → spanned found ≡ true
+      → acceptsEntropy entropy → bytesPerFrame * frames ≤ length buffer
+      → let p = packEntry found entropy frames buffer in length (packedBytes p ++ behind) ≤ maxPayloadBytes
+      → length list ≡ 2 * frames
       → ReadBack frames found p (readEntry entropy (packedBytes p ++ behind) frames list)
   read-is entropy buffer behind list s a r n l =
       read-what-was-packed found entropy frames buffer behind list (ap (λ (t : PackTold). t .refusal) (writes entropy buffer s a r)) n l
@@ -97,23 +101,30 @@ module _ (frames : ℕ) (passes : List DecorrPass) (recording : List ℤ) (few :
           all-read = t .all-read;
           bits-used = t .bits-used;
           medians-after = t .medians-after;
-          decorrelation-accepted = ap (λ (q : List ℤ). decorrelation passes q .refusal) (t .residuals-back) ∙ ap (λ (q : Answer). q .refusal) decorrelated-is;
-          recording-back = ap (λ (q : List ℤ). decorrelation passes q .buffer) (t .residuals-back) ∙ ap (λ (q : Answer). q .buffer) decorrelated-is;
+          decorrelation-accepted = ap (λ (q : List ℤ). decorrelation passes q .refusal) (t .residuals-back)
+              ∙ ap (λ (q : Answer). q .refusal) decorrelated-is;
+          recording-back = ap (λ (q : List ℤ). decorrelation passes q .buffer) (t .residuals-back)
+              ∙ ap (λ (q : Answer). q .buffer) decorrelated-is;
           pass-states =
-              ap (λ (q : List ℤ). decorrelation passes q .passes) (t .residuals-back) ∙ ap (λ (q : Answer). q .passes) decorrelated-is
+              ap (λ (q : List ℤ). decorrelation passes q .passes) (t .residuals-back)
+              ∙ ap (λ (q : Answer). q .passes) decorrelated-is
               ∙ sym (ap (λ (q : Answer). q .passes) analysed-is);
         };
   }
 
 -- Demand 3: every recording of at most 131,072 frames, under any at most 16 well-made passes.
-pub demand-3 : (frames : ℕ) (passes : List DecorrPass) (recording : List ℤ) → frames ≤ maxFrames → WellMade passes → Recording frames recording
+pub demand-3 : (frames : ℕ) (passes : List DecorrPass) (recording : List ℤ) → frames ≤ maxFrames
+    → WellMade passes → Recording frames recording
     → Demand3 frames passes recording (analysis passes recording .buffer)
 demand-3 frames passes recording few w x =
     subst (Demand3 frames passes recording) (sym (ap (λ (a : Answer). a .buffer) (analysed-is frames passes recording few w x))) (demand frames passes recording few w x)
 
 -- reading and decorrelating what the writer made of a recording returns it
-written-back : (frames : ℕ) (passes : List DecorrPass) (entropy buffer behind : List ℕ) (recording list : List ℤ) → frames ≤ maxFrames → WellMade passes → acceptsEntropy entropy
-    → Writable frames passes entropy buffer recording → length (writtenBytes frames passes entropy buffer recording ++ behind) ≤ maxPayloadBytes → length list ≡ 2 * frames
+written-back : (frames : ℕ) (passes : List DecorrPass) (entropy buffer behind : List ℕ) (recording list : List ℤ)
+    → frames ≤ maxFrames → WellMade passes → acceptsEntropy entropy
+    → Writable frames passes entropy buffer recording
+    → length (writtenBytes frames passes entropy buffer recording ++ behind) ≤ maxPayloadBytes
+    → length list ≡ 2 * frames
     → decorrelation passes (readEntry entropy (writtenBytes frames passes entropy buffer recording ++ behind) frames list .list) .buffer ≡ recording
 written-back frames passes entropy buffer behind recording list few w a x n l =
     demand-3 frames passes recording few w (x .is-recording) .returns entropy buffer behind list (x .in-span) a (x .room) n l .recording-back

@@ -38,8 +38,10 @@ accepted vs p s = record { refusal = 0; samples = vs; place = p; state = s }
 
 -- words that stand at a place are read: the residuals, the place behind them and the state after
 -- them
-read-packed : {bits : List Bool} {p : ℕ} (s : State) (vs : List ℤ) → Inv s vs → spanned vs ≡ true → length vs < 2 ^ 32
-    → At bits p (packed s vs .bits) → reading bits (length vs) p s ≡ accepted vs (p + length (packed s vs .bits)) (packed s vs .next)
+read-packed : {bits : List Bool} {p : ℕ} (s : State) (vs : List ℤ) → Inv s vs → spanned vs ≡ true
+    → length vs < 2 ^ 32
+    → At bits p (packed s vs .bits)
+    → reading bits (length vs) p s ≡ accepted vs (p + length (packed s vs .bits)) (packed s vs .next)
 unfolding reading packed
 read-packed {bits} {p} s [] i h few a = ap (λ (n : ℕ). accepted [] n s) (omega arith)
 read-packed {bits} {p} s (v ∷ vs) i h few a =
@@ -51,7 +53,8 @@ read-packed {bits} {p} s (v ∷ vs) i h few a =
     rw (t .reads, n) (ap (λ (n : ℕ). accepted (v ∷ vs) n (r .next)) (omega (arith, length-append (o .bits) (r .bits))))
 
 -- the packed bytes, whatever bytes follow them
-read-back : (l r : Medians) (vs : List ℤ) (behind : List ℕ) → Small l → Small r → spanned vs ≡ true → length vs < 2 ^ 32
+read-back : (l r : Medians) (vs : List ℤ) (behind : List ℕ) → Small l → Small r → spanned vs ≡ true
+    → length vs < 2 ^ 32
     → reading (bitsOf (bytesHolding (packed (start l r) vs .bits) ++ behind)) (length vs) 0 (start l r)
     ≡ accepted vs (length (packed (start l r) vs .bits)) (packed (start l r) vs .next)
 read-back l r vs behind sl sr h few =
@@ -61,7 +64,8 @@ read-back l r vs behind sl sr h few =
 -- ---- the entries
 
 -- reading accepts such a payload and list
-reads : (entropy payload : List ℕ) (frames : ℕ) (list : List ℤ) → frames ≤ maxFrames → length payload ≤ maxPayloadBytes → length list ≡ 2 * frames → 0 ≡ seedRefusal entropy
+reads : (entropy payload : List ℕ) (frames : ℕ) (list : List ℤ) → frames ≤ maxFrames
+    → length payload ≤ maxPayloadBytes → length list ≡ 2 * frames → 0 ≡ seedRefusal entropy
     → readEntry entropy payload frames list ≡ readWords payload (seedMedians entropy) (2 * frames) list
 unfolding readEntry readRefusal
 reads entropy payload frames list f p l s =
@@ -87,12 +91,14 @@ whole payload seeds residuals list frames p w r e l b m = record {
   bits-used = ap (λ (x : Reading). x .place) r ∙ sym b;
   medians-after = ap (λ (x : Reading). record { left = x .state .left; right = x .state .right }) r ∙ sym m;
   all-read = ap (λ (x : Reading). length (x .samples)) r ∙ e;
-  residuals-back = ap (λ (x : Reading). overlay list 0 (x .samples)) r ∙ overlay-whole list residuals (omega arith);
+  residuals-back = ap (λ (x : Reading). overlay list 0 (x .samples)) r
+      ∙ overlay-whole list residuals (omega arith);
 }
 
 -- Whatever bytes or none follow the packed bytes, within the payload limit, reading returns the
 -- residuals; the bits used are the bits written, and the medians after are the writer's.
-pub read-what-was-packed : (residuals : List ℤ) (entropy : List ℕ) (frames : ℕ) (buffer behind : List ℕ) (list : List ℤ) → let p = packEntry residuals entropy frames buffer in
+pub read-what-was-packed : (residuals : List ℤ) (entropy : List ℕ) (frames : ℕ) (buffer behind : List ℕ) (list : List ℤ)
+    → let p = packEntry residuals entropy frames buffer in
     p .refusal ≡ 0 → length (packedBytes p ++ behind) ≤ maxPayloadBytes → length list ≡ 2 * frames
     → ReadBack frames residuals p (readEntry entropy (packedBytes p ++ behind) frames list)
 read-what-was-packed residuals entropy frames buffer behind list e n l =

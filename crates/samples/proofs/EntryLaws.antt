@@ -30,23 +30,27 @@ module _ (entropy payload : List ℕ) (frames : ℕ) (list : List ℤ) where
   refused-payload h = rw (lt-ltb maxPayloadBytes (length payload) h, or-true (ltb maxFrames frames))
 
   -- a list of another length
-  pub refused-list : frames ≤ maxFrames → length payload ≤ maxPayloadBytes → (length list ≡ 2 * frames → ⊥) → 6 ≡ readRefusal entropy payload frames list
+  pub refused-list : frames ≤ maxFrames → length payload ≤ maxPayloadBytes → (length list ≡ 2 * frames → ⊥)
+      → 6 ≡ readRefusal entropy payload frames list
   unfolding readRefusal
   refused-list h l n = rw (le-ltb maxFrames frames h, le-ltb maxPayloadBytes (length payload) l, ne-eqb (length list) (2 * frames) n)
 
   -- and the entropy payload itself
-  pub refused-seed : frames ≤ maxFrames → length payload ≤ maxPayloadBytes → length list ≡ 2 * frames → seedRefusal entropy ≡ readRefusal entropy payload frames list
+  pub refused-seed : frames ≤ maxFrames → length payload ≤ maxPayloadBytes → length list ≡ 2 * frames
+      → seedRefusal entropy ≡ readRefusal entropy payload frames list
   unfolding readRefusal
   refused-seed h l n = rw (le-ltb maxFrames frames h, le-ltb maxPayloadBytes (length payload) l, eq-eqb (length list) (2 * frames) n)
 
   -- a refusal before any word
-  pub not-read : (told : ReadTold) (x : Outcome) (y : Refusal) → x ≡ Outcome.Refused y → outcomeNumber x ≡ readRefusal entropy payload frames list
+  pub not-read : (told : ReadTold) (x : Outcome) (y : Refusal) → x ≡ Outcome.Refused y
+      → outcomeNumber x ≡ readRefusal entropy payload frames list
       → told ≡ refuseReading list (outcomeNumber x) → told ≡ readEntry entropy payload frames list
   unfolding readEntry
   not-read told x y e n a = rw (← n) (a ∙ sym (guard-refused (outcomeNumber x) (refuseReading list) _ (rw e (number-positive y))))
 
   -- the words
-  pub all-read : (told : ReadTold) (seeds : MedianPair) → 0 ≡ readRefusal entropy payload frames list → seeds ≡ seedMedians entropy → length list ≡ 2 * frames
+  pub all-read : (told : ReadTold) (seeds : MedianPair) → 0 ≡ readRefusal entropy payload frames list
+      → seeds ≡ seedMedians entropy → length list ≡ 2 * frames
       → told ≡ readWords payload seeds (length list) list → told ≡ readEntry entropy payload frames list
   unfolding readEntry
   all-read told seeds n e l t = rw (← n) (t ∙ ap₂ (λ (m : ℕ) (s : MedianPair). readWords payload s m list) l e)

@@ -64,12 +64,14 @@ module _ (payload : List ℕ) (out₀ : List ℤ) (s₀ : State) (out : List ℤ
       ap₂ (λ (x y : ℕ). record { left = x; right = y }) (omega (arith, g)) (omega (arith, g, both, f))
 
   -- what the answer tells where the words so far are the whole reading
-  told : (c : ℕ) → i ≤ length out → record { refusal = c; samples = take i out; place = p; state = l .state } ≡ reading (bitsOf payload) (length out₀) 0 s₀
+  told : (c : ℕ) → i ≤ length out
+      → record { refusal = c; samples = take i out; place = p; state = l .state } ≡ reading (bitsOf payload) (length out₀) 0 s₀
       → (n : ℕ) → length out₀ - i ≡ n → costs (bitsOf payload) n p (l .state) ≡ [] → toldHere c ≡ whole
   told c h e rest m none =
       let n : length (take i out) ≡ i = length-take-le i out h in
       let f : out ≡ overlay out₀ 0 (take i out) =
-      sym (take-append-drop i out) ∙ ap (λ (x : List ℤ). take i out ++ x) (l .others) ∙ ap (λ (x : ℕ). take i out ++ drop x out₀) (sym n)
+      sym (take-append-drop i out) ∙ ap (λ (x : List ℤ). take i out ++ x) (l .others)
+      ∙ ap (λ (x : ℕ). take i out ++ drop x out₀) (sym n)
       ∙ sym (overlay-first out₀ (take i out)) in
       let b = stems rest m none (sym (ap (λ (r : Reading). r .place) e)) in
       ap₂ (λ (x : ℕ) (y : List ℤ). record { refusal = c; bits = p; medians = pairOf ms; written = x; bitsRead = record { left = a; right = p - a }; list = y }) (sym n) f
@@ -97,11 +99,13 @@ module _ (payload : List ℕ) (out₀ : List ℤ) (s₀ : State) (out : List ℤ
 
 -- list and numbers may be written otherwise
 words-as : (payload : List ℕ) (out₀ : List ℤ) (s₀ : State) (out new : List ℤ) (ms : List AdaptiveMedians) (owed d : ℕ) (b z o : Bool) (p a i j : ℕ)
-    → out ≡ new → owed ≡ d → i ≡ j → Words payload out₀ s₀ out ms owed b z o p a i → Words payload out₀ s₀ new ms d b z o p a j
+    → out ≡ new → owed ≡ d → i ≡ j → Words payload out₀ s₀ out ms owed b z o p a i
+    → Words payload out₀ s₀ new ms d b z o p a j
 words-as payload out₀ s₀ out new ms owed d b z o p a i j g e f l = rw (g, e, f) at l
 
 -- n of the zeros that are owed
-words-zeros : (payload : List ℕ) (out₀ : List ℤ) (s₀ : State) (out : List ℤ) (ms : List AdaptiveMedians) (owed : ℕ) (b z o : Bool) (p a i n : ℕ) → Words payload out₀ s₀ out ms owed b z o p a i
+words-zeros : (payload : List ℕ) (out₀ : List ℤ) (s₀ : State) (out : List ℤ) (ms : List AdaptiveMedians) (owed : ℕ) (b z o : Bool) (p a i n : ℕ)
+    → Words payload out₀ s₀ out ms owed b z o p a i
     → n ≤ owed → i + n ≤ length out → Words payload out₀ s₀ (zeroed out i n) ms (owed - n) b z o p a (i + n)
 words-zeros payload out₀ s₀ out ms owed b z o p a i zero l h k =
     words-as payload out₀ s₀ out (zeroed out i 0) ms owed (owed - 0) b z o p a i (i + 0) (sym (overlay-none out i)) (omega arith) (omega arith) l
@@ -190,7 +194,8 @@ module _ (payload : List ℕ) (out₀ : List ℤ) (s₀ : State) (out : List ℤ
     read = c .is (l .words .state) (rw (l .settled h) at (l .words .held))
 
     -- it ends at its place or after it
-    pub loop-on : (v : ℤ) (q : ℕ) (u : State) (z : Report) → codedWord (l .words .state) r ≡ given v q u z → t .bits ≤ q
+    pub loop-on : (v : ℤ) (q : ℕ) (u : State) (z : Report) → codedWord (l .words .state) r ≡ given v q u z
+        → t .bits ≤ q
     loop-on v q u z e = word-on (bitsOf payload) (t .bits) q (l .words .state) u v z (sym read ∙ e)
 
     -- the zeros of a run, as far as the list goes
@@ -204,7 +209,8 @@ module _ (payload : List ℕ) (out₀ : List ℤ) (s₀ : State) (out : List ℤ
         let w = words-run payload out₀ s₀ out _ (l .owed) _ _ _ _ _ i (l .words) r h read d q e in
         let k : j - i ≡ suc n = omega (arith, zs .some) in
         let m : i + 1 + n ≡ j = omega (arith, zs .some) in
-        let y : zeroed (set out i (pos 0)) (i + 1) n ≡ after = zeroed-first out i n h ∙ ap (zeroed out i) (sym k) ∙ sym (zs .list-is) in
+        let y : zeroed (set out i (pos 0)) (i + 1) n ≡ after = zeroed-first out i n h
+        ∙ ap (zeroed out i) (sym k) ∙ sym (zs .list-is) in
         let u = words-zeros payload out₀ s₀ (set out i (pos 0)) (zeroSet ∷ zeroSet ∷ []) d true _ _ q _
         (i + 1) n w (omega (arith, zs .most))
         (omega (arith, zs .some, zs .within, length-set out i (pos 0))) in

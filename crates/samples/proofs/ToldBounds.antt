@@ -47,11 +47,13 @@ module _ (entropy payload : List ℕ) (frames : ℕ) (list : List ℤ) where
       (cond-le (eqb (length list) (2 * frames)) (seedRefusal entropy) 6 17 (seed-le entropy) (omega arith))
 
   -- a reading that comes to its words has frames and payload bytes within their limits
-  pub read-limits : readRefusal entropy payload frames list ≡ 0 → (frames ≤ maxFrames) × (length payload ≤ maxPayloadBytes)
+  pub read-limits : readRefusal entropy payload frames list ≡ 0
+      → (frames ≤ maxFrames) × (length payload ≤ maxPayloadBytes)
   unfolding readRefusal
   read-limits e = go (ltb maxFrames frames) (ltb maxPayloadBytes (length payload)) refl refl _ e
     where
-      go : (a b : Bool) → ltb maxFrames frames ≡ a → ltb maxPayloadBytes (length payload) ≡ b → (n : ℕ) → cond (a || b) 5 n ≡ 0
+      go : (a b : Bool) → ltb maxFrames frames ≡ a → ltb maxPayloadBytes (length payload) ≡ b → (n : ℕ)
+          → cond (a || b) 5 n ≡ 0
           → (frames ≤ maxFrames) × (length payload ≤ maxPayloadBytes)
       go true b i j n e = absurd (omega arith)
       go false true i j n e = absurd (omega arith)
@@ -99,6 +101,7 @@ module _ (entropy payload : List ℕ) (frames : ℕ) (list : List ℤ) where
       }
 
   -- and what the entry's struct holds of it
-  pub read-fits : (after : List ℤ) (x : ReadAnswer) → viewReading x after ≡ readEntry entropy payload frames list
+  pub read-fits : (after : List ℤ) (x : ReadAnswer)
+      → viewReading x after ≡ readEntry entropy payload frames list
       → SmallTold (length payload) frames (viewReading x after)
   read-fits after x t = rw t read-small

@@ -31,10 +31,17 @@ pub record ReadTold : Type 0 where
 
 -- the answer that the entry's struct holds, with the lent list as it is left
 abbrev pub viewReading : ReadAnswer → List ℤ → ReadTold
-viewReading r list = record { refusal = outcomeNumber (r .outcome); bits = r .bits; medians = pairOf (r .medians); written = r .written; bitsRead = bitsReadOf (r .«bits_read»); list = list }
+viewReading r list = record {
+  refusal = outcomeNumber (r .outcome);
+  bits = r .bits;
+  medians = pairOf (r .medians);
+  written = r .written;
+  bitsRead = bitsReadOf (r .«bits_read»);
+  list = list;
+}
 
--- the samples of a reading stand first in the lent list; the rest of it is as it was. Document 02, §8:
--- the bits of a stem are what its accepted words cost
+-- the samples of a reading stand first in the lent list; the rest of it is as it was. Document 02, §8
+-- (Q8.7): the bits of a stem are what its accepted words cost
 abbrev pub tellReading : List ℤ → List Cost → Reading → ReadTold
 tellReading list words r = record {
   refusal = r .refusal;
@@ -51,9 +58,11 @@ unfoldable pub readRefusal : List ℕ → List ℕ → ℕ → List ℤ → ℕ
 readRefusal entropy payload frames list =
     cond (ltb maxFrames frames || ltb maxPayloadBytes (length payload)) 5 (cond (eqb (length list) (2 * frames)) (seedRefusal entropy) 6)
 
--- document 01 (R6): "One that comes before any word is tried tells 0 for bits and medians"
+-- document 01 (R6): "One that comes before any word is tried tells 0 for bits and medians"; and so for
+-- the bits of both stems (Q8.7)
 abbrev pub refuseReading : List ℤ → ℕ → ReadTold
-refuseReading list refusal = record { refusal = refusal; bits = 0; medians = zeroPair; written = 0; bitsRead = noBits; list = list }
+refuseReading list refusal =
+    record { refusal = refusal; bits = 0; medians = zeroPair; written = 0; bitsRead = noBits; list = list }
 
 -- n words from these medians on
 abbrev pub readWords : List ℕ → MedianPair → ℕ → List ℤ → ReadTold
@@ -65,4 +74,5 @@ readWords payload seeds n list =
 -- medians on
 unfoldable pub readEntry : List ℕ → List ℕ → ℕ → List ℤ → ReadTold
 readEntry entropy payload frames list =
-    unlessRefused (readRefusal entropy payload frames list) (refuseReading list) (readWords payload (seedMedians entropy) (2 * frames) list)
+    unlessRefused (readRefusal entropy payload frames list) (refuseReading list)
+    (readWords payload (seedMedians entropy) (2 * frames) list)

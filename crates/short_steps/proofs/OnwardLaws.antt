@@ -28,11 +28,13 @@ use Rattle.readings.proofs.HeldLaws.{held-coded}
 use Rattle.readings.proofs.StandingLaws.{words-sample}
 
 -- no word
-pub onward-none : (payload : List ℕ) (out : List ℤ) (x : Standing) → x .written ≤ length out → x .«left_bits» ≤ x .place → Onward payload out out x x
+pub onward-none : (payload : List ℕ) (out : List ℤ) (x : Standing) → x .written ≤ length out
+    → x .«left_bits» ≤ x .place → Onward payload out out x x
 onward-none payload out x h part = record { goes = λ out₀ s₀ l. l; since = omega arith; part = part; within = h; same = refl }
 
 -- words, and then more of them
-pub onward-then : (payload : List ℕ) (a b c : List ℤ) (x y z : Standing) → Onward payload a b x y → Onward payload b c y z → Onward payload a c x z
+pub onward-then : (payload : List ℕ) (a b c : List ℤ) (x y z : Standing) → Onward payload a b x y
+    → Onward payload b c y z → Onward payload a c x z
 onward-then payload a b c x y z f g = record {
   goes = λ out₀ s₀ l. g .goes out₀ s₀ (f .goes out₀ s₀ l);
   since = omega (arith, f .since, g .since);
@@ -45,7 +47,8 @@ module _ (payload : List ℕ) (out : List ℤ) (x : Standing) (w : ℕ) (h : x .
     (part : x .«left_bits» ≤ x .place) (v : Ready payload x w) (y : ShortWord) where
   -- the word of the channel c, whose medians are due, and left's bits and the two sets after it
   onward-word : (c total : ℕ) (due left right : AdaptiveMedians) (other : Medians) → x .written % 2 ≡ c
-      → x .«left_bits» + side c (x .place + y .used - x .place) 0 ≡ total → getD (x .left ∷ x .right ∷ []) c noSet ≡ due
+      → x .«left_bits» + side c (x .place + y .used - x .place) 0 ≡ total
+      → getD (x .left ∷ x .right ∷ []) c noSet ≡ due
       → set (x .left ∷ x .right ∷ []) c (y .medians) ≡ left ∷ right ∷ []
       → ShortWordIs w (mediansOf due) other (x .«last_zero») (x .«last_one») y
       → Onward payload out (set out (x .written) (y .value)) x (behind x y total left right)
@@ -80,14 +83,17 @@ module _ (payload : List ℕ) (out : List ℤ) (x : Standing) (w : ℕ) (h : x .
 -- ---- steps
 
 -- no word: the reading stands where it was
-pub step-none : (payload : List ℕ) (out : List ℤ) (x : Standing) (w : ℕ) → x .written ≤ length out → x .«left_bits» ≤ x .place → StepIs payload out out x (record { on = false; w = w; at = x })
+pub step-none : (payload : List ℕ) (out : List ℤ) (x : Standing) (w : ℕ) → x .written ≤ length out
+    → x .«left_bits» ≤ x .place → StepIs payload out out x (record { on = false; w = w; at = x })
 step-none payload out x w h part = record { onward = onward-none payload out x h part; ready = λ e. clash e refl; next = λ e. clash e refl; near = omega arith }
 
 module _ (payload : List ℕ) (out after : List ℤ) (x : Standing) (w : ℕ) (h : x .written < length out)
     (part : x .«left_bits» ≤ x .place) (v : Ready payload x w) (y : ShortWord) (r : Step) where
   -- a word, with left's bits and the two sets after it
-  stepped-on : (total : ℕ) (left right : AdaptiveMedians) → Onward payload out (set out (x .written) (y .value)) x (behind x y total left right) → y .used ≤ 57
-      → (y .on ≡ true → runDue (mediansOf left) (mediansOf right) (y .«last_zero») (y .«last_one») ≡ false) → SteppedIs payload out after x y total left right r
+  stepped-on : (total : ℕ) (left right : AdaptiveMedians)
+      → Onward payload out (set out (x .written) (y .value)) x (behind x y total left right) → y .used ≤ 57
+      → (y .on ≡ true → runDue (mediansOf left) (mediansOf right) (y .«last_zero») (y .«last_one») ≡ false)
+      → SteppedIs payload out after x y total left right r
       → StepIs payload out after x r
   stepped-on total left right g u n s = record {
     onward = rw (s .list-is, s .at-is) g;
@@ -98,10 +104,12 @@ module _ (payload : List ℕ) (out after : List ℤ) (x : Standing) (w : ℕ) (h
 
   pub left-step : x .written % 2 ≡ 0
       → ShortWordIs w (mediansOf (x .left)) (mediansOf (x .right)) (x .«last_zero») (x .«last_one») y
-      → SteppedIs payload out after x y (x .«left_bits» + y .used) (y .medians) (x .right) r → StepIs payload out after x r
+      → SteppedIs payload out after x y (x .«left_bits» + y .used) (y .medians) (x .right) r
+      → StepIs payload out after x r
   left-step e t s = stepped-on _ (y .medians) (x .right) (onward-left payload out x w h part v y e t) (t .most) (t .unbroken) s
 
   pub right-step : x .written % 2 ≡ 1
       → ShortWordIs w (mediansOf (x .right)) (mediansOf (x .left)) (x .«last_zero») (x .«last_one») y
-      → SteppedIs payload out after x y (x .«left_bits») (x .left) (y .medians) r → StepIs payload out after x r
+      → SteppedIs payload out after x y (x .«left_bits») (x .left) (y .medians) r
+      → StepIs payload out after x r
   right-step e t s = stepped-on _ (x .left) (y .medians) (onward-right payload out x w h part v y e t) (t .most) (λ o. due-either _ _ _ _ ∙ t .unbroken o) s

@@ -30,7 +30,8 @@ abbrev plus : BitsRead → List Cost → BitsRead
 plus b ws = record { left = b .left + leftCost ws; right = b .right + rightCost ws }
 
 -- a word's bits counted first, or with those of the words after it
-plus-first : (c n : ℕ) (b : BitsRead) (ws : List Cost) → plus (plusBits c n b) ws ≡ plus b (record { channel = c; bits = n } ∷ ws)
+plus-first : (c n : ℕ) (b : BitsRead) (ws : List Cost)
+    → plus (plusBits c n b) ws ≡ plus b (record { channel = c; bits = n } ∷ ws)
 unfolding leftCost rightCost
 plus-first zero n b ws = ap₂ (λ (x y : ℕ). record { left = x; right = y }) (omega arith) (omega arith)
 plus-first (suc c) n b ws = ap₂ (λ (x y : ℕ). record { left = x; right = y }) (omega arith) (omega arith)
@@ -57,10 +58,12 @@ module _ (payload : List ℕ) (few : length payload ≤ maxPayloadBytes) (left r
   record Walk (C : List Cost) (R : Reading) (p : ℕ) (s : State) (b : BitsRead) : Type 0 where
     pub many : length C ≡ length (R .samples)
     pub stands : afterWords payload (length C) p (withBits b s) ≡ record { place = R .place; state = withBits (plus b C) (R .state) }
-    pub grows : (n : ℕ) → Grown n p (withBits b s) → Grown (n + length C) (R .place) (withBits (plus b C) (R .state))
+    pub grows : (n : ℕ) → Grown n p (withBits b s)
+        → Grown (n + length C) (R .place) (withBits (plus b C) (R .state))
 
   -- no word
-  walk-none : (c p : ℕ) (s : State) (b : BitsRead) → Walk [] (record { refusal = c; samples = []; place = p; state = s }) p s b
+  walk-none : (c p : ℕ) (s : State) (b : BitsRead)
+      → Walk [] (record { refusal = c; samples = []; place = p; state = s }) p s b
   unfolding afterWords
   walk-none c p s b =
       let e = sym (plus-none b) in
@@ -71,7 +74,8 @@ module _ (payload : List ℕ) (few : length payload ≤ maxPayloadBytes) (left r
       }
 
   -- a word of the entry, in a state whose totals add up to its place
-  one-given : (p q : ℕ) (s t : State) (v : ℤ) (z : Report) (b : BitsRead) → word (bitsOf payload) p s ≡ given v q t z
+  one-given : (p q : ℕ) (s t : State) (v : ℤ) (z : Report) (b : BitsRead)
+      → word (bitsOf payload) p s ≡ given v q t z
       → s .channel ≤ 1 → b .left + b .right ≡ p
       → oneWord payload p (withBits b s)
       ≡ record { refusal = 0; sample = v; place = q; state = withBits (plusBits (s .channel) (q - p) b) t; report = z }
@@ -91,7 +95,8 @@ module _ (payload : List ℕ) (few : length payload ≤ maxPayloadBytes) (left r
       record {
         many = omega (arith, w .many);
         stands =
-            ap (λ (x : WordTold). afterWords payload (length C) (x .place) (x .state)) one ∙ rw f at (w .stands);
+            ap (λ (x : WordTold). afterWords payload (length C) (x .place) (x .state)) one
+            ∙ rw f at (w .stands);
         grows = λ n g.
             let m = w .grows (suc n) (record {
               words = costAt p q s ∷ g .words;

@@ -29,7 +29,8 @@ pub record Totals (payload : List ℕ) (p : ℕ) (s : State) (w : WordTold) : Ty
   pub totals : w .state .bitsRead ≡ plusBits (s .channel) (w .place - p) (s .bitsRead)
   pub ends : Ends (bitsOf payload) p (w .place)
 
-pub accepted-totals : (payload : List ℕ) (p : ℕ) (s : State) → Accepted payload p s → Totals payload p s (oneWord payload p s)
+pub accepted-totals : (payload : List ℕ) (p : ℕ) (s : State) → Accepted payload p s
+    → Totals payload p s (oneWord payload p s)
 unfolding charged
 accepted-totals payload p s a =
     let bits = bitsOf payload in
@@ -43,13 +44,15 @@ accepted-totals payload p s a =
 -- ---- after a history
 
 -- a word more in front: its bits are its stem's
-pub plus-word : (c n : ℕ) (ws : List Cost) → plusBits c n (byStem ws) ≡ byStem (record { channel = c; bits = n } ∷ ws)
+pub plus-word : (c n : ℕ) (ws : List Cost)
+    → plusBits c n (byStem ws) ≡ byStem (record { channel = c; bits = n } ∷ ws)
 unfolding leftCost rightCost
 plus-word zero n ws = ap₂ (λ (x y : ℕ). record { left = x; right = y }) (omega arith) (omega arith)
 plus-word (suc c) n ws = ap₂ (λ (x y : ℕ). record { left = x; right = y }) (omega arith) (omega arith)
 
 -- a place within the longest payload stays there
-near : (payload : List ℕ) (p q : ℕ) → length payload ≤ maxPayloadBytes → p ≤ 8 * maxPayloadBytes → Ends (bitsOf payload) p q → q ≤ 8 * maxPayloadBytes
+near : (payload : List ℕ) (p q : ℕ) → length payload ≤ maxPayloadBytes → p ≤ 8 * maxPayloadBytes
+    → Ends (bitsOf payload) p q → q ≤ 8 * maxPayloadBytes
 near payload p q h l (inside e) = omega (arith, few-bits payload h)
 near payload p q h l (still e) = omega arith
 
@@ -64,7 +67,8 @@ bits-by-stem left right words p s (further ws p₀ s₀ payload w h f e) =
     let sum = ap (λ (b : BitsRead). b .left + b .right) (t .totals) in
     record {
       add-up = omega (arith, sum, sum-added (s₀ .channel) n (s₀ .bitsRead), before .add-up, t .on);
-      each-its-own = t .totals ∙ ap (plusBits (s₀ .channel) n) (before .each-its-own) ∙ plus-word (s₀ .channel) n ws;
+      each-its-own = t .totals ∙ ap (plusBits (s₀ .channel) n) (before .each-its-own)
+          ∙ plus-word (s₀ .channel) n ws;
       few = near payload p₀ (w .place) (a .few) (before .few) (t .ends);
     }
 

@@ -12,8 +12,10 @@ use Rattle.one_word.specs.View.{WordTold, oneWord}
 -- what the words cost, the last one first, and the place and the state after them
 pub data History (left right : Medians) : List Cost → ℕ → State → Type 0 where
   fresh : History left right [] 0 (start left right)
-  further : (words : List Cost) (p : ℕ) (s : State) (payload : List ℕ) (w : WordTold) → History left right words p s
-      → oneWord payload p s ≡ w → w .refusal ≡ 0 → History left right (costAt p (w .place) s ∷ words) (w .place) (w .state)
+  further : (words : List Cost) (p : ℕ) (s : State) (payload : List ℕ) (w : WordTold)
+      → History left right words p s
+      → oneWord payload p s ≡ w → w .refusal ≡ 0
+      → History left right (costAt p (w .place) s ∷ words) (w .place) (w .state)
 
 -- where the one-word entry stands
 pub record Stand : Type 0 where

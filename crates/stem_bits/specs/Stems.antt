@@ -17,7 +17,8 @@ use Rattle.stem_bits.specs.History.{History, Stand, afterWords}
 -- (Q8.3) whatever the place, totals of 32 bits stay such, accepted or refused
 abbrev pub TotalsStaySmall : Type 0
 TotalsStaySmall =
-    (payload : List ℕ) (p : ℕ) (s : State) → SmallBits (s .bitsRead) → SmallBits (oneWord payload p s .state .bitsRead)
+    (payload : List ℕ) (p : ℕ) (s : State) → SmallBits (s .bitsRead)
+    → SmallBits (oneWord payload p s .state .bitsRead)
 
 -- (Q8.4) "the two add up to the reader's place, each being the sum over the history of what its own words
 -- took"; and none is above the bits of the longest payload
@@ -27,7 +28,9 @@ pub record AfterHistory (words : List Cost) (p : ℕ) (s : State) : Type 0 where
   pub few : p ≤ 8 * maxPayloadBytes
 
 abbrev pub BitsByStem : Type 0
-BitsByStem = (left right : Medians) (words : List Cost) (p : ℕ) (s : State) → History left right words p s → AfterHistory words p s
+BitsByStem =
+    (left right : Medians) (words : List Cost) (p : ℕ) (s : State) → History left right words p s
+    → AfterHistory words p s
 
 -- (Q8.5) "A refused word adds to neither": it hands back the state that it got, and the place
 abbrev pub RefusedKeeps : Type 0
@@ -35,15 +38,16 @@ RefusedKeeps =
     (payload : List ℕ) (p : ℕ) (s : State) → let w = oneWord payload p s in
     (w .refusal ≡ 0 → ⊥) → (w .state ≡ s) × (w .place ≡ p)
 
--- of a reading that came to its words, also of one that a word ended: the one-word entry accepts as many
--- words of the same payload, and has then the totals that the reading tells, at the bits used
+-- (Q8.7) of a reading that came to its words, also of one that a word ended: the one-word entry accepts as
+-- many words of the same payload, and has then the totals that the reading tells, at the bits used
 pub record SameTotals (entropy payload : List ℕ) (frames : ℕ) (list : List ℤ) : Type 0 where
   pub words : List Cost
   pub as-many : length words ≡ readEntry entropy payload frames list .written
   pub after : Stand
   pub after-is :
-      after ≡ afterWords payload (length words) 0 (start (seedMedians entropy .left) (seedMedians entropy .right))
-  pub accepted : History (seedMedians entropy .left) (seedMedians entropy .right) words (after .place) (after .state)
+      let m = seedMedians entropy in after ≡ afterWords payload (length words) 0 (start (m .left) (m .right))
+  pub accepted :
+      let m = seedMedians entropy in History (m .left) (m .right) words (after .place) (after .state)
   pub bits-used : after .place ≡ readEntry entropy payload frames list .bits
   pub totals : after .state .bitsRead ≡ readEntry entropy payload frames list .bitsRead
 
@@ -52,7 +56,7 @@ ReadingTotals =
     (entropy payload : List ℕ) (frames : ℕ) (list : List ℤ) → readRefusal entropy payload frames list ≡ 0
     → SameTotals entropy payload frames list
 
--- together they are the bits used, of every reading
+-- (Q8.7) together they are the bits used, of every reading
 abbrev pub ReadingAddsUp : Type 0
 ReadingAddsUp =
     (entropy payload : List ℕ) (frames : ℕ) (list : List ℤ) → let r = readEntry entropy payload frames list in

@@ -43,8 +43,10 @@ module _ (entropy payload : List ℕ) (frames : ℕ) (samples : List ℤ) (answe
 
   -- what reading told: bits and medians, and behind them the count and both totals
   pub read-laid : (x : ReadAnswer) (list : List ℤ) (r : ℕ) (first after : List ℕ)
-      → viewReading x list ≡ readEntry entropy payload frames samples → 10 ≤ length answer → r ≡ outcomeNumber (x .outcome)
-      → first ≡ overlay answer 0 (countSlots (x .bits) (pairOf (x .medians))) → after ≡ overlay first 7 (x .written ∷ bitsSlots (bitsReadOf (x .«bits_read»)))
+      → viewReading x list ≡ readEntry entropy payload frames samples → 10 ≤ length answer
+      → r ≡ outcomeNumber (x .outcome)
+      → first ≡ overlay answer 0 (countSlots (x .bits) (pairOf (x .medians)))
+      → after ≡ overlay first 7 (x .written ∷ bitsSlots (bitsReadOf (x .«bits_read»)))
       → record { refusal = r; samples = list; answer = after } ≡ readCall entropy payload frames samples answer
   unfolding readCall
   read-laid x list r first after t h e f g =
@@ -52,7 +54,8 @@ module _ (entropy payload : List ℕ) (frames : ℕ) (samples : List ℤ) (answe
       rw (le-ltb (length answer) 10 h, ← t, e, both)
 
   -- each number that it told fits its slot
-  pub read-counts : (x : ReadAnswer) (list : List ℤ) → viewReading x list ≡ readEntry entropy payload frames samples → CountsFit x
+  pub read-counts : (x : ReadAnswer) (list : List ℤ)
+      → viewReading x list ≡ readEntry entropy payload frames samples → CountsFit x
   read-counts x list t =
       let s = read-fits entropy payload frames samples list x t in
       record {
@@ -66,13 +69,15 @@ module _ (entropy payload : List ℕ) (frames : ℕ) (samples : List ℤ) (answe
 
 module _ (payload state : List ℕ) (sample : List ℤ) (report : List ℕ) where
   -- too few slots
-  pub word-short : (r : ℕ) → r ≡ 6 → (ltb (length state) 15 || ltb (length sample) 1 || ltb (length report) 2) ≡ true
+  pub word-short : (r : ℕ) → r ≡ 6
+      → (ltb (length state) 15 || ltb (length sample) 1 || ltb (length report) 2) ≡ true
       → record { refusal = r; state = state; sample = sample; report = report } ≡ wordCall payload state sample report
   unfolding wordCall
   word-short r e h = rw (h, e)
 
   -- what the word told
-  pub word-told : (x : WordAnswer) (s : State) → (15 ≤ length state) × (1 ≤ length sample) × (2 ≤ length report)
+  pub word-told : (x : WordAnswer) (s : State)
+      → (15 ≤ length state) × (1 ≤ length sample) × (2 ≤ length report)
       → s ≡ slotsState state → viewWord x ≡ oneWord payload (slotsPlace state) s
       → leaveWord (viewWord x) state sample report ≡ wordCall payload state sample report
   unfolding wordCall

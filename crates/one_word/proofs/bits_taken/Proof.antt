@@ -3,7 +3,7 @@
 use borrow.Author.Needs.{needs}
 use mathlib.Core.Path.{subst}
 use Rattle.words.specs.declared.coded.Coded.{Coded}
-use Rattle.one_word.specs.View.{Onward}
+use Rattle.one_word.specs.View.{EndsAfter}
 use Rattle.one_word.proofs.bits_taken.Statement.{statement}
 use Rattle.one_word.proofs.bits_taken.Tie as tie
 
@@ -11,13 +11,13 @@ sub-result : tie.Need-sub-result
 sub-result c =
     let start : tie.Start = search needs in
     let w : tie.After-word = search needs in
-    subst (λ (r : Coded). Onward (start .args .place) r) (w .word .given .1) (start .pre)
+    subst (λ (r : Coded). EndsAfter (start .args .place) r) (w .word .given .1) (start .pre)
 
 sub-result-2 : tie.Need-sub-result-2
 sub-result-2 c =
     let start : tie.Start = search needs in
     let w : tie.After-word2 = search needs in
-    subst (λ (r : Coded). Onward (start .args .place) r) (w .word2 .given .1) (start .pre)
+    subst (λ (r : Coded). EndsAfter (start .args .place) r) (w .word2 .given .1) (start .pre)
 
 returns : tie.Need-returns
 returns c =

@@ -70,7 +70,8 @@ returns-3 c =
     let else2 : tie.Else2 = search needs in
     let a = start .args in
     let s = stateOf (a .state) in
-    c .zero .ensures ∙ ap (λ (t : State). tellWord (a .place) s (given (pos 0) (a .place) t none)) (c .before .paid .ensures)
+    c .zero .ensures
+    ∙ ap (λ (t : State). tellWord (a .place) s (given (pos 0) (a .place) t none)) (c .before .paid .ensures)
     ∙ one-paid (now (a .payload)) (a .place) s (omega arith) (passed else2 .0) (passed else2 .1) (omega arith)
 
 array-copy-out-read-word : tie.Need-array-copy-out-read-word
@@ -128,8 +129,10 @@ told c =
     let a = entry k .args in
     let s = stateOf (a .state) in
     let r = k .read-word .result in
-    let e = c .charged .ensures ∙ ap (λ (n : ℕ). plusBits (s .channel) n (s .bitsRead)) (taken .bits-taken .ensures) in
-    ap (λ (b : BitsRead). tellWord (a .place) s (codedWord (withBits b s) r)) e ∙ ap (tellWord (a .place) s) (charged-before (a .place) s r)
+    let e = c .charged .ensures
+    ∙ ap (λ (n : ℕ). plusBits (s .channel) n (s .bitsRead)) (taken .bits-taken .ensures) in
+    ap (λ (b : BitsRead). tellWord (a .place) s (codedWord (withBits b s) r)) e
+    ∙ ap (tellWord (a .place) s) (charged-before (a .place) s r)
     ∙ one-word (now (a .payload)) (a .place) s _ (omega arith) (passed else2 .0) (passed else2 .1) (read k)
 
 in-run-requires : tie.Need-in-run-requires
@@ -150,8 +153,10 @@ returns-4 c =
     let a = entry (readOf k) .args in
     let s = stateOf (a .state) in
     let w = y .word .given in
-    c .zero2 .ensures ∙ ap (λ (t : State). tellWord (a .place) s (given (pos 0) (w .0 .1 .0) t none)) (run .in-run .ensures)
-    ∙ ap (λ (x : Coded). tellWord (a .place) s (codedWord (withBits (bitsReadOf (k .charged .result)) s) x)) (sym (w .1)) ∙ told k
+    c .zero2 .ensures
+    ∙ ap (λ (t : State). tellWord (a .place) s (given (pos 0) (w .0 .1 .0) t none)) (run .in-run .ensures)
+    ∙ ap (λ (x : Coded). tellWord (a .place) s (codedWord (withBits (bitsReadOf (k .charged .result)) s) x)) (sym (w .1))
+    ∙ told k
 
 returns-5 : tie.Need-returns-5
 returns-5 c =
@@ -164,7 +169,8 @@ returns-5 c =
     let f : SFits w32 (w .0 .0) = search needs in
     rw (toZ-ofZ f) at (c .given .ensures)
     ∙ ap (λ (t : State). tellWord (a .place) s (given (w .0 .0) (w .0 .1 .1 .0) t (zoneOf (w .0 .1 .0)))) (state .adapted .ensures)
-    ∙ ap (λ (x : Coded). tellWord (a .place) s (codedWord (withBits (bitsReadOf (k .charged .result)) s) x)) (sym (w .1)) ∙ told k
+    ∙ ap (λ (x : Coded). tellWord (a .place) s (codedWord (withBits (bitsReadOf (k .charged .result)) s) x)) (sym (w .1))
+    ∙ told k
 
 returns-6 : tie.Need-returns-6
 returns-6 c =
@@ -172,7 +178,8 @@ returns-6 c =
     let a = entry (readOf k) .args in
     let s = stateOf (a .state) in
     c .refused3 .ensures
-    ∙ ap (λ (x : Coded). tellWord (a .place) s (codedWord (withBits (bitsReadOf (k .charged .result)) s) x)) (sym (c .before .enum-told .given .1)) ∙ told k
+    ∙ ap (λ (x : Coded). tellWord (a .place) s (codedWord (withBits (bitsReadOf (k .charged .result)) s) x)) (sym (c .before .enum-told .given .1))
+    ∙ told k
 
 returns-7 : tie.Need-returns-7
 returns-7 c =
@@ -180,7 +187,8 @@ returns-7 c =
     let a = entry (readOf k) .args in
     let s = stateOf (a .state) in
     c .refused4 .ensures
-    ∙ ap (λ (x : Coded). tellWord (a .place) s (codedWord (withBits (bitsReadOf (k .charged .result)) s) x)) (sym (c .before .enum-told2 .given .1)) ∙ told k
+    ∙ ap (λ (x : Coded). tellWord (a .place) s (codedWord (withBits (bitsReadOf (k .charged .result)) s) x)) (sym (c .before .enum-told2 .given .1))
+    ∙ told k
 
 pub decode-sample-stateful-stereo-spec : {M : Type 1} → statement M
 decode-sample-stateful-stereo-spec =
