@@ -12,7 +12,8 @@ use lib.ListN.{length, getD}
 use Rattle.answers.specs.Limits.{maxPayloadBytes}
 use Rattle.bits.specs.Bits.{bitsOf}
 use Rattle.entropy.specs.Medians.{mediansOf}
-use Rattle.word_state.specs.State.{State, withBits, paid, inRun, unbroken, after, runDue, plusBits, charged, exceeds}
+use Rattle.word_state.specs.State.{State, withBits, runDue, plusBits, charged, exceeds}
+use Rattle.word_state.specs.State.{paid, inRun, unbroken, after}
 use Rattle.word_state.specs.View.{stateOf}
 use Rattle.word_state.specs.declared.StereoDecodeState.{StereoDecodeState}
 use Rattle.word_state.proofs.BitsLaws.{charged-none, not-exceeded}
@@ -43,7 +44,9 @@ pub one-word : (payload : List ℕ) (p : ℕ) (s : State) (w : Word) → length 
     → s .channel ≤ 1 → exceeds (s .bitsRead) p ≡ false
     → w ≡ word (bitsOf payload) p s → tellWord p s (charge p s w) ≡ oneWord payload p s
 unfolding oneWord
-one-word payload p s w h l x e = rw (le-ltb maxPayloadBytes (length payload) h, le-ltb 1 (s .channel) l, x) (ap (λ (w : Word). tellWord p s (charge p s w)) e)
+one-word payload p s w h l x e =
+    rw (le-ltb maxPayloadBytes (length payload) h, le-ltb 1 (s .channel) l, x)
+    (ap (λ (w : Word). tellWord p s (charge p s w)) e)
 
 -- where no zero is owed, the word is what was read
 pub word-read : (payload : List ℕ) (p : ℕ) (st : StereoDecodeState) (run : Bool) (r : Coded)
@@ -61,7 +64,8 @@ word-read payload p st run r l n m e c =
 
 -- the steps of a word leave the totals alone, so they may be charged before them
 pub charged-before : (p : ℕ) (s : State) (r : Coded)
-    → codedWord (withBits (plusBits (s .channel) (bitsTaken p r) (s .bitsRead)) s) r ≡ charge p s (codedWord s r)
+    → codedWord (withBits (plusBits (s .channel) (bitsTaken p r) (s .bitsRead)) s) r
+    ≡ charge p s (codedWord s r)
 unfolding charged inRun after unbroken
 charged-before p s (Coded.Run d q) = refl
 charged-before p s (Coded.Sample v k q z o) = refl
@@ -81,7 +85,8 @@ pub refused-keeps : (payload : List ℕ) (p : ℕ) (s : State) → let w = oneWo
     (w .refusal ≡ 0 → ⊥) → (w .state ≡ s) × (w .place ≡ p)
 unfolding oneWord
 refused-keeps payload p s n =
-    go (ltb maxPayloadBytes (length payload)) (ltb 1 (s .channel) || exceeds (s .bitsRead) p) (word (bitsOf payload) p s) n
+    go (ltb maxPayloadBytes (length payload)) (ltb 1 (s .channel) || exceeds (s .bitsRead) p)
+    (word (bitsOf payload) p s) n
   where
     go : (b c : Bool) (w : Word)
         → let t = tellWord p s (cond b (refused 5) (cond c (refused 12) (charge p s w))) in
@@ -107,7 +112,8 @@ pub one-accepted : (payload : List ℕ) (p : ℕ) (s : State) → oneWord payloa
     → Accepted payload p s
 unfolding oneWord
 one-accepted payload p s e =
-    go (ltb maxPayloadBytes (length payload)) (ltb 1 (s .channel)) (exceeds (s .bitsRead) p) (word (bitsOf payload) p s) refl refl refl refl e
+    go (ltb maxPayloadBytes (length payload)) (ltb 1 (s .channel)) (exceeds (s .bitsRead) p)
+    (word (bitsOf payload) p s) refl refl refl refl e
   where
     told : Bool → Bool → Bool → Word → WordTold
     told a b c w = tellWord p s (cond a (refused 5) (cond (b || c) (refused 12) (charge p s w)))

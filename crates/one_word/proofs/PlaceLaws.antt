@@ -153,7 +153,8 @@ module _ (payload : List ℕ) (p : ℕ) (st : StereoDecodeState) where
 
       -- it is at most the place, and has 32 bits
       low : (n : ℕ) → stateOf st .bitsRead .left ≤ n → stateOf st .bitsRead .right ≤ n → due ≤ n
-      low n i j = rw (total-of (st .«bits_read») (st .«next_channel») c) (at-most (st .«next_channel») _ _ n i j)
+      low n i j =
+          rw (total-of (st .«bits_read») (st .«next_channel») c) (at-most (st .«next_channel») _ _ n i j)
 
       some : (q : ℕ) (t : State) (v : ℤ) (z : Report) → word (bitsOf payload) p (stateOf st) ≡ given v q t z
           → due + (q - p) < 4294967296
@@ -174,7 +175,8 @@ module _ (payload : List ℕ) (p : ℕ) (st : StereoDecodeState) where
 word-fits : (payload : List ℕ) (p : ℕ) (s : State) → p ≤ 4294967295 → oneWord payload p s .place ≤ 4294967295
 unfolding oneWord
 word-fits payload p s h =
-    go (ltb maxPayloadBytes (length payload)) (ltb 1 (s .channel) || exceeds (s .bitsRead) p) (word (bitsOf payload) p s) refl refl
+    go (ltb maxPayloadBytes (length payload)) (ltb 1 (s .channel) || exceeds (s .bitsRead) p)
+    (word (bitsOf payload) p s) refl refl
   where
     go : (b c : Bool) (w : Word) → ltb maxPayloadBytes (length payload) ≡ b → word (bitsOf payload) p s ≡ w
         → tellWord p s (cond b (refused 5) (cond c (refused 12) (charge p s w))) .place ≤ 4294967295

@@ -26,7 +26,13 @@ pub record WordTold : Type 0 where
 
 -- the answer that the entry's struct holds
 abbrev pub viewWord : WordAnswer → WordTold
-viewWord r = record { refusal = outcomeNumber (r .outcome); sample = r .sample; place = r .place; state = stateOf (r .state); report = reportOf (r .report .zone) }
+viewWord r = record {
+  refusal = outcomeNumber (r .outcome);
+  sample = r .sample;
+  place = r .place;
+  state = stateOf (r .state);
+  report = reportOf (r .report .zone);
+}
 
 -- document 01 (X3): "A refusal gives sample 0 and the old state and place"
 abbrev pub tellWord : ℕ → State → Word → WordTold

@@ -51,8 +51,12 @@ both-stems bits zero p s = omega arith
 both-stems bits (suc n) p s = go (word bits p s) refl (both-stems bits n)
   where
     go : (w : Word) → word bits p s ≡ w
-        → ((q : ℕ) (t : State) → q + leftCost (costs bits n q t) + rightCost (costs bits n q t) ≡ reading bits n q t .place)
+        → ((q : ℕ) (t : State)
+        → q + leftCost (costs bits n q t) + rightCost (costs bits n q t) ≡ reading bits n q t .place)
         → let c = onWord w (λ v q t. costAt p q s ∷ costs bits n q t) (λ c. []) in
-        p + leftCost c + rightCost c ≡ onWord w (λ v q t. more v (reading bits n q t)) (λ c. record { refusal = c; samples = []; place = p; state = s }) .place
-    go (given v q t z) e ih = omega (arith, word-on bits p q s t v z e, ih q t, either-stem (s .channel) (q - p))
+        p + leftCost c + rightCost c
+        ≡ onWord w (λ v q t. more v (reading bits n q t))
+        (λ c. record { refusal = c; samples = []; place = p; state = s }) .place
+    go (given v q t z) e ih =
+        omega (arith, word-on bits p q s t v z e, ih q t, either-stem (s .channel) (q - p))
     go (refused c) e ih = omega arith

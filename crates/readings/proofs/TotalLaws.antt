@@ -15,7 +15,8 @@ use Rattle.fields.specs.Counts.{runLength, prefix}
 use Rattle.fields.specs.Code.{truncatedBinary}
 use Rattle.fields.specs.declared.Prefix.{Prefix}
 use Rattle.medians.specs.Interval.{lowOf, highOf}
-use Rattle.word_state.specs.State.{BitsRead, State, flip, due, withBits, paid, inRun, unbroken, cleared, flagged, after, runDue, onZeros}
+use Rattle.word_state.specs.State.{BitsRead, State, flip, due, withBits, runDue, onZeros}
+use Rattle.word_state.specs.State.{paid, inRun, unbroken, cleared, flagged, after}
 use Rattle.words.specs.Word.{Word, given, refused, signed, onField, onPrefix, value, plain, fresh, word}
 use Rattle.zones.specs.Report.{Report, none, zoneOf}
 use Rattle.readings.proofs.EveryLaws.{Every, every-field, every-prefix, every-cond, every-zeros}
@@ -61,7 +62,8 @@ module _ (b : BitsRead) where
   unfolding plain cleared flagged
   plain-bits bits p s =
       cond-bits (s .lastZero) _ _ _ _ (value-bits bits p 0 (cleared s))
-      (prefix-bits (prefix bits p) _ _ λ r q. value-bits bits q (r / 2 + val (s .lastOne)) (flagged (bitOf (r % 2)) s))
+      (prefix-bits (prefix bits p) _ _ λ r q.
+      value-bits bits q (r / 2 + val (s .lastOne)) (flagged (bitOf (r % 2)) s))
 
   fresh-bits : (bits : List Bool) (p : ℕ) (s : State)
       → fresh bits p (withBits b s) ≡ onBits b (fresh bits p s)
@@ -69,7 +71,8 @@ module _ (b : BitsRead) where
   fresh-bits bits p s =
       cond-bits (s .runBreak) _ _ _ _ (plain-bits bits p (unbroken s))
       (cond-bits (runDue (s .left) (s .right) (s .lastZero) (s .lastOne)) _ _ _ _
-      (field-bits (runLength bits p) _ _ λ n q. zeros-bits n _ _ _ _ (λ d. refl) (plain-bits bits q s)) (plain-bits bits p s))
+      (field-bits (runLength bits p) _ _ λ n q. zeros-bits n _ _ _ _ (λ d. refl) (plain-bits bits q s))
+      (plain-bits bits p s))
 
   pub word-bits : (bits : List Bool) (p : ℕ) (s : State)
       → word bits p (withBits b s) ≡ onBits b (word bits p s)
@@ -92,7 +95,8 @@ module _ (c : ℕ) (b : BitsRead) where
       → KeptWord (value bits p k s)
   unfolding value after
   kept-value bits p k s h e =
-      every-field Kept Any (omega arith) (truncatedBinary bits p (highOf (due s) k - lowOf (due s) k)) _ λ x q i.
+      let last = highOf (due s) k - lowOf (due s) k in
+      every-field Kept Any (omega arith) (truncatedBinary bits p last) _ λ x q i.
       every-field Kept Any (omega arith) (getBits bits q 1) _ λ t n j. (rw h, e)
 
   kept-plain : (bits : List Bool) (p : ℕ) (s : State) → s .channel ≡ c → s .bitsRead ≡ b
@@ -110,7 +114,8 @@ module _ (c : ℕ) (b : BitsRead) where
       every-cond Kept Any (omega arith) (s .runBreak) _ _ (kept-plain bits p (unbroken s) h e)
       (every-cond Kept Any (omega arith) (runDue (s .left) (s .right) (s .lastZero) (s .lastOne)) _ _
       (every-field Kept Any (omega arith) (runLength bits p) _ λ n q i.
-      every-zeros Kept Any (omega arith) n _ _ (λ d. (rw h, e)) (kept-plain bits q s h e)) (kept-plain bits p s h e))
+      every-zeros Kept Any (omega arith) n _ _ (λ d. (rw h, e)) (kept-plain bits q s h e))
+      (kept-plain bits p s h e))
 
   kept-word : (bits : List Bool) (p : ℕ) (s : State) → s .channel ≡ c → s .bitsRead ≡ b
       → KeptWord (word bits p s)

@@ -15,11 +15,21 @@ use Rattle.short_steps.specs.declared.Standing.{Standing}
 
 -- the words of a reading that stands there, where no zero is owed and no run is before it
 abbrev pub At : List ℕ → List ℤ → State → List ℤ → Standing → Type 0
-At payload out₀ s₀ out x = Words payload out₀ s₀ out (x .left ∷ x .right ∷ []) 0 false (x .«last_zero») (x .«last_one») (x .place) (x .«left_bits») (x .written)
+At payload out₀ s₀ out x =
+    Words payload out₀ s₀ out (x .left ∷ x .right ∷ []) 0 false (x .«last_zero») (x .«last_one»)
+    (x .place) (x .«left_bits») (x .written)
 
 -- the standing that the loop's array of medians and its other locals make
 abbrev pub standing : ℕ → ℕ → ℕ → List AdaptiveMedians → Bool → Bool → Standing
-standing p a i ms z o = record { place = p; «left_bits» = a; written = i; left = getD ms 0 zeroSet; right = getD ms 1 zeroSet; «last_zero» = z; «last_one» = o }
+standing p a i ms z o = record {
+  place = p;
+  «left_bits» = a;
+  written = i;
+  left = getD ms 0 zeroSet;
+  right = getD ms 1 zeroSet;
+  «last_zero» = z;
+  «last_one» = o;
+}
 
 -- words one after another, of whatever reading: it stood at the first place, and stands at the
 -- second

@@ -25,7 +25,10 @@ pub state-laid : (place a b c d : ℕ) (s : State) (slots first second after : L
     → second ≡ overlay first 7 (pairSlots (record { left = s .left; right = s .right }))
     → after ≡ overlay second 13 (bitsSlots (s .bitsRead)) → after ≡ overlay slots 0 (stateSlots place s)
 state-laid place a b c d s slots first second after ea eb ec ed e f g =
-    let head = place ∷ s .channel ∷ val (s .lastZero) ∷ val (s .lastOne) ∷ s .debt ∷ val (s .runBreak) ∷ val (s .everRun) ∷ [] in
+    let head = place ∷ s .channel ∷ val (s .lastZero) ∷ val (s .lastOne) ∷ s .debt ∷ val (s .runBreak)
+    ∷ val (s .everRun) ∷ [] in
     let pair = pairSlots (record { left = s .left; right = s .right }) in
-    let two = overlay-two slots first second 0 7 head pair (omega arith) (omega arith) (rw (ea, eb, ec, ed) at e) f in
-    overlay-two slots second after 0 13 (head ++ pair) (bitsSlots (s .bitsRead)) (omega arith) (omega arith) two g
+    let two = overlay-two slots first second 0 7 head pair (omega arith) (omega arith)
+    (rw (ea, eb, ec, ed) at e) f in
+    overlay-two slots second after 0 13 (head ++ pair) (bitsSlots (s .bitsRead)) (omega arith)
+    (omega arith) two g

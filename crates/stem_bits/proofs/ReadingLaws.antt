@@ -57,7 +57,9 @@ module _ (payload : List ℕ) (few : length payload ≤ maxPayloadBytes) (left r
   -- what they cost, and R the reading
   record Walk (C : List Cost) (R : Reading) (p : ℕ) (s : State) (b : BitsRead) : Type 0 where
     pub many : length C ≡ length (R .samples)
-    pub stands : afterWords payload (length C) p (withBits b s) ≡ record { place = R .place; state = withBits (plus b C) (R .state) }
+    pub stands :
+        afterWords payload (length C) p (withBits b s)
+        ≡ record { place = R .place; state = withBits (plus b C) (R .state) }
     pub grows : (n : ℕ) → Grown n p (withBits b s)
         → Grown (n + length C) (R .place) (withBits (plus b C) (R .state))
 
@@ -70,7 +72,8 @@ module _ (payload : List ℕ) (few : length payload ≤ maxPayloadBytes) (left r
       record {
         many = refl;
         stands = ap (λ (x : BitsRead). record { place = p; state = withBits x s }) e;
-        grows = λ n g. record { words = g .words; many = omega (arith, g .many); history = rw e at (g .history) };
+        grows = λ n g.
+            record { words = g .words; many = omega (arith, g .many); history = rw e at (g .history) };
       }
 
   -- a word of the entry, in a state whose totals add up to its place
@@ -78,10 +81,17 @@ module _ (payload : List ℕ) (few : length payload ≤ maxPayloadBytes) (left r
       → word (bitsOf payload) p s ≡ given v q t z
       → s .channel ≤ 1 → b .left + b .right ≡ p
       → oneWord payload p (withBits b s)
-      ≡ record { refusal = 0; sample = v; place = q; state = withBits (plusBits (s .channel) (q - p) b) t; report = z }
+      ≡ record {
+        refusal = 0;
+        sample = v;
+        place = q;
+        state = withBits (plusBits (s .channel) (q - p) b) t;
+        report = z;
+      }
   unfolding charged
   one-given p q s t v z b e h sum =
-      sym (one-word payload p (withBits b s) (given v q (withBits b t) z) few h (within-place b p (omega arith))
+      sym (one-word payload p (withBits b s) (given v q (withBits b t) z) few h
+      (within-place b p (omega arith))
       (sym (word-bits b (bitsOf payload) p s ∙ ap (onBits b) e)))
 
   -- a word, and then the others
@@ -117,7 +127,8 @@ module _ (payload : List ℕ) (few : length payload ≤ maxPayloadBytes) (left r
           → ((p : ℕ) (s : State) (b : BitsRead) → s .channel ≤ 1 → b .left + b .right ≡ p
           → Walk (costs (bitsOf payload) n p s) (reading (bitsOf payload) n p s) p s b)
           → Walk (onWord w (λ v q t. costAt p q s ∷ costs (bitsOf payload) n q t) (λ c. []))
-          (onWord w (λ v q t. more v (reading (bitsOf payload) n q t)) (λ c. record { refusal = c; samples = []; place = p; state = s })) p s b
+          (onWord w (λ v q t. more v (reading (bitsOf payload) n q t))
+          (λ c. record { refusal = c; samples = []; place = p; state = s })) p s b
       go (given v q t z) e ih =
           let k = word-keeps (bitsOf payload) p q s t v z e in
           let c : t .channel ≤ 1 = rw (k .0) (flip-low (s .channel)) in
@@ -135,7 +146,8 @@ reading-totals entropy payload frames list e =
     let few = read-limits entropy payload frames list e in
     let R = reading (bitsOf payload) (2 * frames) 0 first in
     let C = costs (bitsOf payload) (2 * frames) 0 first in
-    let w = walk payload (few .1) (m .left) (m .right) (2 * frames) 0 first (first .bitsRead) (omega arith) refl in
+    let w = walk payload (few .1) (m .left) (m .right) (2 * frames) 0 first (first .bitsRead)
+    (omega arith) refl in
     let g = w .grows 0 (record { words = []; many = refl; history = fresh }) in
     let r = sym (read-words entropy payload frames list e) in
     let n : length (g .words) ≡ length C = omega (arith, g .many) in

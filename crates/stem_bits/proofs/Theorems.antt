@@ -77,8 +77,10 @@ bits-by-stem left right words p s (further ws p₀ s₀ payload w h f e) =
 -- what is added to one of two totals that are at most the place
 small-added : (c n p : ℕ) (b : BitsRead) → SmallBits b → b .left + b .right ≤ p
     → ((x : ℕ) → x ≤ p → x ≤ 4294967295 → x + n ≤ 4294967295) → SmallBits (plusBits c n b)
-small-added zero n p b m h f = record { small-left = f (b .left) (omega arith) (m .small-left); small-right = m .small-right }
-small-added (suc c) n p b m h f = record { small-left = m .small-left; small-right = f (b .right) (omega arith) (m .small-right) }
+small-added zero n p b m h f =
+    record { small-left = f (b .left) (omega arith) (m .small-left); small-right = m .small-right }
+small-added (suc c) n p b m h f =
+    record { small-left = m .small-left; small-right = f (b .right) (omega arith) (m .small-right) }
 
 pub totals-stay-small : TotalsStaySmall
 totals-stay-small payload p s m = go (oneWord payload p s .refusal) refl

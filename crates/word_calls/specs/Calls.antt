@@ -28,12 +28,14 @@ readSlots t = countSlots (t .bits) (t .medians) ++ (t .written ∷ bitsSlots (t 
 
 -- what reading tells, on refusal too
 abbrev pub leaveReading : ReadTold → List ℕ → ReadLeft
-leaveReading t answer = record { refusal = t .refusal; samples = t .list; answer = overlay answer 0 (readSlots t) }
+leaveReading t answer =
+    record { refusal = t .refusal; samples = t .list; answer = overlay answer 0 (readSlots t) }
 
 -- with too few slots 6, and both lists as they were
 unfoldable pub readCall : List ℕ → List ℕ → ℕ → List ℤ → List ℕ → ReadLeft
 readCall entropy payload frames samples answer =
-    cond (ltb (length answer) 10) (record { refusal = 6; samples = samples; answer = answer }) (leaveReading (readEntry entropy payload frames samples) answer)
+    cond (ltb (length answer) 10) (record { refusal = 6; samples = samples; answer = answer })
+    (leaveReading (readEntry entropy payload frames samples) answer)
 
 -- ---- `wv_word`
 

@@ -34,8 +34,10 @@ total-of l (suc (suc c)) h = absurd (omega arith)
 -- no bits are nothing
 pub charged-none : (c p : ℕ) (s : State) → charged c (p - p) s ≡ s
 unfolding charged
-charged-none zero p s = ap (λ (n : ℕ). withBits (record { left = n; right = s .bitsRead .right }) s) (omega arith)
-charged-none (suc c) p s = ap (λ (n : ℕ). withBits (record { left = s .bitsRead .left; right = n }) s) (omega arith)
+charged-none zero p s =
+    ap (λ (n : ℕ). withBits (record { left = n; right = s .bitsRead .right }) s) (omega arith)
+charged-none (suc c) p s =
+    ap (λ (n : ℕ). withBits (record { left = s .bitsRead .left; right = n }) s) (omega arith)
 
 -- the totals together, where they do not exceed a place
 pub not-exceeded : (b : BitsRead) (p : ℕ) → exceeds b p ≡ false → b .left + b .right ≤ p

@@ -21,7 +21,7 @@ use Rattle.word_state.specs.View.{stateOf, bitsReadOf}
 use Rattle.words.specs.Word.{given, word}
 use Rattle.zones.specs.Report.{none, zoneOf}
 use Rattle.words.specs.Parts.{codedWord}
-use Rattle.one_word.specs.View.{tellWord, oneWord}
+use Rattle.one_word.specs.View.{WordTold, tellWord, oneWord}
 use Rattle.words.specs.declared.coded.Coded.{Coded}
 use Rattle.word_state.proofs.StateLaws.{length-mapped}
 use Rattle.one_word.proofs.OneLaws.{one-large, one-state, one-word, one-paid, word-read, charged-before}
@@ -44,8 +44,7 @@ returns-2 c =
     let start : tie.Start = search needs in
     let exceed : tie.After-bits-exceed = search needs in
     let a = start .args in
-    let test : (ltb 1 (a .state .«next_channel») || exceeds (stateOf (a .state) .bitsRead) (a .place)) ≡ true =
-    rw (exceed .bits-exceed .ensures .0) at (c .before .if2 .taken) in
+    let test = rw (exceed .bits-exceed .ensures .0) at (c .before .if2 .taken) in
     c .refused2 .ensures ∙ one-state (now (a .payload)) (a .place) (stateOf (a .state)) (omega arith) test
 
 -- after it the channel is one of two, and the totals do not exceed the place
@@ -54,9 +53,9 @@ passed : (c : tie.Else2) → let a = entry2 c .args in
 passed c =
     let exceed : tie.After-bits-exceed = search needs in
     let a = entry2 c .args in
-    let test : (ltb 1 (a .state .«next_channel») || exceeds (stateOf (a .state) .bitsRead) (a .place)) ≡ false =
-    rw (exceed .bits-exceed .ensures .0) at (c .if2 .left) in
-    let t = neither (ltb 1 (a .state .«next_channel»)) (exceeds (stateOf (a .state) .bitsRead) (a .place)) test in
+    let s = stateOf (a .state) in
+    let t = neither (ltb 1 (s .channel)) (exceeds (s .bitsRead) (a .place))
+    (rw (exceed .bits-exceed .ensures .0) at (c .if2 .left)) in
     (omega (arith, ltb-false 1 (a .state .«next_channel») (t .0)), t .1)
 
 paid-requires : tie.Need-paid-requires
@@ -89,12 +88,14 @@ pair c = search (needs, length-mapped)
 
 -- the word that was read is the word of the state
 read : (c : tie.After-read-word) → let a = entry c .args in
-    let s = stateOf (a .state) in codedWord s (c .read-word .result) ≡ word (bitsOf (now (a .payload))) (a .place) s
+    let s = stateOf (a .state) in
+    codedWord s (c .read-word .result) ≡ word (bitsOf (now (a .payload))) (a .place) s
 read c =
     let else2 : tie.Else2 = search needs in
     let run : tie.After-zero-run-eligible = search needs in
     let a = entry2 else2 .args in
-    word-read (now (a .payload)) (a .place) (a .state) _ _ (passed else2 .0) (omega arith) (pair (entry2 else2)) (run .zero-run-eligible .ensures) (c .read-word .ensures)
+    word-read (now (a .payload)) (a .place) (a .state) _ _ (passed else2 .0) (omega arith)
+    (pair (entry2 else2)) (run .zero-run-eligible .ensures) (c .read-word .ensures)
 
 bits-taken-requires : tie.Need-bits-taken-requires
 bits-taken-requires c κs =
@@ -109,7 +110,8 @@ charged-requires c κs =
     let else2 : tie.Else2 = search needs in
     let exceed : tie.After-bits-exceed = search needs in
     let a = entry k .args in
-    let fits = coded-fits (now (a .payload)) (a .place) (a .state) (k .read-word .result) (read k) (omega arith) (passed else2 .1)
+    let fits = coded-fits (now (a .payload)) (a .place) (a .state) (k .read-word .result) (read k)
+    (omega arith) (passed else2 .1)
     (exceed .bits-exceed .ensures .1) (omega (arith, passed else2 .0)) in
     (omega (arith, passed else2 .0), rw (taken .bits-taken .ensures) fits)
 
@@ -117,12 +119,17 @@ charged-requires c κs =
 abbrev readOf : tie.After-charged → tie.After-read-word
 readOf c = c .before .before
 
--- the word of the state with the totals after it is what the entry tells
-told : (c : tie.After-charged) → let k : tie.After-read-word = readOf c in
-    let a = entry k .args in
+-- what the entry tells of a word, with the totals after it
+abbrev tells : tie.After-charged → Coded → WordTold
+tells c x =
+    let a = entry (readOf c) .args in
     let s = stateOf (a .state) in
-    tellWord (a .place) s (codedWord (withBits (bitsReadOf (c .charged .result)) s) (k .read-word .result)) ≡ oneWord (now (a .payload)) (a .place) s
-told c =
+    tellWord (a .place) s (codedWord (withBits (bitsReadOf (c .charged .result)) s) x)
+
+-- it is the entry's answer where that word was read
+told : (c : tie.After-charged) (x : Coded) → readOf c .read-word .result ≡ x →
+    let a = entry (readOf c) .args in tells c x ≡ oneWord (now (a .payload)) (a .place) (stateOf (a .state))
+told c x f =
     let k : tie.After-read-word = readOf c in
     let else2 : tie.Else2 = search needs in
     let taken : tie.After-bits-taken = search needs in
@@ -131,7 +138,7 @@ told c =
     let r = k .read-word .result in
     let e = c .charged .ensures
     ∙ ap (λ (n : ℕ). plusBits (s .channel) n (s .bitsRead)) (taken .bits-taken .ensures) in
-    ap (λ (b : BitsRead). tellWord (a .place) s (codedWord (withBits b s) r)) e
+    ap (tells c) (sym f) ∙ ap (λ (b : BitsRead). tellWord (a .place) s (codedWord (withBits b s) r)) e
     ∙ ap (tellWord (a .place) s) (charged-before (a .place) s r)
     ∙ one-word (now (a .payload)) (a .place) s _ (omega arith) (passed else2 .0) (passed else2 .1) (read k)
 
@@ -155,8 +162,7 @@ returns-4 c =
     let w = y .word .given in
     c .zero2 .ensures
     ∙ ap (λ (t : State). tellWord (a .place) s (given (pos 0) (w .0 .1 .0) t none)) (run .in-run .ensures)
-    ∙ ap (λ (x : Coded). tellWord (a .place) s (codedWord (withBits (bitsReadOf (k .charged .result)) s) x)) (sym (w .1))
-    ∙ told k
+    ∙ told k _ (w .1)
 
 returns-5 : tie.Need-returns-5
 returns-5 c =
@@ -168,27 +174,19 @@ returns-5 c =
     let w = y .word2 .given in
     let f : SFits w32 (w .0 .0) = search needs in
     rw (toZ-ofZ f) at (c .given .ensures)
-    ∙ ap (λ (t : State). tellWord (a .place) s (given (w .0 .0) (w .0 .1 .1 .0) t (zoneOf (w .0 .1 .0)))) (state .adapted .ensures)
-    ∙ ap (λ (x : Coded). tellWord (a .place) s (codedWord (withBits (bitsReadOf (k .charged .result)) s) x)) (sym (w .1))
-    ∙ told k
+    ∙ ap (λ (t : State). tellWord (a .place) s (given (w .0 .0) (w .0 .1 .1 .0) t (zoneOf (w .0 .1 .0))))
+    (state .adapted .ensures)
+    ∙ told k _ (w .1)
 
 returns-6 : tie.Need-returns-6
 returns-6 c =
     let k : tie.After-charged = search needs in
-    let a = entry (readOf k) .args in
-    let s = stateOf (a .state) in
-    c .refused3 .ensures
-    ∙ ap (λ (x : Coded). tellWord (a .place) s (codedWord (withBits (bitsReadOf (k .charged .result)) s) x)) (sym (c .before .enum-told .given .1))
-    ∙ told k
+    c .refused3 .ensures ∙ told k _ (c .before .enum-told .given .1)
 
 returns-7 : tie.Need-returns-7
 returns-7 c =
     let k : tie.After-charged = search needs in
-    let a = entry (readOf k) .args in
-    let s = stateOf (a .state) in
-    c .refused4 .ensures
-    ∙ ap (λ (x : Coded). tellWord (a .place) s (codedWord (withBits (bitsReadOf (k .charged .result)) s) x)) (sym (c .before .enum-told2 .given .1))
-    ∙ told k
+    c .refused4 .ensures ∙ told k _ (c .before .enum-told2 .given .1)
 
 pub decode-sample-stateful-stereo-spec : {M : Type 1} → statement M
 decode-sample-stateful-stereo-spec =

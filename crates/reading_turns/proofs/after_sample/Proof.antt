@@ -67,7 +67,12 @@ returns c =
       due = due;
       adapted = rw (there ms i l (omega arith)) at (adapt .adapt .ensures);
       to = words .read-short-words .result;
-      onward = rw (toZ-ofZ f, left .left-bits-after .ensures, there (set ms i due) 0 k (omega arith), there (set ms i due) 1 k (omega arith))
+      onward = rw (
+        toZ-ofZ f,
+        left .left-bits-after .ensures,
+        there (set ms i due) 0 k (omega arith),
+        there (set ms i due) 1 k (omega arith),
+      )
           at (words .read-short-words .ensures);
       turn-is = refl;
     }

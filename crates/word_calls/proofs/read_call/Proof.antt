@@ -11,15 +11,18 @@ returns : tie.Need-returns
 returns c =
     let start : tie.Start = search needs in
     let a = start .args in
-    read-short (a .entropy .now) (a .payload .now) (a .frames) (a .samples .now) (a .answer .now) _ (c .number .ensures) (c .before .if1 .taken)
+    read-short (a .entropy .now) (a .payload .now) (a .frames) (a .samples .now) (a .answer .now) _
+    (c .number .ensures) (c .before .if1 .taken)
 
 -- what was read fits its slots
-fits : (c : tie.After-decode-packed-samples-stereo-from-entropy) → CountsFit (c .decode-packed-samples-stereo-from-entropy .result)
+fits : (c : tie.After-decode-packed-samples-stereo-from-entropy)
+    → CountsFit (c .decode-packed-samples-stereo-from-entropy .result)
 fits c =
     let start : tie.Start = search needs in
     let a = start .args in
     let x = c .decode-packed-samples-stereo-from-entropy in
-    read-counts (a .entropy .now) (a .payload .now) (a .frames) (a .samples .now) (a .answer .now) (x .result) _ (x .ensures)
+    read-counts (a .entropy .now) (a .payload .now) (a .frames) (a .samples .now) (a .answer .now) (x .result)
+    _ (x .ensures)
 
 lay-counts-requires : tie.Need-lay-counts-requires
 lay-counts-requires c κs =
@@ -51,8 +54,9 @@ returns-2 c =
     let start : tie.Start = search needs in
     let a = start .args in
     let x = read .decode-packed-samples-stereo-from-entropy in
-    read-laid (a .entropy .now) (a .payload .now) (a .frames) (a .samples .now) (a .answer .now) (x .result) _ _ _ _
-    (x .ensures) (else1 .if1 .left) (c .outcome-number .ensures) (counts .lay-counts .ensures) (last .lay-words .ensures)
+    read-laid (a .entropy .now) (a .payload .now) (a .frames) (a .samples .now) (a .answer .now) (x .result)
+    _ _ _ _ (x .ensures) (else1 .if1 .left) (c .outcome-number .ensures) (counts .lay-counts .ensures)
+    (last .lay-words .ensures)
 
 pub read-call-spec : {M : Type 1} → statement M
 read-call-spec =

@@ -46,7 +46,8 @@ after-run-requires c κs =
     let w : tie.After-word-at Inv-loop μ-loop = search needs in
     let y : tie.After-owed Inv-loop μ-loop = search needs in
     let l = i .before .before .loop .inv in
-    let on = loop-on _ _ _ _ _ l _ (room i) (w .word-at .ensures) _ _ _ _ (ap (codedWord (l .words .state)) (y .owed .given .1)) in
+    let on = loop-on _ _ _ _ _ l _ (room i) (w .word-at .ensures) _ _ _ _
+    (ap (codedWord (l .words .state)) (y .owed .given .1)) in
     (search needs, (part (i .before .before), on))
 
 after-sample-requires : tie.Need-after-sample-requires Inv-loop μ-loop
@@ -55,7 +56,8 @@ after-sample-requires c κs =
     let w : tie.After-word-at Inv-loop μ-loop = search needs in
     let y : tie.After-value Inv-loop μ-loop = search needs in
     let l = i .before .before .loop .inv in
-    let on = loop-on _ _ _ _ _ l _ (room i) (w .word-at .ensures) _ _ _ _ (ap (codedWord (l .words .state)) (y .value .given .1)) in
+    let on = loop-on _ _ _ _ _ l _ (room i) (w .word-at .ensures) _ _ _ _
+    (ap (codedWord (l .words .state)) (y .value .given .1)) in
     (search needs, (search needs, (part (i .before .before), on)))
 
 loop-less : tie.Need-loop-less Inv-loop μ-loop
