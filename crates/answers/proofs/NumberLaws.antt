@@ -28,6 +28,8 @@ number-positive Refusal.NotWave = omega arith
 number-positive Refusal.FieldAbove31 = omega arith
 number-positive Refusal.NotReinsertable = omega arith
 number-positive Refusal.LogWordOutOfReach = omega arith
+number-positive Refusal.BadBlock = omega arith
+number-positive Refusal.RecordingTwice = omega arith
 
 -- nor is a refused outcome's
 pub refused-positive : (o : Outcome) (r : Refusal) → o ≡ Outcome.Refused r → 0 < outcomeNumber o

@@ -24,6 +24,8 @@ numberOf Refusal.NotWave = 14
 numberOf Refusal.FieldAbove31 = 15
 numberOf Refusal.NotReinsertable = 16
 numberOf Refusal.LogWordOutOfReach = 17
+numberOf Refusal.BadBlock = 18
+numberOf Refusal.RecordingTwice = 19
 
 -- the number of an outcome: 0 means accepted
 abbrev pub outcomeNumber : Outcome → ℕ

@@ -7,7 +7,7 @@ ghost use Rattle.answers.specs.Numbers.{numberOf, outcomeNumber};
 
 pub mod limits;
 
-// A reason to refuse. The order is that of the numbers 1 to 17.
+// A reason to refuse. The order is that of the numbers 1 to 19.
 pub enum Refusal {
     // The entropy payload is neither 6 nor 12 bytes long.
     EntropyLength,
@@ -43,6 +43,10 @@ pub enum Refusal {
     NotReinsertable,
     // A log word is 8192 or more, or -8192 or less.
     LogWordOutOfReach,
+    // A block of an archive is damaged, or not what the blocks before it ask for.
+    BadBlock,
+    // An archive holds two recordings of the same house, start second and issue.
+    RecordingTwice,
 }
 
 // What an entry says: that it accepted its input, or why not.
@@ -51,7 +55,7 @@ pub enum Outcome {
     Refused(Refusal),
 }
 
-// The number of a refusal, 1 to 17.
+// The number of a refusal, 1 to 19.
 pub fn number(refusal: Refusal) -> u32
     ensures { λ r. ⌜ r ≡ numberOf refusal ⌝ }
 {
@@ -73,6 +77,8 @@ pub fn number(refusal: Refusal) -> u32
         Refusal::FieldAbove31 => 15,
         Refusal::NotReinsertable => 16,
         Refusal::LogWordOutOfReach => 17,
+        Refusal::BadBlock => 18,
+        Refusal::RecordingTwice => 19,
     }
 }
 

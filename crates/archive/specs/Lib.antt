@@ -1,0 +1,4 @@
+pub mod Block
+pub mod Recording
+pub mod Faults
+pub mod Listing
