@@ -3,3 +3,7 @@ pub mod BlockLaws
 pub mod FaultLaws
 pub mod CheckLaws
 pub mod AlteredLaws
+pub mod ByteLaws
+pub mod PartLaws
+pub mod RightLaws
+pub mod WalkLaws
