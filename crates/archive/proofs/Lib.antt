@@ -7,3 +7,6 @@ pub mod ByteLaws
 pub mod PartLaws
 pub mod RightLaws
 pub mod WalkLaws
+pub mod FileLaws
+pub mod StreamLaws
+pub mod ArchivedLaws

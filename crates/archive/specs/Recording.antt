@@ -23,7 +23,7 @@ pub record InSpan (r : Recording) : Type 0 where
   pub bytes : Bytes (r .payload)
 
 -- all of a list are
-data AllInSpan : List Recording → Type 0 where
+pub data AllInSpan : List Recording → Type 0 where
   none : AllInSpan []
   more : {r : Recording} {rs : List Recording} → InSpan r → AllInSpan rs → AllInSpan (r ∷ rs)
 
