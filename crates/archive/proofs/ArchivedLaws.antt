@@ -5,14 +5,13 @@ use mathlib.Core.List.{List, [], _∷_, _++_}
 use Prim.Native.Nat.{ℕ, zero, suc, _+_, _-_, _*_, _/_, _≤_, _<_}
 use native.Mathlib.Omega.{arith}
 use lib.ListN.{length, take, drop, length-append, length-take, length-drop}
-use lib.Seq.{take-take, take-add, drop-at, length-take-le}
 use Rattle.little_endian.specs.LittleEndian.{fromLittleEndian}
 use Rattle.archive.specs.Block.{Bytes, maxUsed, block}
 use Rattle.archive.specs.Recording.{Recording, InSpan, AllInSpan, headBytes, stream, ofStream, blocksFor}
 use Rattle.archive.specs.Recording.{numbered, recordingBlocks, joined, archiveBlocks, archive}
 use Rattle.archive.specs.Faults.{announcedBy, blocksIn, fileBlocks, good, goodBlocks}
 use Rattle.archive.specs.Listing.{recordingsFrom, recordingsOf}
-use Rattle.archive.proofs.BlockLaws.{stream-length, numbered-count, cut-fits}
+use Rattle.archive.proofs.BlockLaws.{stream-length, numbered-count, cut-fits, head-cut}
 use Rattle.archive.proofs.ByteLaws.{bytes-take}
 use Rattle.archive.proofs.FileLaws.{whole-archive, joined-length, blocks-back}
 use Rattle.archive.proofs.PartLaws.{made-length}
@@ -29,13 +28,6 @@ pub gathered-anew : (s : List ℕ) (a b : ℕ) (blocks : List (List ℕ)) → re
 unfolding recordingsFrom announcedBy
 gathered-anew s a b [] = refl
 gathered-anew s a b (x ∷ blocks) = refl
-
--- bytes 8 to 11 of a stream stand in its first block
-head-cut : (s : List ℕ) → 12 ≤ length s → take 4 (drop 8 (take maxUsed s)) ≡ take 4 (drop 8 s)
-head-cut s h =
-    let e : drop 8 (take maxUsed s) ≡ take 496 (drop 8 s) =
-    ap (drop 8) (take-add 8 496 s) ∙ drop-at (take 8 s) (take 496 (drop 8 s)) 8 (length-take-le 8 s (omega arith)) in
-    rw e (take-take 4 496 (drop 8 s) (omega arith))
 
 -- a recording's blocks, and those after them
 module _ (r : Recording) (span : InSpan r) where
@@ -64,7 +56,7 @@ module _ (r : Recording) (span : InSpan r) where
       let t = length-take maxUsed (stream r) in
       made-length 0 (take maxUsed (stream r)) (bytes-take maxUsed (stream r) (stream-bytes r span))
       (cut-fits (stream r)) (omega arith) (omega arith)
-      ∙ ap fromLittleEndian (head-cut (stream r) (omega arith)) ∙ stream-announces r span
+      ∙ ap fromLittleEndian (head-cut maxUsed (stream r) (omega arith) (omega arith)) ∙ stream-announces r span
 
   walked : (a : ℕ) (bs : List (List ℕ))
       → Walked a 0 [] (numbered (suc count) 0 (stream r) ++ bs) (suc count) (length (r .payload)) (stream r) bs

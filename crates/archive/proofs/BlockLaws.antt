@@ -5,7 +5,7 @@ use mathlib.Core.List.{List, [], _∷_, _++_, append-assoc}
 use Prim.Native.Nat.{ℕ, zero, suc, _+_, _-_, _*_, _≤_}
 use native.Mathlib.Omega.{arith}
 use lib.ListN.{length, take, drop, replicate, length-append, length-replicate, length-take, length-drop}
-use lib.Seq.{drop-drop}
+use lib.Seq.{drop-drop, drop-at, take-add, take-take, length-take-le}
 use Rattle.little_endian.specs.LittleEndian.{littleEndian}
 use Rattle.archive.specs.Block.{maxUsed, checkedBytes, blockBytes, checkOf, blockBody, block}
 use Rattle.archive.specs.Recording.{Recording, headBytes, head, stream, blocksFor, numbered, joined}
@@ -42,6 +42,16 @@ head-length house start issue bytes = simp (length-append, bytes-length)
 pub stream-length : (r : Recording) → length (stream r) ≡ headBytes + length (r .payload)
 unfolding stream
 stream-length r = simp (length-append, head-length)
+
+-- bytes 8 to 11 of a stream stand in what is cut off it
+pub head-cut : (u : ℕ) (s : List ℕ) → 12 ≤ u → 12 ≤ length s → take 4 (drop 8 (take u s)) ≡ take 4 (drop 8 s)
+head-cut u s g h =
+    let k = u - 8 in
+    let n : 8 + k ≡ u = omega arith in
+    let e : drop 8 (take u s) ≡ take k (drop 8 s) =
+    ap (λ (x : ℕ). drop 8 (take x s)) (sym n) ∙ ap (drop 8) (take-add 8 k s)
+    ∙ drop-at (take 8 s) (take k (drop 8 s)) 8 (length-take-le 8 s (omega arith)) in
+    rw e (take-take 4 k (drop 8 s) (omega arith))
 
 -- the bytes of blocks behind blocks
 pub joined-append : (a b : List (List ℕ)) → joined (a ++ b) ≡ joined a ++ joined b

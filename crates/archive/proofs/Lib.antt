@@ -10,3 +10,4 @@ pub mod WalkLaws
 pub mod FileLaws
 pub mod StreamLaws
 pub mod ArchivedLaws
+pub mod OnlyLaws

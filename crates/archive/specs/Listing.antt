@@ -1,12 +1,13 @@
 -- Document 02 §9: the recordings of a file, and those in force (Q9.4, Q9.5).
 -- Assumes nothing.
+use mathlib.Core.Path.{_≡_}
 use mathlib.Core.Bool.{Bool, true, false, not, _&&_, _||_, cond}
 use mathlib.Core.List.{List, [], _∷_, _++_}
 use Prim.Native.Nat.{ℕ, _+_}
 use lib.Dec.{eqb, ltb}
 use lib.ListN.{length}
 use Rattle.archive.specs.Block.{dataIn}
-use Rattle.archive.specs.Recording.{Recording, ofStream}
+use Rattle.archive.specs.Recording.{Recording, AllInSpan, ofStream, archive}
 use Rattle.archive.specs.Faults.{fileBlocks, announcedBy, finished}
 
 -- the recordings that blocks hold, where none is bad: `s` is what those of the recording so far hold
@@ -19,6 +20,11 @@ recordingsFrom s announced before (block ∷ rest) =
 
 abbrev pub recordingsOf : List ℕ → List Recording
 recordingsOf file = recordingsFrom [] 0 0 (fileBlocks file)
+
+-- what a file is that has no bad block: the archive of its recordings, each in span (Q9.9)
+pub record Sound (file : List ℕ) : Type 0 where
+  pub same : file ≡ archive (recordingsOf file)
+  pub in-span : AllInSpan (recordingsOf file)
 
 -- "A recording supersedes one of the same house and start second if its issue is higher"
 unfoldable pub supersedes : Recording → Recording → Bool

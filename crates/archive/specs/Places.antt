@@ -1,0 +1,38 @@
+-- Where the recordings of a file stand.
+-- Assumes nothing.
+-- ---- for the code alone
+use mathlib.Core.Path.{_≡_}
+use mathlib.Core.List.{List, []}
+use Prim.Native.Nat.{ℕ, _+_, _≤_}
+use lib.ListN.{length, drop, getD}
+use Rattle.archive.specs.Block.{numberAt}
+use Rattle.archive.specs.Recording.{Recording, archive}
+use Rattle.archive.specs.Listing.{recordingsOf}
+
+-- what stands where a list of recordings has none
+abbrev pub noRecording : Recording
+noRecording = record { house = 0; start = 0; issue = 0; payload = [] }
+
+-- recording i of a file
+abbrev pub recordingAt : List ℕ → ℕ → Recording
+recordingAt file i = getD (recordingsOf file) i noRecording
+
+-- recording i of a file stands at a place, or the file ends there after i recordings
+pub record At (file : List ℕ) (place i : ℕ) : Type 0 where
+  pub rest : drop place file ≡ archive (drop i (recordingsOf file))
+  pub inside : place ≤ length file
+  pub within : i ≤ length (recordingsOf file)
+
+-- the four numbers before a payload, where a recording stands
+pub record HeadAt (bytes : List ℕ) (house start issue payload : ℕ) : Type 0 where
+  pub house : house ≡ numberAt bytes 4 2
+  pub start : start ≡ numberAt bytes 6 4
+  pub issue : issue ≡ numberAt bytes 10 2
+  pub payload : payload ≡ numberAt bytes 12 4
+
+-- which are those of a recording
+pub record HeadOf (r : Recording) (house start issue payload : ℕ) : Type 0 where
+  pub house : house ≡ r .house
+  pub start : start ≡ r .start
+  pub issue : issue ≡ r .issue
+  pub payload : payload ≡ length (r .payload)
