@@ -11,3 +11,4 @@ pub mod FileLaws
 pub mod StreamLaws
 pub mod ArchivedLaws
 pub mod OnlyLaws
+pub mod PlaceLaws

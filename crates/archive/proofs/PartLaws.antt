@@ -33,11 +33,11 @@ module _ (number : ℕ) (used : List ℕ) where
   behind = filling ++ littleEndian 4 (checkOf (blockBody number used))
 
   -- a block from its front on
-  block-parts : block number used ≡ front ++ (used ++ behind)
+  pub block-parts : block number used ≡ front ++ (used ++ behind)
   unfolding block blockBody
   block-parts = simp append-assoc
 
-  front-length : length front ≡ 4
+  pub front-length : length front ≡ 4
   front-length = simp (length-append, bytes-length)
 
   module _ (bytes : Bytes used) (fits : length used ≤ maxUsed) (small : number < 65536) where

@@ -24,15 +24,15 @@ pub record At (file : List ℕ) (place i : ℕ) : Type 0 where
   pub within : i ≤ length (recordingsOf file)
 
 -- the four numbers before a payload, where a recording stands
-pub record HeadAt (bytes : List ℕ) (house start issue payload : ℕ) : Type 0 where
-  pub house : house ≡ numberAt bytes 4 2
-  pub start : start ≡ numberAt bytes 6 4
-  pub issue : issue ≡ numberAt bytes 10 2
-  pub payload : payload ≡ numberAt bytes 12 4
+pub record HeadAt (bytes : List ℕ) (h s i n : ℕ) : Type 0 where
+  pub house : h ≡ numberAt bytes 4 2
+  pub start : s ≡ numberAt bytes 6 4
+  pub issue : i ≡ numberAt bytes 10 2
+  pub payload : n ≡ numberAt bytes 12 4
 
 -- which are those of a recording
-pub record HeadOf (r : Recording) (house start issue payload : ℕ) : Type 0 where
-  pub house : house ≡ r .house
-  pub start : start ≡ r .start
-  pub issue : issue ≡ r .issue
-  pub payload : payload ≡ length (r .payload)
+pub record HeadOf (r : Recording) (h s i n : ℕ) : Type 0 where
+  pub house : h ≡ r .house
+  pub start : s ≡ r .start
+  pub issue : i ≡ r .issue
+  pub payload : n ≡ length (r .payload)

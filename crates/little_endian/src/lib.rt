@@ -44,6 +44,13 @@ pub fn number(a: u8, b: u8, c: u8, d: u8) -> u32
     a as u32 + 256 * (b as u32) + 65536 * (c as u32) + 16777216 * (d as u32)
 }
 
+// The number that two bytes hold.
+pub fn short_number(lo: u8, hi: u8) -> u32
+    ensures { λ r. ⌜ r ≡ fromLittleEndian (lo ∷ hi ∷ []) ⌝ }
+{
+    lo as u32 + 256 * (hi as u32)
+}
+
 // The signed number that 16 bits stand for. The two complements fold away.
 fn signed(bits: u16) -> i16
     ensures { λ r. ⌜ r ≡ toZ w16 bits ⌝ }
