@@ -12,3 +12,4 @@ pub mod StreamLaws
 pub mod ArchivedLaws
 pub mod OnlyLaws
 pub mod PlaceLaws
+pub mod ListingLaws

@@ -1,0 +1,2 @@
+-- What other crates and the proofs of this one cite.
+pub mod CopyLaws
