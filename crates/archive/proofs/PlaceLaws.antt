@@ -83,6 +83,20 @@ archive-none : length (archive []) ≡ 0
 unfolding archiveBlocks joined
 archive-none = refl
 
+-- every recording takes 512 bytes or more
+archive-long : (rs : List Recording) → 512 * length rs ≤ length (archive rs)
+archive-long [] = let z = archive-none in omega arith
+archive-long (r ∷ rs) =
+    let n = archive-long rs in
+    let e = ap length (archive-cons r rs) in
+    let m = length-append (recordingBytes r) (archive rs) in
+    let k = recording-length r in
+    omega arith
+
+-- so a file has no more than that of them
+pub recordings-few : (file : List ℕ) → Sound file → 512 * length (recordingsOf file) ≤ length file
+recordings-few file s = let n = archive-long (recordingsOf file) in let e = ap length (s .same) in omega arith
+
 -- a recording in span of a list
 pub span-at : {rs : List Recording} → AllInSpan rs → (i : ℕ) (d : Recording) → i < length rs → InSpan (getD rs i d)
 span-at AllInSpan.none i d h = absurd (omega arith)

@@ -1,2 +1,3 @@
 -- What other crates and the proofs of this one cite.
 pub mod CopyLaws
+pub mod KeptLaws
