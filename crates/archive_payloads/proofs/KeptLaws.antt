@@ -134,10 +134,13 @@ walk-room file i one {place} {n} {b} {payload} d p h =
     rw p (g, omega arith, omega arith)
 
 -- what a step answered is the walk one recording further
-pub done-on : (file : List ℕ) (first m : ℕ) {done r : Done} {s : Bool} {payload : ℕ}
-    → DoneIs file (first + m + 1) (done .place + 512 * blocksFor (12 + payload)) (done .recordings + cond s 0 1)
-    (done .bytes + cond s 0 payload)
-    → CountedIs done s payload r → DoneIs file (first + (m + 1)) (r .place) (r .recordings) (r .bytes)
-done-on file first m d c =
+pub done-told : (file : List ℕ) (i : ℕ) {done r : Done} {s : Bool} {payload : ℕ}
+    → DoneIs file i (done .place + 512 * blocksFor (12 + payload)) (done .recordings + cond s 0 1) (done .bytes + cond s 0 payload)
+    → CountedIs done s payload r → DoneIs file i (r .place) (r .recordings) (r .bytes)
+done-told file i d c = rw (c .place, c .recordings, c .bytes) d
+
+pub done-on : (file : List ℕ) (first m : ℕ) {place n b : ℕ} → DoneIs file (first + m + 1) place n b
+    → DoneIs file (first + (m + 1)) place n b
+done-on file first m d =
     let e : first + (m + 1) ≡ first + m + 1 = omega arith in
-    rw (e, c .place, c .recordings, c .bytes) d
+    rw e d

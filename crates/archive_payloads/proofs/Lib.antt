@@ -1,3 +1,4 @@
 -- What other crates and the proofs of this one cite.
 pub mod CopyLaws
 pub mod KeptLaws
+pub mod LaidLaws

@@ -12,7 +12,8 @@ use Rattle.little_endian.proofs.StoreLaws.{four-taken}
 module _ (file : List ℕ) (at w : ℕ) (long : at + w + 4 ≤ length file) where
   -- four of them
   pub four-there : take 4 (drop w (drop at file))
-      ≡ getD file (at + w) 0 ∷ getD file (at + (w + 1)) 0 ∷ getD file (at + (w + 2)) 0 ∷ getD file (at + (w + 3)) 0 ∷ []
+      ≡ getD file (at + w) 0 ∷ getD file (at + (w + 1)) 0 ∷ getD file (at + (w + 2)) 0
+      ∷ getD file (at + (w + 3)) 0 ∷ []
   four-there =
       let one : at + (w + 1) ≡ at + w + 1 = omega arith in
       let two : at + (w + 2) ≡ at + w + 2 = omega arith in

@@ -11,7 +11,7 @@ use borrow.Author.Needs.{needs}
 use Rattle.archive.specs.Listing.{recordingsOf}
 use Rattle.archive.proofs.PlaceLaws.{recordings-few}
 use Rattle.archive_payloads.specs.Kept.{DoneIs}
-use Rattle.archive_payloads.proofs.KeptLaws.{done-more, walk-room, done-on}
+use Rattle.archive_payloads.proofs.KeptLaws.{done-more, done-told, done-on, walk-room}
 use Rattle.archive_payloads.proofs.count_chunk.Statement.{statement}
 use Rattle.archive_payloads.proofs.count_chunk.Tie as tie
 
@@ -47,8 +47,9 @@ loop-again c =
     let s : tie.Start Inv-loop μ-loop = search needs in
     let l = x .before .loop in
     (omega arith,
-    done-on _ _ (l .m) (done-more _ _ (one x) _ (s .pre .1 .1 .marks (l .m) (omega arith)) (l .inv .1) (h .head-at .ensures .payload))
-    (c .counted .ensures))
+    done-on _ _ (l .m) (done-told _ _
+    (done-more _ _ (one x) _ (s .pre .1 .1 .marks (l .m) (omega arith)) (l .inv .1) (h .head-at .ensures .payload))
+    (c .counted .ensures)))
 
 returns : tie.Need-returns Inv-loop μ-loop
 returns c =

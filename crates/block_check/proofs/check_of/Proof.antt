@@ -4,7 +4,8 @@
 use Prim.Native.Nat.{_-_, _<_}
 use native.Mathlib.Omega.{arith}
 use borrow.Author.Needs.{needs}
-use Rattle.block_check.proofs.CheckLaws.{Summed, term-word, sum-word, summed-none, summed-more, summed-all}
+use Rattle.block_check.proofs.CheckLaws.{Summed, summed-none, summed-more, summed-all}
+use Rattle.block_check.proofs.CheckLaws.{term-word, sum-word}
 use Rattle.block_check.proofs.check_of.Statement.{statement}
 use Rattle.block_check.proofs.check_of.Tie as tie
 

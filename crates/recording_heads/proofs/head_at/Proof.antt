@@ -1,8 +1,6 @@
 -- `recording_heads::head_at` meets its contract.
 -- Assumes nothing.
-use Prim.Native.Nat.{_+_, _≤_}
 use native.Mathlib.Omega.{arith}
-use lib.ListN.{length}
 use denote.Ref.{now}
 use borrow.Author.Needs.{needs}
 use Rattle.archive.specs.Places.{noRecording}

@@ -1,0 +1,7 @@
+-- What the proofs of this crate cite.
+pub mod HeadLaws
+pub mod ClearLaws
+pub mod LayLaws
+pub mod PartLaws
+pub mod BlocksLaws
+pub mod WriteLaws
