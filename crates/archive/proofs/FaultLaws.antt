@@ -108,3 +108,15 @@ passes-right last announced before b e =
       filling = u .clear;
       closed = closes last (finished announced before) (u .closed);
     }
+
+-- at most all blocks are right
+pub good-most : (announced before : ℕ) (blocks : List (List ℕ)) → good announced before blocks ≤ length blocks
+unfolding good
+good-most announced before [] = omega arith
+good-most announced before (b ∷ rest) =
+    let l = announcedBy announced before b in
+    go (wrong (noneLeft rest) l before b) (good l (nextBefore l before) rest) (good-most l (nextBefore l before) rest)
+  where
+    go : (t : Bool) (n : ℕ) → n ≤ length rest → cond t 0 (suc n) ≤ suc (length rest)
+    go true n h = omega arith
+    go false n h = omega arith

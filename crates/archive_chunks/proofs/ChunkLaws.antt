@@ -9,7 +9,7 @@ use lib.ListN.{length, getD, replicate, length-replicate}
 use Rattle.archive.specs.Listing.{recordingsOf, superseded, Sound}
 use Rattle.archive.specs.Places.{noRecording, recordingAt}
 use Rattle.archive.proofs.PlaceLaws.{span-at}
-use Rattle.archive_keys.specs.Keys.{beaten, buckets}
+use Rattle.archive_keys.specs.Keys.{beaten, buckets, chunk}
 use Rattle.archive_keys.specs.Chains.{NoHeads}
 use Rattle.archive_keys.proofs.KeyLaws.{keys-at, keys-length, superseded-keys, twice-one}
 use Rattle.archive_chunks.specs.Chunks.{fileKeys, LoadedIs, Unmarked, MarkedAll, MetAll, ChunkIs}
@@ -45,9 +45,10 @@ module _ {file : List ℕ} {at first : ℕ} {keys : List ℕ} {count next : ℕ}
       ∙ sym (superseded-keys (recordingsOf file) (recordingAt file (first + m)) (sound .in-span) span)
 
   -- what was loaded, marked and met is the chunk
-  pub chunk-is : ChunkIs file at first count next told marks
-  chunk-is = record {
+  pub chunk-is : length marks ≡ chunk → ChunkIs file at first count next told marks
+  chunk-is size = record {
     few = l .few;
+    size = size;
     some = l .some;
     place = l .place;
     marks = mark-at;

@@ -45,6 +45,7 @@ pub record MetAll (file : List ℕ) (first : ℕ) (keys : List ℕ) (count : ℕ
 -- a chunk: its recordings from `first` on, which of them are superseded, and whether one is there twice
 pub record ChunkIs (file : List ℕ) (at first count next : ℕ) (told : Bool) (marked : List Bool) : Type 0 where
   pub few : count ≤ chunk
+  pub size : length marked ≡ chunk
   pub some : at < length file → 0 < count
   pub place : At file next (first + count)
   pub marks : (m : ℕ) → m < count

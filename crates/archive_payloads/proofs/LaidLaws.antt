@@ -18,11 +18,11 @@ pub record Grown (before after : List ℕ) (at : ℕ) (values : List ℕ) : Type
   pub laid : after ≡ overlay before at values
 
 -- none
-grown-none : (list : List ℕ) (at : ℕ) (values : List ℕ) → values ≡ [] → Grown list list at values
+pub grown-none : (list : List ℕ) (at : ℕ) (values : List ℕ) → values ≡ [] → Grown list list at values
 grown-none list at values e = record { same-length = refl; laid = sym (ap (overlay list at) e ∙ overlay-none list at) }
 
 -- and others right after them
-grown-more : (before now after : List ℕ) (at n : ℕ) (v w vw : List ℕ) → Grown before now at v → n ≡ at + length v
+pub grown-more : (before now after : List ℕ) (at n : ℕ) (v w vw : List ℕ) → Grown before now at v → n ≡ at + length v
     → n + length w ≤ length before → after ≡ overlay now n w → v ++ w ≡ vw → Grown before after at vw
 grown-more before now after at n v w vw g e h l q =
     let s = g .same-length in

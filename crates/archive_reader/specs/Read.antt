@@ -67,7 +67,7 @@ readEntry file list storage =
 -- ---- for the code alone
 
 -- what is counted of a file without a bad block
-pub record TallyIs (file : List ℕ) (told : Bool) (recordings bytes : ℕ) : Type 0 where
+pub record CountsAre (file : List ℕ) (told : Bool) (recordings bytes : ℕ) : Type 0 where
   pub repeated : told ≡ twice (recordingsOf file)
   pub counted : recordings ≡ length (inForce (recordingsOf file))
   pub summed : bytes ≡ length (payloads (inForce (recordingsOf file)))

@@ -14,7 +14,7 @@ ghost use Prim.Native.Nat.{_*_, _≤_};
 ghost use lib.ListN.{length};
 ghost use Rattle.overlay.specs.Overlay.{overlay};
 ghost use Rattle.archive.specs.Listing.{recordingsOf, inForce, listed, payloads, Sound};
-ghost use Rattle.archive_reader.specs.Read.{viewRead, readEntry, TallyIs};
+ghost use Rattle.archive_reader.specs.Read.{viewRead, readEntry, CountsAre};
 
 // What the reader answers: the first bad block where it refuses with 18; recordings in force and the
 // bytes of their payloads, both 0 on refusal.
@@ -26,16 +26,16 @@ pub struct ArchiveRead {
 }
 
 // What is counted before anything is written.
-struct Tally {
+struct Counts {
     twice: bool,
     recordings: usize,
     bytes: usize,
 }
 
 // Counts the recordings in force, chunk by chunk, and looks for one that is there twice.
-fn tally(file: &[u8]) -> Tally
+fn count_all(file: &[u8]) -> Counts
     requires { ⌜ Sound (now file) ⌝ }
-    ensures { λ r. ⌜ TallyIs (now (file .entry)) (r .twice) (r .recordings) (r .bytes) ⌝ }
+    ensures { λ r. ⌜ CountsAre (now (file .entry)) (r .twice) (r .recordings) (r .bytes) ⌝ }
 {
     let mut done = Done {
         place: 0,
@@ -52,7 +52,7 @@ fn tally(file: &[u8]) -> Tally
         twice = either(twice, chunk.twice);
         first = first + count;
     }
-    Tally {
+    Counts {
         twice: twice,
         recordings: done.recordings,
         bytes: done.bytes,
@@ -104,7 +104,7 @@ pub fn read_archive(file: &[u8], list: &mut [u32], out: &mut [u8]) -> ArchiveRea
             bytes: 0,
         };
     }
-    let counted = tally(file);
+    let counted = count_all(file);
     if counted.twice {
         return ArchiveRead {
             outcome: Outcome::Refused(Refusal::RecordingTwice),

@@ -34,7 +34,7 @@ returns c =
     let loaded : tie.After-load-keys = search needs in
     let marked : tie.After-mark-all = search needs in
     let m = marked .mark-all .ensures in
-    chunk-is _ (start .pre .0) (loaded .load-keys .ensures) (m .0) (m .1)
+    chunk-is _ (start .pre .0) (loaded .load-keys .ensures) (m .0) (m .1) (search needs)
 
 pub chunk-at-spec : {M : Type 1} → statement M
 chunk-at-spec =
