@@ -1,2 +1,3 @@
 -- What the proofs of this crate cite.
 pub mod WriteSlotLaws
+pub mod ReadSlotLaws

@@ -3,6 +3,7 @@
 // refusal number, 0 for accepted. Values are laid into the first slots of a lent list; one that has
 // fewer slots is refused with 6, and then nothing is written. Only the passes of a list are copied,
 // into an array of 16.
+pub mod archives;
 pub mod pack;
 pub mod pages;
 pub mod pass_lists;
@@ -11,6 +12,8 @@ pub mod waves;
 pub mod wide;
 pub mod words;
 
+pub use crate::archives::wv_archive_read;
+pub use crate::archives::wv_archive_write;
 pub use crate::pack::wv_pack;
 pub use crate::pages::wv_morning_page;
 pub use crate::pass_lists::wv_analyse;

@@ -8,7 +8,7 @@ use Rattle.archive_slots.proofs.write_call.Statement.{statement}
 use Rattle.archive_slots.proofs.write_call.Tie as tie
 
 returns : tie.Need-returns
-returns c = write-short _ _ _ _ (c .number .ensures) (c .before .if1 .taken)
+returns c = write-short _ _ _ _ (c .number .ensures) (omega (arith, c .before .if1 .taken))
 
 returns-2 : tie.Need-returns-2
 returns-2 c =

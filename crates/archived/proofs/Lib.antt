@@ -1,0 +1,3 @@
+-- What is shown of both entries.
+pub mod Theorems
+pub mod Cases
