@@ -1,7 +1,5 @@
 -- What the proofs of this crate cite.
 pub mod HeadLaws
-pub mod ClearLaws
-pub mod LayLaws
 pub mod PartLaws
 pub mod BlocksLaws
 pub mod WriteLaws

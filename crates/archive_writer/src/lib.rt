@@ -4,16 +4,13 @@ use answers::Outcome;
 use answers::Refusal;
 use answers::limits::MAX_PAYLOAD_BYTES;
 use block_check::BLOCK_BYTES;
-use block_check::CHECKED_BYTES;
 use block_check::MAX_USED;
-use block_check::check_of;
-use decimal::text::put_text;
-use little_endian::lay_number;
+use block_laying::lay_block;
 use little_endian::number_bytes;
 ghost use mathlib.Core.Path.{_≡_};
 ghost use mathlib.Core.List.{_++_};
-ghost use Prim.Native.Nat.{_+_, _-_, _*_, _≤_, _<_, min};
-ghost use lib.ListN.{length, take, drop, replicate};
+ghost use Prim.Native.Nat.{_+_, _*_, _≤_, _<_, min};
+ghost use lib.ListN.{length, take, drop};
 ghost use Rattle.answers.specs.Limits.{maxPayloadBytes};
 ghost use Rattle.overlay.specs.Overlay.{overlay};
 ghost use Rattle.archive.specs.Block.{blockBytes, maxUsed, block};
@@ -51,38 +48,6 @@ fn head_bytes(house: u16, start: u32, issue: u16, length: u32) -> [u8; 12]
         long[2],
         long[3],
     ]
-}
-
-// Lays zeros from a place up to another.
-fn clear(out: &mut [u8], from: usize, to: usize)
-    requires order { ⌜ from ≤ to ⌝ }
-    requires room { ⌜ to ≤ length (now out) ⌝ }
-    ensures { λ _. ⌜ now (out .exit) ≡ overlay (now (out .entry)) from (replicate (to - from) 0) ⌝ }
-{
-    let mut i = from;
-    while i < to {
-        out[i] = 0;
-        i = i + 1;
-    }
-}
-
-// Lays the block of a number whose data are two lists of bytes, one after the other.
-fn lay_block(number: usize, front: &[u8], part: &[u8], at: usize, out: &mut [u8])
-    requires number { ⌜ number < 65536 ⌝ }
-    requires used { ⌜ length (now front) + length (now part) ≤ maxUsed ⌝ }
-    requires room { ⌜ at + blockBytes ≤ length (now out) ⌝ }
-    ensures { λ _. ⌜
-        now (out .exit)
-        ≡ overlay (now (out .entry)) at (block number (now (front .entry) ++ now (part .entry)))
-        ⌝ }
-{
-    let used = front.len() + part.len();
-    lay_number(number as u32 + 65536 * (used as u32), at, out);
-    let middle = put_text(out, at + 4, front);
-    let end = put_text(out, middle, part);
-    clear(out, end, at + CHECKED_BYTES);
-    let check = check_of(&out[at..]);
-    lay_number(check, at + CHECKED_BYTES, out);
 }
 
 fn least(a: usize, b: usize) -> usize

@@ -1,10 +1,10 @@
--- `archive_writer::lay_block` meets its contract: number and used bytes, the data, zeros, and the check.
+-- `block_laying::lay_block` meets its contract: number and used bytes, the data, zeros, and the check.
 -- Assumes nothing.
 use borrow.Author.Needs.{needs}
 use native.Mathlib.Omega.{arith}
-use Rattle.archive_writer.proofs.LayLaws.{block-laid}
-use Rattle.archive_writer.proofs.lay_block.Statement.{statement}
-use Rattle.archive_writer.proofs.lay_block.Tie as tie
+use Rattle.block_laying.proofs.LayLaws.{block-laid}
+use Rattle.block_laying.proofs.lay_block.Statement.{statement}
+use Rattle.block_laying.proofs.lay_block.Tie as tie
 
 -- the stops on the way back
 abbrev check-made : tie.After-slice-known6 → tie.After-check-of

@@ -1,11 +1,11 @@
--- `archive_writer::clear` meets its contract. The loop's invariant: zeros stand up to i. The measure is
+-- `block_laying::clear` meets its contract. The loop's invariant: zeros stand up to i. The measure is
 -- what is left.
 -- Assumes nothing.
 use Prim.Native.Nat.{_-_, _≤_}
 use native.Mathlib.Omega.{arith}
-use Rattle.archive_writer.proofs.ClearLaws.{Cleared, cleared-none, cleared-more, cleared-all}
-use Rattle.archive_writer.proofs.clear.Statement.{statement}
-use Rattle.archive_writer.proofs.clear.Tie as tie
+use Rattle.block_laying.proofs.ClearLaws.{Cleared, cleared-none, cleared-more, cleared-all}
+use Rattle.block_laying.proofs.clear.Statement.{statement}
+use Rattle.block_laying.proofs.clear.Tie as tie
 
 abbrev Inv-loop : tie.InvT-loop
 Inv-loop out₀ from to i₀ out i = (i ≤ to) × Cleared out₀ out from i

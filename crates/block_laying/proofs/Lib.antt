@@ -1,0 +1,3 @@
+-- What the proofs of this crate cite.
+pub mod ClearLaws
+pub mod LayLaws
