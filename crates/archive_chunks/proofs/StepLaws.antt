@@ -4,29 +4,14 @@ use mathlib.Core.Path.{_≡_, sym, ap, _∙_}
 use mathlib.Core.List.{List, [], _∷_}
 use Prim.Native.Nat.{ℕ, _+_, _*_, _≤_, _<_}
 use native.Mathlib.Omega.{arith}
-use lib.ListN.{length, getD, length-append}
-use Rattle.archive.specs.Recording.{Recording, InSpan, blocksFor, recordingBytes, archive}
+use lib.ListN.{length, getD}
+use Rattle.archive.specs.Recording.{Recording, InSpan, blocksFor}
 use Rattle.archive.specs.Listing.{recordingsOf, Sound}
 use Rattle.archive.specs.Places.{At, HeadOf, noRecording, recordingAt}
-use Rattle.archive.proofs.BlockLaws.{recording-length}
-use Rattle.archive.proofs.PlaceLaws.{archive-cons, at-next, span-at}
+use Rattle.archive.proofs.PlaceLaws.{at-next, span-at}
 use Rattle.archive_keys.specs.Keys.{keyOf}
 use Rattle.archive_keys.proofs.KeyLaws.{keys-at}
 use Rattle.archive_chunks.specs.Chunks.{KeyIs, fileKeys}
-
--- a recording takes a block at least
-archive-long : (rs : List Recording) → 512 * length rs ≤ length (archive rs)
-archive-long [] = omega arith
-archive-long (r ∷ rs) =
-    let n = ap length (archive-cons r rs) in
-    let m = length-append (recordingBytes r) (archive rs) in
-    let k = recording-length r in
-    let l = archive-long rs in
-    omega arith
-
--- so a file has fewer recordings than bytes
-pub recordings-few : (file : List ℕ) → Sound file → 512 * length (recordingsOf file) ≤ length file
-recordings-few file s = let n = ap length (s .same) in let l = archive-long (recordingsOf file) in omega arith
 
 -- the parts of a recording in span
 small-head : {r : Recording} {h s k n : ℕ} → InSpan r → HeadOf r h s k n

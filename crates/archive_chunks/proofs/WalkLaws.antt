@@ -15,6 +15,8 @@ use Rattle.archive.proofs.PlaceLaws.{at-end}
 use Rattle.archive_keys.specs.Keys.{beaten}
 use Rattle.archive_keys.specs.Chains.{Marked, Met}
 use Rattle.archive_keys.proofs.KeyLaws.{beaten-none, beaten-more, keys-length}
+use Rattle.answers.proofs.TestLaws.{neither}
+use Rattle.archive_keys.proofs.MarkLaws.{one}
 use Rattle.archive_chunks.specs.Chunks.{fileKeys, Unmarked, MarkedAll, MetAll}
 
 -- the first recordings of a file are walked, and the next stands at a place
@@ -38,16 +40,6 @@ walked-none {file} {keys = keys} a none = record {
   never = λ e q m h. absurd (omega arith);
   once = λ e. absurd (false≢true e);
 }
-
--- two tests of which none holds both fail
-neither : (s t : Bool) → (s || t) ≡ false → (s ≡ false) × (t ≡ false)
-neither true t e = absurd (false≢true (sym e))
-neither false t e = (refl, e)
-
--- two tests of which one holds: what each tells is so
-one : {P : Type 0} (s t : Bool) → (s || t) ≡ true → (s ≡ true → P) → (t ≡ true → P) → P
-one true t e f g = f refl
-one false t e f g = g e
 
 -- one more
 module _ {file : List ℕ} {first : ℕ} {keys : List ℕ} {count : ℕ} {before marks after : List Bool}

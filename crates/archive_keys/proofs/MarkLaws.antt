@@ -9,18 +9,14 @@ use borrow.Author.Tests.{eqb-true, eqb-false, eq-eqb, ltb-true, ltb-false, not-t
 use lib.Dec.{eqb, ltb}
 use lib.ListN.{length, getD, set, length-set}
 use lib.Seq.{getD-set-other}
+use Rattle.answers.proofs.TestLaws.{neither}
 use Rattle.archive_keys.specs.Keys.{bucketOf, beats}
 use Rattle.archive_keys.specs.Chains.{Chained, Marked, Met, elsewhere}
 use Rattle.archive_keys.proofs.KeyLaws.{beats-apart}
 use Rattle.archive_keys.proofs.ChainLaws.{at-set}
 
--- two tests of which none holds both fail
-neither : (s t : Bool) → (s || t) ≡ false → (s ≡ false) × (t ≡ false)
-neither true t e = absurd (true≢false e)
-neither false t e = (refl, e)
-
 -- two tests of which one holds: what each tells is so
-one : {P : Type 0} (s t : Bool) → (s || t) ≡ true → (s ≡ true → P) → (t ≡ true → P) → P
+pub one : {P : Type 0} (s t : Bool) → (s || t) ≡ true → (s ≡ true → P) → (t ≡ true → P) → P
 one true t e f g = f refl
 one false t e f g = g e
 

@@ -18,6 +18,7 @@ use Rattle.archive.specs.Places.{At}
 use Rattle.archive.proofs.ListingLaws.{kept-on, kept-few, kept-small, listed-append, listed-length, payloads-append}
 use Rattle.archive.proofs.PlaceLaws.{at-start, at-end}
 use Rattle.archive_keys.proofs.KeyLaws.{keys-length, twice-none}
+use Rattle.archive_keys.proofs.MarkLaws.{one}
 use Rattle.archive_chunks.specs.Chunks.{fileKeys, ChunkIs}
 use Rattle.archive_payloads.specs.Kept.{kept, between, DoneIs, SupersededIs}
 use Rattle.archive_payloads.proofs.LaidLaws.{Grown, grown-none, grown-more}
@@ -43,7 +44,7 @@ module _ (file : List ℕ) where
     pub apart-more : (told new : Bool) → Apart file first told → new ≡ (told || met) → Apart file (first + count) new
     apart-more told new a e = record {
       never = λ f q i h k same. go (neither told met (sym e ∙ f)) q i h k same (ltb i first) refl;
-      once = λ t. some told met (sym e ∙ t) (a .once) (c .once);
+      once = λ t. one told met (sym e ∙ t) (a .once) (c .once);
     }
       where
         go : (told ≡ false) × (met ≡ false) → (q i : ℕ) → q < length (fileKeys file) → i < first + count
@@ -53,11 +54,6 @@ module _ (file : List ℕ) where
             let w = ltb-false i first z in
             let m : first + (i - first) ≡ i = omega arith in
             sym m ∙ c .never (p .1) q (i - first) h (omega arith) (ap (λ (x : ℕ). getD (fileKeys file) x 0) m ∙ same)
-
-        some : (a b : Bool) → (a || b) ≡ true → (a ≡ true → twice (recordingsOf file) ≡ true)
-            → (b ≡ true → twice (recordingsOf file) ≡ true) → twice (recordingsOf file) ≡ true
-        some true b t f g = f refl
-        some false b t f g = g t
 
     -- which of its recordings are superseded
     pub chunk-marks : SupersededIs file first count marks

@@ -4,7 +4,7 @@ use native.Mathlib.Omega.{arith}
 use denote.Ref.{now}
 use borrow.Author.Needs.{needs}
 use Rattle.archive_keys.specs.Keys.{chunk}
-use Rattle.archive_chunks.proofs.StepLaws.{recordings-few}
+use Rattle.archive.proofs.PlaceLaws.{recordings-few}
 use Rattle.archive_chunks.proofs.ChunkLaws.{no-heads, no-marks, chunk-is}
 use Rattle.archive_chunks.proofs.chunk_at.Statement.{statement}
 use Rattle.archive_chunks.proofs.chunk_at.Tie as tie

@@ -11,7 +11,8 @@ use Rattle.archive.specs.Listing.{recordingsOf}
 use Rattle.archive.specs.Places.{At}
 use Rattle.archive.proofs.PlaceLaws.{at-inside}
 use Rattle.archive_keys.specs.Keys.{chunk}
-use Rattle.archive_chunks.proofs.StepLaws.{recordings-few, step-small, step-key, step-next}
+use Rattle.archive.proofs.PlaceLaws.{recordings-few}
+use Rattle.archive_chunks.proofs.StepLaws.{step-small, step-key, step-next}
 use Rattle.archive_chunks.proofs.LoadLaws.{Loading, loading-none, loading-more}
 use Rattle.archive_chunks.proofs.LoadLaws.{loading-end, loading-full}
 use Rattle.archive_chunks.proofs.load_keys.Statement.{statement}

@@ -9,7 +9,8 @@ use borrow.Author.Needs.{needs}
 use Rattle.archive.specs.Listing.{recordingsOf}
 use Rattle.archive.specs.Places.{At}
 use Rattle.archive.proofs.PlaceLaws.{at-start, at-inside}
-use Rattle.archive_chunks.proofs.StepLaws.{recordings-few, step-small, step-key, step-next, step-moves}
+use Rattle.archive.proofs.PlaceLaws.{recordings-few}
+use Rattle.archive_chunks.proofs.StepLaws.{step-small, step-key, step-next, step-moves}
 use Rattle.archive_chunks.proofs.WalkLaws.{Walked, walked-none, walked-more, walked-marks, walked-met}
 use Rattle.archive_chunks.proofs.mark_all.Statement.{statement}
 use Rattle.archive_chunks.proofs.mark_all.Tie as tie
