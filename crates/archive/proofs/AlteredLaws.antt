@@ -47,8 +47,14 @@ cut-set (suc count) zero k v file h g =
 cut-set (suc count) (suc j) k v file h g =
     let e : 512 * suc j + k ≡ 512 + (512 * j + k) = omega arith in
     let f : 512 + 512 * j ≡ 512 * suc j = omega arith in
-    rw (e, take-set-le blockBytes file (512 + (512 * j + k)) v (omega arith), drop-set-add blockBytes file (512 * j + k) v)
-    (ap (λ (l : List (List ℕ)). take blockBytes file ∷ l) (cut-set count j k v (drop blockBytes file) h (omega arith))
+    rw (
+      e,
+      take-set-le blockBytes file (512 + (512 * j + k)) v (omega arith),
+      drop-set-add blockBytes file
+          (512 * j + k) v,
+    )
+    (ap (λ (l : List (List ℕ)). take blockBytes file ∷ l)
+    (cut-set count j k v (drop blockBytes file) h (omega arith))
     ∙ rw (drop-drop (512 * j) 512 file, f))
 
 -- ---- blocks judged
@@ -61,10 +67,12 @@ second true false d e f g h q = refl
 second false false d e f g h q = refl
 
 -- a wrong check is enough
-check-wrong : (last : Bool) (announced before : ℕ) (b : List ℕ) → passes b ≡ false → wrong last announced before b ≡ true
+check-wrong : (last : Bool) (announced before : ℕ) (b : List ℕ) → passes b ≡ false
+    → wrong last announced before b ≡ true
 unfolding wrong
 check-wrong last announced before b e =
-    second (ltb (length b) blockBytes) (passes b) (ltb maxPayloadBytes announced) (not (eqb (numberIn b) before))
+    second (ltb (length b) blockBytes) (passes b) (ltb maxPayloadBytes announced)
+    (not (eqb (numberIn b) before))
     (not (eqb (usedIn b) (usedAsked announced before))) (not (allZero (fillingIn b)))
     (last && not (finished announced before)) e
 
@@ -125,12 +133,16 @@ altered-file file i v e h d =
     let within : j < count = omega arith in
     let n = cut-count count file in
     let b = take blockBytes (drop (512 * j) file) in
-    let ok : Passing b = rw (cut-at count j file within) at (each-passes 0 0 j (fileBlocks file) (e ∙ sym n) (omega arith)) in
-    let size : length b ≡ blockBytes = let w = ok .whole in let l = length-take blockBytes (drop (512 * j) file) in omega arith in
+    let ok : Passing b = rw (cut-at count j file within) at (each-passes 0 0 j (fileBlocks file) (e
+    ∙ sym n) (omega arith)) in
+    let size : length b ≡ blockBytes = let w = ok .whole in let l = length-take blockBytes
+    (drop (512 * j) file) in omega arith in
     let byte : getD b k 0 ≡ getD file i 0 =
-    getD-take blockBytes (drop (512 * j) file) k 0 (omega arith) ∙ getD-drop (512 * j) file k 0 ∙ ap (λ (x : ℕ). getD file x 0) (sym at) in
+    getD-take blockBytes (drop (512 * j) file) k 0 (omega arith) ∙ getD-drop (512 * j) file k 0
+    ∙ ap (λ (x : ℕ). getD file x 0) (sym at) in
     let fails : passes (set b k v) ≡ false =
     altered-fails b k v size (ok .checked) (omega arith) (λ q. d (sym byte ∙ q)) in
     let blocks : fileBlocks (set file i v) ≡ set (fileBlocks file) j (set b k v) =
-    ap₂ (λ (c x : ℕ). cut ((c + 511) / 512) (set file x v)) (length-set file i v) at ∙ cut-set count j k v file (omega arith) within in
+    ap₂ (λ (c x : ℕ). cut ((c + 511) / 512) (set file x v)) (length-set file i v) at
+    ∙ cut-set count j k v file (omega arith) within in
     ap (good 0 0) blocks ∙ good-set 0 0 j (fileBlocks file) (set b k v) (e ∙ sym n) (omega arith) fails

@@ -7,7 +7,8 @@ use native.Mathlib.Omega.{arith}
 use lib.ListN.{length, take, drop, length-append, length-take, length-drop}
 use Rattle.little_endian.specs.LittleEndian.{fromLittleEndian}
 use Rattle.archive.specs.Block.{Bytes, maxUsed, block}
-use Rattle.archive.specs.Recording.{Recording, InSpan, AllInSpan, headBytes, stream, ofStream, blocksFor}
+use Rattle.archive.specs.Recording.{Recording, InSpan, AllInSpan, headBytes, stream, ofStream}
+use Rattle.archive.specs.Recording.{blocksFor}
 use Rattle.archive.specs.Recording.{numbered, recordingBlocks, joined, archiveBlocks, archive}
 use Rattle.archive.specs.Faults.{announcedBy, blocksIn, fileBlocks, good, goodBlocks}
 use Rattle.archive.specs.Listing.{recordingsFrom, recordingsOf}
@@ -24,7 +25,8 @@ unfolding good announcedBy
 good-anew a b [] = refl
 good-anew a b (x ∷ blocks) = refl
 
-pub gathered-anew : (s : List ℕ) (a b : ℕ) (blocks : List (List ℕ)) → recordingsFrom s a 0 blocks ≡ recordingsFrom s b 0 blocks
+pub gathered-anew : (s : List ℕ) (a b : ℕ) (blocks : List (List ℕ))
+    → recordingsFrom s a 0 blocks ≡ recordingsFrom s b 0 blocks
 unfolding recordingsFrom announcedBy
 gathered-anew s a b [] = refl
 gathered-anew s a b (x ∷ blocks) = refl
@@ -56,23 +58,27 @@ module _ (r : Recording) (span : InSpan r) where
       let t = length-take maxUsed (stream r) in
       made-length 0 (take maxUsed (stream r)) (bytes-take maxUsed (stream r) (stream-bytes r span))
       (cut-fits (stream r)) (omega arith) (omega arith)
-      ∙ ap fromLittleEndian (head-cut maxUsed (stream r) (omega arith) (omega arith)) ∙ stream-announces r span
+      ∙ ap fromLittleEndian (head-cut maxUsed (stream r) (omega arith) (omega arith))
+      ∙ stream-announces r span
 
   walked : (a : ℕ) (bs : List (List ℕ))
-      → Walked a 0 [] (numbered (suc count) 0 (stream r) ++ bs) (suc count) (length (r .payload)) (stream r) bs
+      → Walked a 0 [] (numbered (suc count) 0 (stream r) ++ bs) (suc count) (length (r .payload))
+      (stream r) bs
   walked a bs = walk count a (length (r .payload)) 0 [] (stream r) bs left (announces a)
 
   blocks-are : recordingBlocks r ≡ numbered (suc count) 0 (stream r)
   blocks-are = ap (λ (n : ℕ). numbered n 0 (stream r)) count-is
 
   -- they count, and so do those after them
-  pub counted-on : (bs : List (List ℕ)) → good 0 0 (recordingBlocks r ++ bs) ≡ length (recordingBlocks r) + good 0 0 bs
+  pub counted-on : (bs : List (List ℕ)) → good 0 0 (recordingBlocks r ++ bs) ≡ length
+      (recordingBlocks r) + good 0 0 bs
   counted-on bs =
       let n = numbered-count (suc count) 0 (stream r) in
       rw blocks-are (walked 0 bs .counted ∙ rw (n, good-anew (length (r .payload)) 0 bs))
 
   -- they hold the recording, and those after them the others
-  pub gathered-on : (bs : List (List ℕ)) → recordingsFrom [] 0 0 (recordingBlocks r ++ bs) ≡ r ∷ recordingsFrom [] 0 0 bs
+  pub gathered-on : (bs : List (List ℕ)) → recordingsFrom [] 0 0
+      (recordingBlocks r ++ bs) ≡ r ∷ recordingsFrom [] 0 0 bs
   gathered-on bs =
       rw blocks-are (walked 0 bs .gathered
       ∙ rw (stream-back r span, gathered-anew [] (length (r .payload)) 0 bs))

@@ -18,13 +18,15 @@ bytes-length zero number = refl
 bytes-length (suc count) number = ap suc (bytes-length count _)
 
 -- the bytes before the check are 508
-pub body-length : (number : ℕ) (used : List ℕ) → length used ≤ maxUsed → length (blockBody number used) ≡ checkedBytes
+pub body-length : (number : ℕ) (used : List ℕ) → length used ≤ maxUsed
+    → length (blockBody number used) ≡ checkedBytes
 unfolding blockBody
 body-length number used h =
     simp (length-append, bytes-length, length-replicate) (omega arith)
 
 -- a block has 512 bytes
-pub block-length : (number : ℕ) (used : List ℕ) → length used ≤ maxUsed → length (block number used) ≡ blockBytes
+pub block-length : (number : ℕ) (used : List ℕ) → length used ≤ maxUsed
+    → length (block number used) ≡ blockBytes
 unfolding block
 block-length number used h =
     simp (length-append, bytes-length) (omega (arith, body-length number used h))
@@ -57,7 +59,8 @@ head-cut u s g h =
 pub joined-append : (a b : List (List ℕ)) → joined (a ++ b) ≡ joined a ++ joined b
 unfolding joined
 joined-append [] b = refl
-joined-append (x ∷ a) b = ap (λ (l : List ℕ). x ++ l) (joined-append a b) ∙ sym (append-assoc x (joined a) (joined b))
+joined-append (x ∷ a) b = ap (λ (l : List ℕ). x ++ l) (joined-append a b)
+    ∙ sym (append-assoc x (joined a) (joined b))
 
 -- so many blocks are so many
 pub numbered-count : (count number : ℕ) (s : List ℕ) → length (numbered count number s) ≡ count
@@ -66,7 +69,8 @@ numbered-count zero number s = refl
 numbered-count (suc count) number s = ap suc (numbered-count count (number + 1) (drop maxUsed s))
 
 -- and have 512 bytes each
-pub numbered-length : (count number : ℕ) (s : List ℕ) → length (joined (numbered count number s)) ≡ 512 * count
+pub numbered-length : (count number : ℕ) (s : List ℕ)
+    → length (joined (numbered count number s)) ≡ 512 * count
 unfolding numbered joined
 numbered-length zero number s = refl
 numbered-length (suc count) number s =
@@ -86,6 +90,7 @@ numbered-more (suc count) number s =
     rw (numbered-more count (number + 1) (drop maxUsed s), drop-drop (504 * count) 504 s, e, f)
 
 -- a recording's blocks
-pub recording-length : (r : Recording) → length (recordingBytes r) ≡ 512 * blocksFor (headBytes + length (r .payload))
+pub recording-length : (r : Recording) → length (recordingBytes r) ≡ 512 * blocksFor
+    (headBytes + length (r .payload))
 recording-length r =
     numbered-length (blocksFor (length (stream r))) 0 (stream r) ∙ rw (stream-length r)

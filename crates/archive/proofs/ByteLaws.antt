@@ -73,7 +73,8 @@ zeros-all zero = refl
 zeros-all (suc n) = zeros-all n
 
 -- a check stays far below 2 to the 32
-pub weighted-small : (p : ℕ) (l : List ℕ) → Bytes l → p + length l ≤ 508 → weightedFrom p l ≤ 129540 * length l
+pub weighted-small : (p : ℕ) (l : List ℕ) → Bytes l → p + length l ≤ 508
+    → weightedFrom p l ≤ 129540 * length l
 unfolding weightedFrom
 weighted-small p [] b h = omega arith
 weighted-small p (x ∷ l) b h =

@@ -39,7 +39,8 @@ module _ (b : List ℕ) (i v : ℕ) (size : length b ≡ blockBytes) (p : passes
       sym (getD-take checkedBytes b i 0 h) ∙ weighted-set 0 (take checkedBytes b) i v (omega arith) same
 
   -- in the check itself
-  check-altered : checkedBytes ≤ i → i < blockBytes → checkOf (set b i v) ≡ checkIn (set b i v) → getD b i 0 ≡ v
+  check-altered : checkedBytes ≤ i → i < blockBytes → checkOf (set b i v) ≡ checkIn (set b i v)
+      → getD b i 0 ≡ v
   check-altered h g e =
       let k = i - checkedBytes in
       let at : checkedBytes + k ≡ i = omega arith in
@@ -51,7 +52,8 @@ module _ (b : List ℕ) (i v : ℕ) (size : length b ≡ blockBytes) (p : passes
       ∙ rw (take-set-le checkedBytes b i v h, moved, take-set-lt 4 tail k v (omega arith)) at e in
       let n = length-take 4 tail in
       let m = length-drop checkedBytes b in
-      sym (ap (λ (x : ℕ). getD b x 0) at) ∙ sym (getD-drop checkedBytes b k 0) ∙ sym (getD-take 4 tail k 0 (omega arith))
+      sym (ap (λ (x : ℕ). getD b x 0) at) ∙ sym (getD-drop checkedBytes b k 0)
+      ∙ sym (getD-take 4 tail k 0 (omega arith))
       ∙ number-set (take 4 tail) k v (omega arith) same
 
   -- "A block with one byte altered must never pass": at each of its places, whatever the other byte

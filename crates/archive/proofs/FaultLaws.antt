@@ -58,7 +58,8 @@ right-passes {last} {announced} {before} {b} r =
       r .filling,
     ) (end last (r .closed))
   where
-    end : (l : Bool) → (l ≡ true → finished announced before ≡ true) → (l && not (finished announced before)) ≡ false
+    end : (l : Bool) → (l ≡ true → finished announced before ≡ true)
+        → (l && not (finished announced before)) ≡ false
     end true h = rw (h refl)
     end false h = refl
 
@@ -76,7 +77,16 @@ unmet : (short check long number used filling unended : Bool)
     → (short || not check || long || not number || not used || not filling || unended) ≡ false
     → Unmet short check long number used filling unended
 unmet false true false true true true false e =
-    record { whole = refl; checked = refl; limit = refl; counted = refl; asked = refl; clear = refl; closed = refl }
+    record {
+      whole = refl;
+      checked = refl;
+      limit = refl;
+      counted = refl;
+      asked = refl;
+      clear = refl;
+      closed
+          = refl;
+    }
 unmet true check long number used filling unended e = clash refl e
 unmet false false long number used filling unended e = clash refl e
 unmet false true true number used filling unended e = clash refl e
@@ -115,7 +125,8 @@ unfolding good
 good-most announced before [] = omega arith
 good-most announced before (b ∷ rest) =
     let l = announcedBy announced before b in
-    go (wrong (noneLeft rest) l before b) (good l (nextBefore l before) rest) (good-most l (nextBefore l before) rest)
+    go (wrong (noneLeft rest) l before b) (good l (nextBefore l before) rest)
+    (good-most l (nextBefore l before) rest)
   where
     go : (t : Bool) (n : ℕ) → n ≤ length rest → cond t 0 (suc n) ≤ suc (length rest)
     go true n h = omega arith

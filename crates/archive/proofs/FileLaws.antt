@@ -7,7 +7,8 @@ use native.Mathlib.Omega.{arith}
 use lib.ListN.{length, take, drop, length-append, length-take, length-drop, take-append-drop}
 use lib.Seq.{take-at, drop-at, take-nil, drop-nil}
 use Rattle.archive.specs.Block.{Bytes, blockBytes, maxUsed}
-use Rattle.archive.specs.Recording.{Recording, stream, blocksFor, numbered, recordingBlocks, joined, archiveBlocks, archive}
+use Rattle.archive.specs.Recording.{Recording, stream, blocksFor, numbered, recordingBlocks, joined}
+use Rattle.archive.specs.Recording.{archiveBlocks, archive}
 use Rattle.archive.specs.Faults.{cut, blocksIn, fileBlocks}
 use Rattle.archive.proofs.BlockLaws.{block-length, cut-fits}
 use Rattle.archive.proofs.ByteLaws.{bytes-take, bytes-drop}
@@ -25,13 +26,15 @@ whole-numbered : (count number : ℕ) (s : List ℕ) → Whole (numbered count n
 unfolding numbered
 whole-numbered zero number s = none
 whole-numbered (suc count) number s =
-    more (block-length number (take maxUsed s) (cut-fits s)) (whole-numbered count (number + 1) (drop maxUsed s))
+    more (block-length number (take maxUsed s) (cut-fits s))
+    (whole-numbered count (number + 1) (drop maxUsed s))
 
 -- so have those of an archive
 pub whole-archive : (rs : List Recording) → Whole (archiveBlocks rs)
 unfolding archiveBlocks
 whole-archive [] = none
-whole-archive (r ∷ rs) = whole-append (whole-numbered (blocksFor (length (stream r))) 0 (stream r)) (whole-archive rs)
+whole-archive (r ∷ rs) = whole-append (whole-numbered (blocksFor (length (stream r))) 0 (stream r))
+    (whole-archive rs)
 
 -- the bytes of whole blocks
 pub joined-length : {bs : List (List ℕ)} → Whole bs → length (joined bs) ≡ 512 * length bs

@@ -10,6 +10,7 @@ pub mod WalkLaws
 pub mod FileLaws
 pub mod StreamLaws
 pub mod ArchivedLaws
+pub mod BegunLaws
 pub mod OnlyLaws
 pub mod PlaceLaws
 pub mod ListingLaws

@@ -11,20 +11,24 @@ use Rattle.archive.specs.Recording.{Recording}
 use Rattle.archive.specs.Listing.{superseded, notSuperseded, inForce, listed, payloads}
 
 -- one recording or none before a list
-choice-append : (t : Bool) (r : Recording) (x y z : List Recording) → x ≡ y ++ z → cond t x (r ∷ x) ≡ cond t y (r ∷ y) ++ z
+choice-append : (t : Bool) (r : Recording) (x y z : List Recording) → x ≡ y ++ z
+    → cond t x (r ∷ x) ≡ cond t y (r ∷ y) ++ z
 choice-append true r x y z e = e
 choice-append false r x y z e = ap (λ (l : List Recording). r ∷ l) e
 
 -- those of a part and then of another
-pub force-append : (file a b : List Recording) → notSuperseded file (a ++ b) ≡ notSuperseded file a ++ notSuperseded file b
+pub force-append : (file a b : List Recording)
+    → notSuperseded file (a ++ b) ≡ notSuperseded file a ++ notSuperseded file b
 unfolding notSuperseded
 force-append file [] b = refl
 force-append file (r ∷ a) b =
-    choice-append (superseded file r) r (notSuperseded file (a ++ b)) (notSuperseded file a) (notSuperseded file b)
+    choice-append (superseded file r) r (notSuperseded file (a ++ b)) (notSuperseded file a)
+    (notSuperseded file b)
     (force-append file a b)
 
 -- those of one
-pub force-one : (file : List Recording) (r : Recording) → notSuperseded file (r ∷ []) ≡ cond (superseded file r) [] (r ∷ [])
+pub force-one : (file : List Recording) (r : Recording)
+    → notSuperseded file (r ∷ []) ≡ cond (superseded file r) [] (r ∷ [])
 unfolding notSuperseded
 force-one file r = refl
 
@@ -37,17 +41,20 @@ listed-length (r ∷ rs) = let n = listed-length rs in omega arith
 pub listed-append : (a b : List Recording) → listed (a ++ b) ≡ listed a ++ listed b
 unfolding listed
 listed-append [] b = refl
-listed-append (r ∷ a) b = ap (λ (l : List ℕ). r .house ∷ r .start ∷ r .issue ∷ length (r .payload) ∷ l) (listed-append a b)
+listed-append (r ∷ a) b = ap (λ (l : List ℕ). r .house ∷ r .start ∷ r .issue ∷ length (r .payload) ∷ l)
+    (listed-append a b)
 
 pub payloads-append : (a b : List Recording) → payloads (a ++ b) ≡ payloads a ++ payloads b
 unfolding payloads
 payloads-append [] b = refl
 payloads-append (r ∷ a) b =
-    ap (λ (l : List ℕ). r .payload ++ l) (payloads-append a b) ∙ sym (append-assoc (r .payload) (payloads a) (payloads b))
+    ap (λ (l : List ℕ). r .payload ++ l) (payloads-append a b)
+    ∙ sym (append-assoc (r .payload) (payloads a) (payloads b))
 
 module _ (rs : List Recording) where
   -- up to one, and then to another
-  pub kept-on : (i n : ℕ) → notSuperseded rs (take (i + n) rs) ≡ notSuperseded rs (take i rs) ++ notSuperseded rs (take n (drop i rs))
+  pub kept-on : (i n : ℕ) → notSuperseded rs (take (i + n) rs) ≡ notSuperseded rs
+      (take i rs) ++ notSuperseded rs (take n (drop i rs))
   kept-on i n = ap (notSuperseded rs) (take-add i n rs) ∙ force-append rs (take i rs) (take n (drop i rs))
 
   -- the one
@@ -58,8 +65,10 @@ module _ (rs : List Recording) where
   pub between-more : (i n : ℕ) → notSuperseded rs (take (n + 1) (drop i rs))
       ≡ notSuperseded rs (take n (drop i rs)) ++ notSuperseded rs (take 1 (drop (i + n) rs))
   between-more i n =
-      ap (notSuperseded rs) (take-add n 1 (drop i rs)) ∙ force-append rs (take n (drop i rs)) (take 1 (drop n (drop i rs)))
-      ∙ ap (λ (l : List Recording). notSuperseded rs (take n (drop i rs)) ++ notSuperseded rs (take 1 l)) (drop-drop n i rs)
+      ap (notSuperseded rs) (take-add n 1 (drop i rs))
+      ∙ force-append rs (take n (drop i rs)) (take 1 (drop n (drop i rs)))
+      ∙ ap (λ (l : List Recording). notSuperseded rs (take n (drop i rs)) ++ notSuperseded rs (take 1 l))
+      (drop-drop n i rs)
 
   -- none of it is more than all
   pub kept-all : (i : ℕ) → inForce rs ≡ notSuperseded rs (take i rs) ++ notSuperseded rs (drop i rs)

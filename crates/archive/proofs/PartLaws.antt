@@ -12,12 +12,14 @@ use lib.Seq.{take-at, drop-at, drop-drop, take-all, take-append-le, drop-append-
 use Rattle.answers.specs.Limits.{maxPayloadBytes}
 use Rattle.little_endian.specs.LittleEndian.{littleEndian, fromLittleEndian}
 use Rattle.little_endian.proofs.LittleEndianLaws.{number-back}
-use Rattle.archive.specs.Block.{Bytes, blockBytes, checkedBytes, maxUsed, weightedFrom, checkOf, blockBody, block}
+use Rattle.archive.specs.Block.{Bytes, blockBytes, checkedBytes, maxUsed, weightedFrom, checkOf}
+use Rattle.archive.specs.Block.{blockBody, block}
 use Rattle.archive.specs.Block.{numberAt, numberIn, usedIn, checkIn, dataIn, fillingIn, passes}
 use Rattle.archive.specs.Faults.{allZero}
 use Rattle.archive.proofs.BlockLaws.{bytes-length, body-length, block-length}
 use Rattle.archive.proofs.ByteLaws.{bytes-take, bytes-drop, bytes-append, bytes-number, bytes-zeros}
-use Rattle.archive.proofs.ByteLaws.{number-bytes-back, short-back, zeros-are, zeros-all, weighted-small}
+use Rattle.archive.proofs.ByteLaws.{number-bytes-back, short-back, zeros-are, zeros-all}
+use Rattle.archive.proofs.ByteLaws.{weighted-small}
 
 module _ (number : ℕ) (used : List ℕ) where
   -- number and used bytes
@@ -67,8 +69,15 @@ module _ (number : ℕ) (used : List ℕ) where
     pub made-filling : allZero (fillingIn (block number used)) ≡ true
     made-filling =
         let e : fillingIn (block number used) ≡ filling =
-        rw (made-used, ← drop-drop (length used) 4 (block number used), made-rest, drop-at used behind (length used) refl)
-        (take-at filling (littleEndian 4 (checkOf (blockBody number used))) (maxUsed - length used) (length-replicate (maxUsed - length used) 0)) in
+        rw (
+          made-used,
+          ← drop-drop (length used) 4 (block number used),
+          made-rest,
+          drop-at used behind
+              (length used) refl,
+        )
+        (take-at filling (littleEndian 4 (checkOf (blockBody number used))) (maxUsed - length used)
+        (length-replicate (maxUsed - length used) 0)) in
         rw e (zeros-all (maxUsed - length used))
 
     pub made-passes : passes (block number used) ≡ true

@@ -6,22 +6,26 @@ use Prim.Native.Nat.{ℕ, zero, suc, _+_, _-_, _*_, _≤_, _<_}
 use native.Mathlib.Numerals.{add-one}
 use native.Mathlib.Omega.{arith}
 use lib.ListN.{length, take, drop, getD, length-append, length-take, length-drop}
-use lib.Seq.{drop-drop, drop-at, drop-cons, take-add, take-take, length-take-le, take-append-le, drop-append-le, drop-append-add}
+use lib.Seq.{drop-drop, drop-at, drop-cons, take-add, take-take, length-take-le, take-append-le}
+use lib.Seq.{drop-append-le, drop-append-add}
 use Rattle.little_endian.specs.LittleEndian.{littleEndian, fromLittleEndian}
 use Rattle.little_endian.proofs.LittleEndianLaws.{number-back}
 use Rattle.archive.specs.Block.{blockBytes, maxUsed, block, numberAt}
-use Rattle.archive.specs.Recording.{Recording, InSpan, AllInSpan, headBytes, head, stream, blocksFor, numbered, joined}
+use Rattle.archive.specs.Recording.{Recording, InSpan, AllInSpan, headBytes, head, stream, blocksFor}
+use Rattle.archive.specs.Recording.{numbered, joined}
 use Rattle.archive.specs.Recording.{recordingBlocks, recordingBytes, archiveBlocks, archive}
 use Rattle.archive.specs.Listing.{recordingsOf, Sound}
 use Rattle.archive.specs.Places.{At, HeadAt, HeadOf, noRecording, recordingAt}
-use Rattle.archive.proofs.BlockLaws.{joined-append, block-length, cut-fits, stream-length, head-length, recording-length}
+use Rattle.archive.proofs.BlockLaws.{joined-append, block-length, cut-fits, stream-length}
+use Rattle.archive.proofs.BlockLaws.{head-length, recording-length}
 use Rattle.archive.proofs.ByteLaws.{short-back}
 use Rattle.archive.proofs.PartLaws.{front, behind, block-parts, front-length}
 
 -- ---- the bytes of a stream, found in its blocks
 
 -- a part of what is cut off
-inner-take : (w c n : ℕ) (s : List ℕ) → w + c ≤ n → w ≤ length s → take c (drop w (take n s)) ≡ take c (drop w s)
+inner-take : (w c n : ℕ) (s : List ℕ) → w + c ≤ n → w ≤ length s
+    → take c (drop w (take n s)) ≡ take c (drop w s)
 inner-take w c n s h g =
     let k = n - w in
     let e : w + k ≡ n = omega arith in
@@ -34,7 +38,8 @@ inner-take w c n s h g =
 data-rest : (number : ℕ) (u x : List ℕ) → drop 4 (block number u ++ x) ≡ u ++ (behind number u ++ x)
 data-rest number u x =
     rw (block-parts number u, append-assoc (front number u) (u ++ behind number u) x)
-    (drop-at (front number u) ((u ++ behind number u) ++ x) 4 (front-length number u) ∙ append-assoc u (behind number u) x)
+    (drop-at (front number u) ((u ++ behind number u) ++ x) 4 (front-length number u)
+    ∙ append-assoc u (behind number u) x)
 
 -- a part of a stream that lies in block j
 pub numbered-at : (count number j w c : ℕ) (s : List ℕ) → j < count → w + c ≤ 504 → 504 * j + w + c ≤ length s
@@ -98,7 +103,8 @@ pub recordings-few : (file : List ℕ) → Sound file → 512 * length (recordin
 recordings-few file s = let n = archive-long (recordingsOf file) in let e = ap length (s .same) in omega arith
 
 -- a recording in span of a list
-pub span-at : {rs : List Recording} → AllInSpan rs → (i : ℕ) (d : Recording) → i < length rs → InSpan (getD rs i d)
+pub span-at : {rs : List Recording} → AllInSpan rs → (i : ℕ) (d : Recording) → i < length rs
+    → InSpan (getD rs i d)
 span-at AllInSpan.none i d h = absurd (omega arith)
 span-at (AllInSpan.more s all) zero d h = s
 span-at (AllInSpan.more s all) (suc i) d h = span-at all i d (omega arith)
@@ -113,7 +119,8 @@ module _ (file : List ℕ) (place i : ℕ) (a : At file place i) where
   at-end h = go (drop i (recordingsOf file)) refl
     where
       go : (rs : List Recording) → drop i (recordingsOf file) ≡ rs → i ≡ length (recordingsOf file)
-      go [] e = let n = length-drop i (recordingsOf file) in let m = ap length e in let w = a .within in omega arith
+      go [] e = let n = length-drop i (recordingsOf file) in let m = ap length e in let w = a .within in
+          omega arith
       go (r ∷ rs) e =
           absurd (let n = ap length (a .rest ∙ ap archive e ∙ archive-cons r rs) in
           let m = length-append (recordingBytes r) (archive rs) in
@@ -137,7 +144,8 @@ module _ (file : List ℕ) (place i : ℕ) (a : At file place i) where
     others = drop (suc i) (recordingsOf file)
 
     -- the recording and those after it
-    rest-is : drop place file ≡ recordingBytes (recordingAt file i) ++ archive (drop (suc i) (recordingsOf file))
+    rest-is : drop place file ≡ recordingBytes (recordingAt file i) ++ archive
+        (drop (suc i) (recordingsOf file))
     rest-is = a .rest ∙ ap archive (drop-cons (recordingsOf file) i noRecording one) ∙ archive-cons r others
 
     taken-fits : place + 512 * blocksFor (12 + length (r .payload)) ≤ length file
@@ -186,7 +194,8 @@ module _ (file : List ℕ) (place i : ℕ) (a : At file place i) where
     at-part-fits j w c h g p = let f = taken-fits in omega arith
 
     -- one of the first twelve bytes' numbers
-    number-there : (w c : ℕ) → w + c ≤ 12 → 0 < c → numberAt (drop place file) (4 + w) c ≡ fromLittleEndian (take c (drop w (stream r)))
+    number-there : (w c : ℕ) → w + c ≤ 12 → 0 < c
+        → numberAt (drop place file) (4 + w) c ≡ fromLittleEndian (take c (drop w (stream r)))
     number-there w c h p =
         let e : 512 * 0 + 4 + w ≡ 4 + w = omega arith in
         let f : 504 * 0 + w ≡ w = omega arith in

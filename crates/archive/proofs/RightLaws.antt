@@ -31,7 +31,8 @@ used-most announced before = go (ltb (headBytes + announced) (maxUsed * (before 
     go false q = omega arith
 
 -- in a last block what is left of the stream
-pub used-last : (announced before : ℕ) → finished announced before ≡ true → 504 * before ≤ headBytes + announced
+pub used-last : (announced before : ℕ) → finished announced before ≡ true
+    → 504 * before ≤ headBytes + announced
     → usedAsked announced before + 504 * before ≡ headBytes + announced
 unfolding usedAsked finished
 used-last announced before f h = go (ltb (headBytes + announced) (maxUsed * (before + 1))) refl
@@ -39,39 +40,47 @@ used-last announced before f h = go (ltb (headBytes + announced) (maxUsed * (bef
     go : (t : Bool) → ltb (headBytes + announced) (maxUsed * (before + 1)) ≡ t
         → cond t (headBytes + announced - maxUsed * before) maxUsed + 504 * before ≡ headBytes + announced
     go true q = omega arith
-    go false q = let g = ltb-false (headBytes + announced) (maxUsed * (before + 1)) q in let k = leb-true (headBytes + announced) (maxUsed * (before + 1)) f in omega arith
+    go false q = let g = ltb-false (headBytes + announced) (maxUsed * (before + 1)) q in let k = leb-true
+        (headBytes + announced) (maxUsed * (before + 1)) f in omega arith
 
 -- and 504 in any other
-pub used-full : (announced before : ℕ) → finished announced before ≡ false → usedAsked announced before ≡ maxUsed
+pub used-full : (announced before : ℕ) → finished announced before ≡ false
+    → usedAsked announced before ≡ maxUsed
 unfolding usedAsked finished
 used-full announced before f =
     let k = leb-false (headBytes + announced) (maxUsed * (before + 1)) f in
     rw (le-ltb (headBytes + announced) (maxUsed * (before + 1)) (omega arith))
 
 -- both ways of the test
-pub finished-when : (announced before : ℕ) → headBytes + announced ≤ 504 * (before + 1) → finished announced before ≡ true
+pub finished-when : (announced before : ℕ) → headBytes + announced ≤ 504 * (before + 1)
+    → finished announced before ≡ true
 unfolding finished
 finished-when announced before h = le-leb _ _ h
 
-pub unfinished-when : (announced before : ℕ) → 504 * (before + 1) < headBytes + announced → finished announced before ≡ false
+pub unfinished-when : (announced before : ℕ) → 504 * (before + 1) < headBytes + announced
+    → finished announced before ≡ false
 unfolding finished
 unfinished-when announced before h = lt-leb _ _ h
 
-pub finished-then : (announced before : ℕ) → finished announced before ≡ true → headBytes + announced ≤ 504 * (before + 1)
+pub finished-then : (announced before : ℕ) → finished announced before ≡ true
+    → headBytes + announced ≤ 504 * (before + 1)
 unfolding finished
 finished-then announced before f = leb-true (headBytes + announced) (maxUsed * (before + 1)) f
 
-pub unfinished-then : (announced before : ℕ) → finished announced before ≡ false → 504 * (before + 1) < headBytes + announced
+pub unfinished-then : (announced before : ℕ) → finished announced before ≡ false
+    → 504 * (before + 1) < headBytes + announced
 unfolding finished
 unfinished-then announced before f = leb-false (headBytes + announced) (maxUsed * (before + 1)) f
 
 -- ---- a right block
 
 -- bytes are those of the number that they hold
-number-of : (count : ℕ) (l : List ℕ) → length l ≡ count → Bytes l → l ≡ littleEndian count (fromLittleEndian l)
+number-of : (count : ℕ) (l : List ℕ) → length l ≡ count → Bytes l
+    → l ≡ littleEndian count (fromLittleEndian l)
 number-of count l e b = sym (rw e at (number-bytes-back l b))
 
-module _ (last : Bool) (announced before : ℕ) (b : List ℕ) (r : Right last announced before b) (bytes : Bytes b)
+module _ (last : Bool) (announced before : ℕ) (b : List ℕ) (r : Right last announced before b)
+    (bytes : Bytes b)
     (size : length b ≡ blockBytes) where
   u : ℕ
   u = usedIn b
@@ -80,7 +89,8 @@ module _ (last : Bool) (announced before : ℕ) (b : List ℕ) (r : Right last a
   few = rw (r .used) (used-most announced before)
 
   pub data-length : length (dataIn b) ≡ usedIn b
-  data-length = let t = length-take (usedIn b) (drop 4 b) in let d = length-drop 4 b in let f = few in omega arith
+  data-length = let t = length-take (usedIn b)
+      (drop 4 b) in let d = length-drop 4 b in let f = few in omega arith
 
   two : take 2 b ≡ littleEndian 2 before
   two = let t = length-take 2 b in

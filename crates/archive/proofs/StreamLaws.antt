@@ -12,7 +12,8 @@ use Rattle.little_endian.proofs.LittleEndianLaws.{number-back}
 use Rattle.archive.specs.Block.{Bytes}
 use Rattle.archive.specs.Recording.{Recording, InSpan, headBytes, head, stream, ofStream}
 use Rattle.archive.proofs.BlockLaws.{head-length, bytes-length}
-use Rattle.archive.proofs.ByteLaws.{bytes-take, bytes-drop, bytes-append, bytes-number, number-bytes-back, short-back}
+use Rattle.archive.proofs.ByteLaws.{bytes-take, bytes-drop, bytes-append, bytes-number}
+use Rattle.archive.proofs.ByteLaws.{number-bytes-back, short-back}
 
 -- a recording comes back out of its stream
 pub stream-back : (r : Recording) → InSpan r → ofStream (stream r) ≡ r
@@ -24,7 +25,8 @@ stream-back r s =
     rw (a, b, c)
 
 -- the length that a stream announces
-pub stream-announces : (r : Recording) → InSpan r → fromLittleEndian (take 4 (drop 8 (stream r))) ≡ length (r .payload)
+pub stream-announces : (r : Recording) → InSpan r
+    → fromLittleEndian (take 4 (drop 8 (stream r))) ≡ length (r .payload)
 unfolding stream head littleEndian
 stream-announces r s = number-back (length (r .payload)) (let l = s .length in omega arith)
 
@@ -42,7 +44,8 @@ stream-bytes r s =
     (bytes-number 4 (length (r .payload)))) (s .bytes)
 
 -- bytes are those of the number that they hold
-number-of : (count : ℕ) (l : List ℕ) → length l ≡ count → Bytes l → littleEndian count (fromLittleEndian l) ≡ l
+number-of : (count : ℕ) (l : List ℕ) → length l ≡ count → Bytes l
+    → littleEndian count (fromLittleEndian l) ≡ l
 number-of count l e b = rw e at (number-bytes-back l b)
 
 -- a number of bytes fits them
@@ -70,8 +73,10 @@ module _ (s : List ℕ) (bytes : Bytes s) (announced : ℕ) (long : length s ≡
   part-bytes : (at count : ℕ) → Bytes (take count (drop at s))
   part-bytes at count = bytes-take count (drop at s) (bytes-drop at s bytes)
 
-  part-back : (at count : ℕ) → at + count ≤ 12 → littleEndian count (fromLittleEndian (take count (drop at s))) ≡ take count (drop at s)
-  part-back at count h = number-of count (take count (drop at s)) (part-length at count h) (part-bytes at count)
+  part-back : (at count : ℕ) → at + count ≤ 12
+      → littleEndian count (fromLittleEndian (take count (drop at s))) ≡ take count (drop at s)
+  part-back at count h = number-of count (take count (drop at s)) (part-length at count h)
+      (part-bytes at count)
 
   payload-length : length (ofStream s .payload) ≡ announced
   unfolding ofStream
@@ -87,9 +92,12 @@ module _ (s : List ℕ) (bytes : Bytes s) (announced : ℕ) (long : length s ≡
       let c = part-back 6 2 (omega arith) in
       let d = part-back 8 4 (omega arith) in
       let e : take 2 s ++ drop 2 s ≡ s = take-append-drop 2 s in
-      let f : take 4 (drop 2 s) ++ drop 6 s ≡ drop 2 s = rw (← drop-drop 4 2 s) (take-append-drop 4 (drop 2 s)) in
-      let g : take 2 (drop 6 s) ++ drop 8 s ≡ drop 6 s = rw (← drop-drop 2 6 s) (take-append-drop 2 (drop 6 s)) in
-      let h : take 4 (drop 8 s) ++ drop 12 s ≡ drop 8 s = rw (← drop-drop 4 8 s) (take-append-drop 4 (drop 8 s)) in
+      let f : take 4 (drop 2 s) ++ drop 6 s ≡ drop 2 s = rw (← drop-drop 4 2 s)
+      (take-append-drop 4 (drop 2 s)) in
+      let g : take 2 (drop 6 s) ++ drop 8 s ≡ drop 6 s = rw (← drop-drop 2 6 s)
+      (take-append-drop 2 (drop 6 s)) in
+      let h : take 4 (drop 8 s) ++ drop 12 s ≡ drop 8 s = rw (← drop-drop 4 8 s)
+      (take-append-drop 4 (drop 8 s)) in
       rw (n, ← says, a, b, c, d) (simp append-assoc (rw (h, g, f) e))
 
   -- and that is in span

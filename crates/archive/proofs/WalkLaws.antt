@@ -17,7 +17,8 @@ use Rattle.archive.proofs.BlockLaws.{block-length, cut-fits}
 use Rattle.archive.proofs.ByteLaws.{bytes-take, bytes-drop}
 use Rattle.archive.proofs.FaultLaws.{good-counts, Right, right-passes}
 use Rattle.archive.proofs.PartLaws.{made-number, made-used, made-data, made-filling, made-passes}
-use Rattle.archive.proofs.RightLaws.{used-last, used-full, finished-when, unfinished-when, finished-then, unfinished-then}
+use Rattle.archive.proofs.RightLaws.{used-last, used-full, finished-when, unfinished-when}
+use Rattle.archive.proofs.RightLaws.{finished-then, unfinished-then}
 
 -- what is left of the stream of a recording: so many of its blocks stand before, and so many are to come
 pub record Left (announced before count : ℕ) (s : List ℕ) : Type 0 where
@@ -91,7 +92,8 @@ module _ (a announced before : ℕ) (acc s : List ℕ) (bs : List (List ℕ)) wh
       let al = l .all in
       let fin = finished-when announced before (omega arith) in
       let whole : take maxUsed s ≡ s = take-all maxUsed s (omega arith) in
-      let held = made-data before u (bytes-take maxUsed s (l .bytes)) (cut-fits s) (few announced before 1 s l) in
+      let held = made-data before u (bytes-take maxUsed s (l .bytes)) (cut-fits s)
+      (few announced before 1 s l) in
       let right = right-passes (next-right announced before 1 s l (noneLeft bs) (λ _. fin)) in
       record {
         counted = good-counts a before b bs (rw says right) ∙ rw (says, fin) (omega arith);
@@ -100,17 +102,21 @@ module _ (a announced before : ℕ) (acc s : List ℕ) (bs : List (List ℕ)) wh
 
   -- a block with more to come
   walk-on : (count : ℕ) → Left announced before (suc (suc count)) s → announcedBy a before b ≡ announced
-      → Walked announced (before + 1) (acc ++ u) (numbered (suc count) (before + 1) (drop maxUsed s) ++ bs) (suc count)
+      → Walked announced (before + 1) (acc ++ u)
+      (numbered (suc count) (before + 1) (drop maxUsed s) ++ bs) (suc count)
       announced (drop maxUsed s) bs
-      → Walked a before acc (b ∷ (numbered (suc count) (before + 1) (drop maxUsed s) ++ bs)) (suc (suc count)) announced s bs
+      → Walked a before acc (b ∷ (numbered (suc count) (before + 1) (drop maxUsed s) ++ bs))
+      (suc (suc count)) announced s bs
   unfolding recordingsFrom numbered
   walk-on count l says w =
       let k = l .blocks in
       let al = l .all in
       let fin = unfinished-when announced before (omega arith) in
       let rest = numbered (suc count) (before + 1) (drop maxUsed s) ++ bs in
-      let held = made-data before u (bytes-take maxUsed s (l .bytes)) (cut-fits s) (few announced before _ s l) in
-      let right = right-passes (next-right announced before _ s l false (λ q. absurd (let z : _≡_ {A = ℕ} 0 1 = cc in omega arith))) in
+      let held = made-data before u (bytes-take maxUsed s (l .bytes)) (cut-fits s)
+      (few announced before _ s l) in
+      let right = right-passes (next-right announced before _ s l false
+      (λ q. absurd (let z : _≡_ {A = ℕ} 0 1 = cc in omega arith))) in
       let c = w .counted in
       let g = w .gathered in
       record {
@@ -119,7 +125,8 @@ module _ (a announced before : ℕ) (acc s : List ℕ) (bs : List (List ℕ)) wh
       }
 
 -- all blocks of what is left
-pub walk : (count a announced before : ℕ) (acc s : List ℕ) (bs : List (List ℕ)) → Left announced before (suc count) s
+pub walk : (count a announced before : ℕ) (acc s : List ℕ) (bs : List (List ℕ))
+    → Left announced before (suc count) s
     → announcedBy a before (block before (take maxUsed s)) ≡ announced
     → Walked a before acc (numbered (suc count) before s ++ bs) (suc count) announced s bs
 unfolding numbered

@@ -31,7 +31,8 @@ announcedBy announced (suc before) block = announced
 -- the used bytes that a block has to have: 504, or what is left of the stream
 unfoldable pub usedAsked : ℕ → ℕ → ℕ
 usedAsked announced before =
-    cond (ltb (headBytes + announced) (maxUsed * (before + 1))) (headBytes + announced - maxUsed * before) maxUsed
+    cond (ltb (headBytes + announced) (maxUsed * (before + 1)))
+    (headBytes + announced - maxUsed * before) maxUsed
 
 -- the block is the last of its recording
 unfoldable pub finished : ℕ → ℕ → Bool

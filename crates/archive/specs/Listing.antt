@@ -28,7 +28,8 @@ pub record Sound (file : List ℕ) : Type 0 where
 
 -- "A recording supersedes one of the same house and start second if its issue is higher"
 unfoldable pub supersedes : Recording → Recording → Bool
-supersedes later r = eqb (later .house) (r .house) && eqb (later .start) (r .start) && ltb (r .issue) (later .issue)
+supersedes later r = eqb (later .house) (r .house) && eqb (later .start) (r .start) && ltb (r .issue)
+    (later .issue)
 
 -- one of a list does
 unfoldable pub superseded : List Recording → Recording → Bool
@@ -46,7 +47,8 @@ inForce rs = notSuperseded rs rs
 
 -- the same house, start second and issue
 unfoldable pub agree : Recording → Recording → Bool
-agree r other = eqb (r .house) (other .house) && eqb (r .start) (other .start) && eqb (r .issue) (other .issue)
+agree r other = eqb (r .house) (other .house) && eqb (r .start) (other .start) && eqb (r .issue)
+    (other .issue)
 
 -- one of a list agrees with a recording
 unfoldable pub holds : List Recording → Recording → Bool

@@ -18,7 +18,8 @@ use Rattle.archive_payloads.specs.Kept.{PartIs, sourceOf}
 -- the payload behind the first twelve bytes of a stream
 stream-payload : (r : Recording) → drop 12 (stream r) ≡ r .payload
 unfolding stream
-stream-payload r = drop-at (head (r .house) (r .start) (r .issue) (length (r .payload))) (r .payload) 12 (head-length (r .house) (r .start) (r .issue) (length (r .payload)))
+stream-payload r = drop-at (head (r .house) (r .start) (r .issue) (length (r .payload))) (r .payload) 12
+    (head-length (r .house) (r .start) (r .issue) (length (r .payload)))
 
 module _ (file : List ℕ) (place i : ℕ) (a : At file place i) (one : i < length (recordingsOf file)) where
   abbrev payload : List ℕ
@@ -30,7 +31,8 @@ module _ (file : List ℕ) (place i : ℕ) (a : At file place i) (one : i < leng
     part-fits =
         let s = p .some in
         let l = p .left in
-        at-part-fits file place i a one ((12 + done) / 504) ((12 + done) % 504) count (p .inside) (omega arith) s
+        at-part-fits file place i a one ((12 + done) / 504) ((12 + done) % 504) count (p .inside)
+        (omega arith) s
 
     -- and is what comes next of the payload
     pub part-is : take count (drop (sourceOf place done) file) ≡ take count (drop done payload)
@@ -55,19 +57,23 @@ module _ (bytes before : List ℕ) (to : ℕ) (room : to + length bytes ≤ leng
   copied-none = record { here = omega arith; same-length = refl; laid = sym (overlay-none before to) }
 
   -- a part more
-  pub copied-more : (out after part : List ℕ) (done count : ℕ) → Copied bytes before out to done → done + count ≤ length bytes
+  pub copied-more : (out after part : List ℕ) (done count : ℕ) → Copied bytes before out to done
+      → done + count ≤ length bytes
       → part ≡ take count (drop done bytes) → after ≡ overlay out (to + done) part
       → Copied bytes before after to (done + count)
   copied-more out after part done count c h p e =
       let n = length-take-le done bytes (c .here) in
-      let m : length part ≡ count = let t = length-take count (drop done bytes) in let d = length-drop done bytes in
+      let m : length part ≡ count = let t = length-take count
+      (drop done bytes) in let d = length-drop done bytes in
       ap length p ∙ omega arith in
       let s = c .same-length in
       record {
         here = h;
         same-length = ap length e ∙ overlay-length out (to + done) part (omega arith) ∙ s;
-        laid = overlay-two before out after to (to + done) (take done bytes) part (omega arith) (omega arith) (c .laid) e
-            ∙ ap (overlay before to) (ap (λ (l : List ℕ). take done bytes ++ l) p ∙ sym (take-add done count bytes));
+        laid = overlay-two before out after to (to + done) (take done bytes) part (omega arith)
+            (omega arith) (c .laid) e
+            ∙ ap (overlay before to) (ap (λ (l : List ℕ). take done bytes ++ l) p
+            ∙ sym (take-add done count bytes));
       }
 
   -- all of it

@@ -11,7 +11,8 @@ use Rattle.overlay.proofs.OverlayLaws.{overlay-none}
 use Rattle.archive.specs.Recording.{Recording, blocksFor}
 use Rattle.archive.specs.Listing.{recordingsOf, superseded, notSuperseded, inForce, listed, payloads}
 use Rattle.archive.specs.Places.{At, HeadOf, recordingAt, noRecording}
-use Rattle.archive.proofs.ListingLaws.{force-one, one-of, kept-on, kept-few, kept-small, listed-append, listed-length, payloads-append}
+use Rattle.archive.proofs.ListingLaws.{force-one, one-of, kept-on, kept-few, kept-small, listed-append}
+use Rattle.archive.proofs.ListingLaws.{listed-length, payloads-append}
 use Rattle.archive.proofs.PlaceLaws.{at-next}
 use Rattle.archive_payloads.specs.Kept.{kept, between, supersededAt, DoneIs, CountedIs}
 use Rattle.archive_payloads.specs.declared.Done.{Done}
@@ -38,12 +39,14 @@ module _ (file : List ℕ) (i : ℕ) (one : i < length (recordingsOf file)) wher
     unfolding payloads
     one-bytes = rw (between-one, ← e) (go s)
       where
-        go : (t : Bool) → length (payloads (cond t [] (recordingAt file i ∷ []))) ≡ cond t 0 (length (recordingAt file i .payload))
+        go : (t : Bool) → length (payloads (cond t [] (recordingAt file i ∷ []))) ≡ cond t 0
+            (length (recordingAt file i .payload))
         go true = refl
         go false = ap length (append-nil (recordingAt file i .payload))
 
     -- a walk one recording further
-    pub done-more : {place n b payload : ℕ} → DoneIs file i place n b → payload ≡ length (recordingAt file i .payload)
+    pub done-more : {place n b payload : ℕ} → DoneIs file i place n b
+        → payload ≡ length (recordingAt file i .payload)
         → DoneIs file (i + 1) (place + 512 * blocksFor (12 + payload)) (n + cond s 0 1) (b + cond s 0 payload)
     done-more {place} {n} {b} {payload} d p =
         let rs = recordingsOf file in
@@ -66,21 +69,26 @@ module _ (file : List ℕ) (i : ℕ) (one : i < length (recordingsOf file)) wher
           small = small-more s (omega arith);
         })
       where
-        few-more : (t : Bool) → 512 * n ≤ place → 512 * (n + cond t 0 1) ≤ place + 512 * blocksFor (12 + length (recordingAt file i .payload))
+        few-more : (t : Bool) → 512 * n ≤ place → 512 * (n + cond t 0 1) ≤ place + 512 * blocksFor
+            (12 + length (recordingAt file i .payload))
         few-more true h = omega arith
         few-more false h = omega arith
 
-        small-more : (t : Bool) → b ≤ place → b + cond t 0 (length (recordingAt file i .payload)) ≤ place + 512 * blocksFor (12 + length (recordingAt file i .payload))
+        small-more : (t : Bool) → b ≤ place → b + cond t 0
+            (length (recordingAt file i .payload)) ≤ place + 512 * blocksFor
+            (12 + length (recordingAt file i .payload))
         small-more true h = omega arith
         small-more false h = omega arith
 
   -- ---- a superseded one
 
-  pub skipped-list : (list : List ℕ) (at : ℕ) → supersededAt file i ≡ true → list ≡ overlay list at (listed (between file i 1))
+  pub skipped-list : (list : List ℕ) (at : ℕ) → supersededAt file i ≡ true
+      → list ≡ overlay list at (listed (between file i 1))
   unfolding listed
   skipped-list list at e = rw (between-one, e) (sym (overlay-none list at))
 
-  pub skipped-bytes : (out : List ℕ) (at : ℕ) → supersededAt file i ≡ true → out ≡ overlay out at (payloads (between file i 1))
+  pub skipped-bytes : (out : List ℕ) (at : ℕ) → supersededAt file i ≡ true
+      → out ≡ overlay out at (payloads (between file i 1))
   unfolding payloads
   skipped-bytes out at e = rw (between-one, e) (sym (overlay-none out at))
 
@@ -90,7 +98,8 @@ module _ (file : List ℕ) (i : ℕ) (one : i < length (recordingsOf file)) wher
     in-force : between file i 1 ≡ recordingAt file i ∷ []
     in-force = between-one ∙ rw e
 
-    pub its-numbers : {h s k n : ℕ} → HeadOf (recordingAt file i) h s k n → h ∷ s ∷ k ∷ n ∷ [] ≡ listed (between file i 1)
+    pub its-numbers : {h s k n : ℕ} → HeadOf (recordingAt file i) h s k n
+        → h ∷ s ∷ k ∷ n ∷ [] ≡ listed (between file i 1)
     unfolding listed
     its-numbers x = rw (in-force, x .house, x .start, x .issue, x .payload)
 
@@ -99,7 +108,8 @@ module _ (file : List ℕ) (i : ℕ) (one : i < length (recordingsOf file)) wher
     its-bytes = rw in-force (sym (append-nil (recordingAt file i .payload)))
 
     -- there is room for it
-    pub list-room : {place n b : ℕ} → DoneIs file i place n b → (room : ℕ) → 4 * length (inForce (recordingsOf file)) ≤ room → 4 * n + 4 ≤ room
+    pub list-room : {place n b : ℕ} → DoneIs file i place n b → (room : ℕ)
+        → 4 * length (inForce (recordingsOf file)) ≤ room → 4 * n + 4 ≤ room
     list-room d room h =
         let rs = recordingsOf file in
         let f = kept-few rs (i + 1) in
@@ -109,7 +119,8 @@ module _ (file : List ℕ) (i : ℕ) (one : i < length (recordingsOf file)) wher
         let x = d .counted in
         omega arith
 
-    pub bytes-room : {place n b : ℕ} → DoneIs file i place n b → (room : ℕ) → length (payloads (inForce (recordingsOf file))) ≤ room
+    pub bytes-room : {place n b : ℕ} → DoneIs file i place n b → (room : ℕ)
+        → length (payloads (inForce (recordingsOf file))) ≤ room
         → b + length (recordingAt file i .payload) ≤ room
     bytes-room d room h =
         let rs = recordingsOf file in
@@ -124,7 +135,8 @@ module _ (file : List ℕ) (i : ℕ) (one : i < length (recordingsOf file)) wher
 -- ---- a walk's numbers fit
 
 -- a file is no longer than a slice can be
-pub walk-room : (file : List ℕ) (i : ℕ) → i < length (recordingsOf file) → {place n b payload : ℕ} → DoneIs file i place n b
+pub walk-room : (file : List ℕ) (i : ℕ) → i < length (recordingsOf file) → {place n b payload : ℕ}
+    → DoneIs file i place n b
     → payload ≡ length (recordingAt file i .payload) → length file < 18446744073709551616
     → (b ≤ place) × (n ≤ place) × (place + 512 * blocksFor (12 + payload) < 18446744073709551616)
 walk-room file i one {place} {n} {b} {payload} d p h =
@@ -135,7 +147,8 @@ walk-room file i one {place} {n} {b} {payload} d p h =
 
 -- what a step answered is the walk one recording further
 pub done-told : (file : List ℕ) (i : ℕ) {done r : Done} {s : Bool} {payload : ℕ}
-    → DoneIs file i (done .place + 512 * blocksFor (12 + payload)) (done .recordings + cond s 0 1) (done .bytes + cond s 0 payload)
+    → DoneIs file i (done .place + 512 * blocksFor (12 + payload)) (done .recordings + cond s 0 1)
+    (done .bytes + cond s 0 payload)
     → CountedIs done s payload r → DoneIs file i (r .place) (r .recordings) (r .bytes)
 done-told file i d c = rw (c .place, c .recordings, c .bytes) d
 

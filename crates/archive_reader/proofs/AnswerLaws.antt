@@ -22,7 +22,8 @@ module _ (file list storage : List ℕ) where
 
   module _ (ok : hasBad file ≡ false) where
     -- 19
-    pub read-twice : twice (recordingsOf file) ≡ true → refuseRead list storage 19 0 ≡ readEntry file list storage
+    pub read-twice : twice (recordingsOf file) ≡ true
+        → refuseRead list storage 19 0 ≡ readEntry file list storage
     unfolding readEntry
     read-twice t = rw (ok, t)
 
@@ -60,16 +61,26 @@ module _ (file list storage : List ℕ) where
       -- with what the code counted and laid
       pub read-accepted : 4 * length (inForce (recordingsOf file)) ≤ length list
           → length (payloads (inForce (recordingsOf file))) ≤ length storage
-          → (recordings bytes : ℕ) (list′ storage′ : List ℕ) → recordings ≡ length (inForce (recordingsOf file))
+          → (recordings bytes : ℕ) (list′ storage′ : List ℕ)
+          → recordings ≡ length (inForce (recordingsOf file))
           → bytes ≡ length (payloads (inForce (recordingsOf file)))
           → list′ ≡ overlay list 0 (listed (inForce (recordingsOf file)))
           → storage′ ≡ overlay storage 0 (payloads (inForce (recordingsOf file)))
-          → record { refusal = 0; block = 0; recordings = recordings; bytes = bytes; list = list′; payloads = storage′ }
+          → record {
+            refusal = 0;
+            block = 0;
+            recordings = recordings;
+            bytes = bytes;
+            list = list′;
+            payloads
+                = storage′;
+          }
           ≡ readEntry file list storage
       read-accepted g h recordings bytes list′ storage′ n b l s = rw (n, b, l, s) (read-told g h)
 
 -- the whole file is right where no block is bad
-pub all-good : (file : List ℕ) (good count : ℕ) → good ≡ goodBlocks file → count ≡ blocksIn file → count ≤ good
+pub all-good : (file : List ℕ) (good count : ℕ) → good ≡ goodBlocks file → count ≡ blocksIn file
+    → count ≤ good
     → goodBlocks file ≤ blocksIn file → goodBlocks file ≡ blocksIn file
 all-good file good count e n h g = omega arith
 

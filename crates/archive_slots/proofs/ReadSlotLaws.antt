@@ -19,7 +19,13 @@ module _ (file list payloads answer : List ℕ) where
   -- with slots enough, the reader told a number and so many
   module _ (n block recordings bytes : ℕ) (listed stored : List ℕ) (enough : 2 ≤ length answer)
       (told : record {
-        refusal = n; block = block; recordings = recordings; bytes = bytes; list = listed; payloads = stored }
+        refusal = n;
+        block = block;
+        recordings = recordings;
+        bytes = bytes;
+        list = listed;
+        payloads = stored;
+      }
       ≡ readEntry file list payloads) where
     pub read-laid : (r : ℕ) (laid : List ℕ) → r ≡ n → r ≡ 0
         → laid ≡ overlay answer 0 (lowBits recordings ∷ lowBits bytes ∷ [])

@@ -9,7 +9,8 @@ use Rattle.little_endian.specs.LittleEndian.{littleEndian, fromLittleEndian}
 use Rattle.archive.specs.Block.{weightedFrom, checkOf, blockBody, block, passes}
 use Rattle.archive.specs.Recording.{Recording, head, stream, numbered, recordingBytes, joined}
 use Rattle.archive.specs.Faults.{cut, announcedBy, usedAsked, finished, allZero, wrong, good, goodBlocks}
-use Rattle.archive.specs.Listing.{recordingsOf, supersedes, superseded, notSuperseded, inForce, agree, holds, twice}
+use Rattle.archive.specs.Listing.{recordingsOf, supersedes, superseded, notSuperseded, inForce, agree}
+use Rattle.archive.specs.Listing.{holds, twice}
 
 -- number 0, two used bytes 1 and 0: 3 x 2 + 5 x 1
 two-bytes : checkOf (blockBody 0 (1 ∷ 0 ∷ [])) ≡ 11
@@ -58,5 +59,6 @@ unfolding first head stream numbered joined block blockBody littleEndian
 one-block = refl
 
 its-file : goodBlocks (recordingBytes first) ≡ 1
-unfolding first head stream numbered joined block blockBody weightedFrom littleEndian fromLittleEndian cut announcedBy usedAsked finished allZero wrong good
+unfolding first head stream numbered joined block blockBody weightedFrom littleEndian fromLittleEndian cut
+    announcedBy usedAsked finished allZero wrong good
 its-file = refl

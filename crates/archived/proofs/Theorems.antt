@@ -11,7 +11,8 @@ use lib.ListN.{length, take, getD, set, length-append, length-set}
 use Rattle.answers.specs.Limits.{maxPayloadBytes}
 use Rattle.overlay.proofs.OverlayLaws.{overlay-take}
 use Rattle.archive.specs.Block.{Bytes}
-use Rattle.archive.specs.Recording.{Recording, InSpan, AllInSpan, recordingBytes, joined, archiveBlocks, archive}
+use Rattle.archive.specs.Recording.{Recording, InSpan, AllInSpan, recordingBytes, joined, archiveBlocks}
+use Rattle.archive.specs.Recording.{archive}
 use Rattle.archive.specs.Faults.{blocksIn, fileBlocks, goodBlocks, hasBad}
 use Rattle.archive.specs.Listing.{recordingsOf, inForce, twice, payloads}
 use Rattle.archive.proofs.AlteredLaws.{altered-file, cut-count}
@@ -41,7 +42,8 @@ record Accepted (file : List ℕ) : Type 0 where
 accepted : (file list storage : List ℕ) → readEntry file list storage .refusal ≡ 0 → Accepted file
 unfolding readEntry
 accepted file list storage e =
-    go (hasBad file) (twice (recordingsOf file)) (shortStorage force (length list) (length storage)) refl refl e
+    go (hasBad file) (twice (recordingsOf file))
+    (shortStorage force (length list) (length storage)) refl refl e
   where
     force : List Recording
     force = inForce (recordingsOf file)
@@ -55,7 +57,8 @@ accepted file list storage e =
 
     go : (bad double short : Bool) → hasBad file ≡ bad → twice (recordingsOf file) ≡ double
         → cond bad (refuseRead list storage 18 (goodBlocks file)) (cond double (refuseRead list storage 19 0)
-        (cond short (refuseRead list storage 11 0) (tellRead list storage (inForce (recordingsOf file))))) .refusal ≡ 0
+        (cond short (refuseRead list storage 11 0) (tellRead list storage (inForce (recordingsOf file)))))
+        .refusal ≡ 0
         → Accepted file
     go true double short q t e = absurd (omega arith)
     go false true short q t e = absurd (omega arith)
@@ -67,16 +70,19 @@ altered-file-refused file list storage list′ storage′ i byte e h d =
     let a = accepted file list storage e in
     let g = altered-file file i byte (a .right) h d in
     let n = length-set file i byte in
-    sym (read-bad (set file i byte) list′ storage′ (i / 512) (blocksIn (set file i byte)) (sym g) refl (omega arith))
+    sym (read-bad (set file i byte) list′ storage′ (i / 512) (blocksIn (set file i byte)) (sym g) refl
+    (omega arith))
 
 -- ---- what is written
 
 -- what the writer wrote are the recording's blocks
-written-told : (r : Recording) (out : List ℕ) → length (r .payload) ≤ maxPayloadBytes → length (recordingBytes r) ≤ length out
+written-told : (r : Recording) (out : List ℕ) → length (r .payload) ≤ maxPayloadBytes
+    → length (recordingBytes r) ≤ length out
     → written (writeEntry r out) ≡ recordingBytes r
 written-told r out h l = ap written (write-told r out h l) ∙ overlay-take out (recordingBytes r)
 
-written-is : (r : Recording) (out : List ℕ) → writeEntry r out .refusal ≡ 0 → written (writeEntry r out) ≡ recordingBytes r
+written-is : (r : Recording) (out : List ℕ) → writeEntry r out .refusal ≡ 0
+    → written (writeEntry r out) ≡ recordingBytes r
 written-is r out e =
     go (ltb maxPayloadBytes (length (r .payload))) (ltb (length out) (length (recordingBytes r))) refl refl
   where
@@ -87,14 +93,16 @@ written-is r out e =
     go false true p q =
         let n = bytes-asked r in
         let s = ltb-true (length out) (length (recordingBytes r)) q in
-        absurd (let z = ap (λ (t : WriteTold). t .refusal) (write-short r out (ltb-false _ _ p) (omega arith)) in omega arith)
+        absurd (let z = ap (λ (t : WriteTold). t .refusal)
+        (write-short r out (ltb-false _ _ p) (omega arith)) in omega arith)
     go false false p q = written-told r out (ltb-false _ _ p) (ltb-false _ _ q)
 
 -- so those of several are their archive
 file-is : {rs : List Recording} {file : List ℕ} → Written rs file → file ≡ archive rs
 unfolding archiveBlocks joined
 file-is Written.none = refl
-file-is (Written.more {r} {rs} out e w) = ap₂ (λ (a b : List ℕ). a ++ b) (written-is r out e) (file-is w) ∙ sym (archive-cons r rs)
+file-is (Written.more {r} {rs} out e w) = ap₂ (λ (a b : List ℕ). a ++ b) (written-is r out e) (file-is w)
+    ∙ sym (archive-cons r rs)
 
 -- Q9.8
 pub read-back : ReadBack
@@ -132,6 +140,7 @@ only-archives file list storage bytes e =
       recordings = recordingsOf file;
       in-span = s .in-span;
       apart = a .apart;
-      written = subst (λ (f : List ℕ). Written (recordingsOf file) f) (sym (s .same)) (written-all (s .in-span));
+      written = subst (λ (f : List ℕ). Written (recordingsOf file) f) (sym (s .same))
+          (written-all (s .in-span));
       no-others = λ others all w. sym (ap recordingsOf (file-is w) ∙ archived-recordings others all);
     }

@@ -1,4 +1,5 @@
--- Document 02 §9: the archive's promises, as statements over the definitions of its two entries (Q9.7 to Q9.9).
+-- Document 02 §9: the archive's promises, as statements over the definitions of its two entries (Q9.7 to
+-- Q9.9).
 -- Assumes nothing.
 use mathlib.Core.Path.{_≡_}
 use mathlib.Core.Bool.{true, false}
@@ -17,7 +18,8 @@ OneByteNeverPasses =
     (block : List ℕ) (i byte : ℕ) → length block ≡ blockBytes → passes block ≡ true → i < blockBytes
     → (getD block i 0 ≡ byte → ⊥) → passes (set block i byte) ≡ false
 
--- of an accepted file with one byte altered, anywhere, the reader refuses the block that holds the byte (Q9.7)
+-- of an accepted file with one byte altered, anywhere, the reader refuses the block that holds the byte
+-- (Q9.7)
 abbrev pub AlteredFileRefused : Type 0
 AlteredFileRefused =
     (file list storage list′ storage′ : List ℕ) (i byte : ℕ) → readEntry file list storage .refusal ≡ 0
@@ -34,8 +36,8 @@ pub data Written : List Recording → List ℕ → Type 0 where
   more : {r : Recording} {rs : List Recording} {file : List ℕ} (out : List ℕ) → writeEntry r out .refusal ≡ 0
       → Written rs file → Written (r ∷ rs) (written (writeEntry r out) ++ file)
 
--- "reading what was archived, no two recordings agreeing in house, start second and issue, returns the payload
--- of each one in force" (Q9.8), into any list and storage that are long enough
+-- "reading what was archived, no two recordings agreeing in house, start second and issue, returns the
+-- payload of each one in force" (Q9.8), into any list and storage that are long enough
 abbrev pub ReadBack : Type 0
 ReadBack =
     (rs : List Recording) (file list storage : List ℕ) → AllInSpan rs → twice rs ≡ false → Written rs file

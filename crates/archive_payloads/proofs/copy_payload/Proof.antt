@@ -1,4 +1,5 @@
--- `archive_payloads::copy_payload` meets its contract. The loop's invariant: so much of the payload is copied.
+-- `archive_payloads::copy_payload` meets its contract. The loop's invariant: so much of the payload is
+-- copied.
 -- The measure is what is left of it.
 -- Assumes nothing.
 use mathlib.Core.Path.{_≡_, sym, ap, _∙_}
@@ -11,7 +12,8 @@ use borrow.Author.Needs.{needs}
 use Rattle.archive.specs.Places.{recordingAt, noRecording}
 use Rattle.archive.proofs.PlaceLaws.{span-at}
 use Rattle.archive_payloads.specs.Kept.{PartIs, sourceOf}
-use Rattle.archive_payloads.proofs.CopyLaws.{part-fits, part-is, Copied, copied-none, copied-more, copied-all}
+use Rattle.archive_payloads.proofs.CopyLaws.{part-fits, part-is, Copied, copied-none, copied-more}
+use Rattle.archive_payloads.proofs.CopyLaws.{copied-all}
 use Rattle.archive_payloads.proofs.copy_payload.Statement.{statement}
 use Rattle.archive_payloads.proofs.copy_payload.Tie as tie
 
@@ -29,7 +31,8 @@ limit s =
     let e = p .1 .1 .1 .0 in
     omega arith
 
-room : (s : tie.Start Inv-loop μ-loop) → s .args .to + length (recordingAt (now (s .args .file)) (s .args .i) .payload)
+room : (s : tie.Start Inv-loop μ-loop) → s .args .to + length
+    (recordingAt (now (s .args .file)) (s .args .i) .payload)
     ≤ length (now (s .args .out))
 room s = let e = s .pre .1 .1 .1 .0 in let r = s .pre .1 .1 .1 .1 in omega arith
 
@@ -38,7 +41,8 @@ start l = l .before .before .before
 
 -- the part that is copied next
 next-part : (c : tie.After-part Inv-loop μ-loop) → let l = c .before .before in
-    PartIs (l .loop .done) (length (recordingAt (now (start l .args .file)) (start l .args .i) .payload)) (c .part .result)
+    PartIs (l .loop .done) (length (recordingAt (now (start l .args .file)) (start l .args .i) .payload))
+    (c .part .result)
 next-part c = rw (← start (c .before .before) .pre .1 .1 .1 .0) (c .part .ensures)
 
 -- it lies within the file
@@ -50,13 +54,15 @@ fits c =
 
 -- and has its length
 part-long : (c : tie.After-source Inv-loop μ-loop) → let l = c .before .before .before in
-    length (take (c .source .result + c .before .part .result - c .source .result) (drop (c .source .result) (now (start l .args .file))))
+    length (take (c .source .result + c .before .part .result - c .source .result)
+    (drop (c .source .result) (now (start l .args .file))))
     ≡ c .before .part .result
 part-long c =
     let l = c .before .before .before in
     let f = fits (c .before) in
     let e = c .source .ensures in
-    let t = length-take (c .source .result + c .before .part .result - c .source .result) (drop (c .source .result) (now (start l .args .file))) in
+    let t = length-take (c .source .result + c .before .part .result - c .source .result)
+    (drop (c .source .result) (now (start l .args .file))) in
     let d = length-drop (c .source .result) (now (start l .args .file)) in
     omega arith
 
@@ -88,10 +94,13 @@ loop-again c =
     let l = x .before .before .before in
     let s = start l in
     let p = next-part (x .before) in
-    let n : x .source .result + x .before .part .result - x .source .result ≡ x .before .part .result = omega arith in
+    let n : x .source .result + x .before .part .result - x .source .result ≡ x .before .part .result =
+    omega arith in
     let e = x .source .ensures in
-    let part : take (x .source .result + x .before .part .result - x .source .result) (drop (x .source .result) (now (s .args .file)))
-    ≡ take (x .before .part .result) (drop (l .loop .done) (recordingAt (now (s .args .file)) (s .args .i) .payload)) =
+    let part : take (x .source .result + x .before .part .result - x .source .result)
+    (drop (x .source .result) (now (s .args .file)))
+    ≡ take (x .before .part .result) (drop (l .loop .done)
+    (recordingAt (now (s .args .file)) (s .args .i) .payload)) =
     rw (n, e) (part-is _ _ _ (s .pre .1 .0) (s .pre .1 .1 .0) _ _ p) in
     copied-more _ _ _ (room s) _ _ _ _ _ (l .loop .inv) (p .left) part (put .put-text .ensures .bytes)
 
@@ -105,7 +114,8 @@ copy-payload-spec =
     part-requires
     source-requires
     (λ c. let f = fits (c .before) in let e = c .source .ensures in omega arith)
-    (λ c. let r = room (start (c .before .before .before .before)) in let p = next-part (c .before .before) .left in omega arith)
+    (λ c. let r = room (start (c .before .before .before .before)) in let p = next-part
+    (c .before .before) .left in omega arith)
     (λ c. omega arith)
     (λ c. omega arith)
     (λ c. let f = fits (c .before .before) in let e = c .before .source .ensures in omega arith)
@@ -113,7 +123,8 @@ copy-payload-spec =
     (λ c. let x : tie.After-source Inv-loop μ-loop = search needs in let f = next-part (x .before) .left in
     let r = room (start (x .before .before .before)) in omega arith)
     (λ c. let x : tie.After-source Inv-loop μ-loop = search needs in let f = next-part (x .before) in
-    let a = f .some in let b = f .left in let e = start (x .before .before .before) .pre .1 .1 .1 .0 in omega arith)
+    let a = f .some in let b = f .left in let e = start
+    (x .before .before .before) .pre .1 .1 .1 .0 in omega arith)
     loop-again
     (λ c. c .before .loop .inv .same-length)
     (λ c. let s = start (c .before) in

@@ -45,11 +45,13 @@ loop-again c =
     let x : tie.In-loop Inv-loop μ-loop = search needs in
     let h : tie.After-head-at Inv-loop μ-loop = search needs in
     let s : tie.Start Inv-loop μ-loop = search needs in
-    let l = x .before .loop in
-    (omega arith,
-    done-on _ _ (l .m) (done-told _ _
-    (done-more _ _ (one x) _ (s .pre .1 .1 .marks (l .m) (omega arith)) (l .inv .1) (h .head-at .ensures .payload))
-    (c .counted .ensures)))
+    let l = x .before .loop in (
+      omega arith,
+      done-on _ _ (l .m) (done-told _ _
+          (done-more _ _ (one x) _ (s .pre .1 .1 .marks (l .m) (omega arith)) (l .inv .1)
+          (h .head-at .ensures .payload))
+          (c .counted .ensures)),
+    )
 
 returns : tie.Need-returns Inv-loop μ-loop
 returns c =
@@ -66,7 +68,8 @@ count-chunk-spec =
     μ-loop
     (λ c. (omega arith, rw (add-zero (c .before .before .args .first)) (c .before .before .pre .1 .0)))
     add-head-at
-    (λ c κs. let s : tie.Start Inv-loop μ-loop = search needs in (s .pre .0, (c .before .loop .inv .1 .at, one c)))
+    (λ c κs. let s : tie.Start Inv-loop μ-loop = search needs in
+    (s .pre .0, (c .before .loop .inv .1 .at, one c)))
     (λ c. let s : tie.Start Inv-loop μ-loop = search needs in let r = s .pre .1 .1 .room in omega arith)
     counted-requires
     (λ c. omega arith)

@@ -39,9 +39,19 @@ lay-one-requires c κs =
     let l = x .before .loop in
     let p = start (x .before) .pre in
     let g = l .inv .2 .same-length in
-    let h = l .inv .3 .same-length in
-    (p .0, (one x, (l .inv .1, (p .1 .1 .0 .marks (l .m) (omega arith),
-    (omega (arith, p .1 .1 .1 .0), omega (arith, p .1 .1 .1 .1))))))
+    let h = l .inv .3 .same-length in (
+      p .0,
+      (
+        one x,
+        (
+          l .inv .1,
+          (
+            p .1 .1 .0 .marks (l .m) (omega arith),
+            (omega (arith, p .1 .1 .1 .0), omega (arith, p .1 .1 .1 .1)),
+          ),
+        ),
+      ),
+    )
 
 loop-again : tie.Need-loop-again Inv-loop μ-loop
 loop-again c =
@@ -49,10 +59,12 @@ loop-again c =
     let x = laid .before .before .before .before in
     let l = x .before .loop in
     let p = start (x .before) .pre in
-    let e = laid .lay-one .ensures in
-    (omega arith, done-on _ _ (l .m) (e .0),
-    list-more _ _ (l .m) (p .1 .0) (l .inv .1) _ _ _ (p .1 .1 .1 .0) (l .inv .2) (e .1 .0),
-    out-more _ _ (l .m) (p .1 .0) (l .inv .1) _ _ _ (p .1 .1 .1 .1) (l .inv .3) (e .1 .1))
+    let e = laid .lay-one .ensures in (
+      omega arith,
+      done-on _ _ (l .m) (e .0),
+      list-more _ _ (l .m) (p .1 .0) (l .inv .1) _ _ _ (p .1 .1 .1 .0) (l .inv .2) (e .1 .0),
+      out-more _ _ (l .m) (p .1 .0) (l .inv .1) _ _ _ (p .1 .1 .1 .1) (l .inv .3) (e .1 .1),
+    )
 
 returns : tie.Need-returns Inv-loop μ-loop
 returns c =
@@ -67,10 +79,15 @@ lay-chunk-spec =
     (tie.spec
     Inv-loop
     μ-loop
-    (λ c. let s = c .before .before .before .before in
-    (omega arith, rw (add-zero (s .args .first)) (s .pre .1 .0), list-none (now (s .args .file)) (s .args .first) _ _,
-    out-none (now (s .args .file)) (s .args .first) _ _))
-    (λ c. let s = start (c .before) in let f = recordings-few (now (s .args .file)) (s .pre .0) in let o = one c in omega arith)
+    (λ c. let s = c .before .before .before .before in (
+      omega arith,
+      rw (add-zero (s .args .first)) (s .pre .1 .0),
+      list-none (now (s .args .file))
+          (s .args .first) _ _,
+      out-none (now (s .args .file)) (s .args .first) _ _,
+    ))
+    (λ c. let s = start (c .before) in let f = recordings-few (now (s .args .file))
+    (s .pre .0) in let o = one c in omega arith)
     (λ c. let r = start (c .before .before) .pre .1 .1 .0 .room in omega arith)
     lay-one-requires
     (λ c. omega arith)

@@ -1,4 +1,5 @@
--- `archive_reader::count_all` meets its contract. The loop's invariant: the walk has come to recording `first`,
+-- `archive_reader::count_all` meets its contract. The loop's invariant: the walk has come to recording
+-- `first`,
 -- and none before it is there twice, or one is. The measure is how many recordings are left.
 -- Assumes nothing.
 use mathlib.Core.Path.{_≡_, sym}
@@ -10,7 +11,8 @@ use borrow.Author.Needs.{needs}
 use Rattle.archive.specs.Listing.{recordingsOf}
 use Rattle.archive.proofs.PlaceLaws.{recordings-few}
 use Rattle.archive_payloads.specs.Kept.{DoneIs}
-use Rattle.archive_reader.proofs.ReaderLaws.{Apart, apart-none, apart-more, done-none, chunk-marks, counts-all}
+use Rattle.archive_reader.proofs.ReaderLaws.{Apart, apart-none, apart-more, done-none, chunk-marks}
+use Rattle.archive_reader.proofs.ReaderLaws.{counts-all}
 use Rattle.archive_reader.proofs.count_all.Statement.{statement}
 use Rattle.archive_reader.proofs.count_all.Tie as tie
 
@@ -49,9 +51,10 @@ loop-less c =
 
 loop-again : tie.Need-loop-again Inv-loop μ-loop
 loop-again c =
-    let x = c .before .before .before .before in
-    (c .before .count-chunk .ensures,
-    apart-more _ (x .chunk-at .ensures) _ _ (loop-of x .loop .inv .1) (c .either .ensures))
+    let x = c .before .before .before .before in (
+      c .before .count-chunk .ensures,
+      apart-more _ (x .chunk-at .ensures) _ _ (loop-of x .loop .inv .1) (c .either .ensures),
+    )
 
 pub count-all-spec : {M : Type 1} → statement M
 count-all-spec =
@@ -67,4 +70,5 @@ count-all-spec =
     add-first
     loop-less
     loop-again
-    (λ c. counts-all _ (start (c .before .before) .pre) (c .before .before .loop .inv .0) (c .before .before .loop .inv .1) (c .if1 .left)))
+    (λ c. counts-all _ (start (c .before .before) .pre) (c .before .before .loop .inv .0)
+    (c .before .before .loop .inv .1) (c .if1 .left)))

@@ -1,4 +1,5 @@
--- `archive_reader::deliver` meets its contract. The loop's invariant: the walk has come to recording `first`, and
+-- `archive_reader::deliver` meets its contract. The loop's invariant: the walk has come to recording
+-- `first`, and
 -- those in force before it are laid. The measure is how many recordings are left.
 -- Assumes nothing.
 use mathlib.Core.Path.{_≡_, sym}
@@ -11,7 +12,8 @@ use Rattle.archive.specs.Listing.{recordingsOf, listed, payloads}
 use Rattle.archive.proofs.PlaceLaws.{recordings-few}
 use Rattle.archive_payloads.specs.Kept.{kept, DoneIs}
 use Rattle.archive_payloads.proofs.LaidLaws.{Grown}
-use Rattle.archive_reader.proofs.ReaderLaws.{done-none, chunk-marks, laid-none, list-on, out-on, all-laid}
+use Rattle.archive_reader.proofs.ReaderLaws.{done-none, chunk-marks, laid-none, list-on, out-on}
+use Rattle.archive_reader.proofs.ReaderLaws.{all-laid}
 use Rattle.archive_reader.proofs.deliver.Statement.{statement}
 use Rattle.archive_reader.proofs.deliver.Tie as tie
 
@@ -36,8 +38,16 @@ lay-chunk-requires c κs =
     let l = loop-of x .loop in
     let p = start (loop-of x) .pre in
     let g = l .inv .1 .same-length in
-    let h = l .inv .2 .same-length in
-    (p .0, (l .inv .0, (chunk-marks _ (x .chunk-at .ensures), (omega (arith, p .1 .0), omega (arith, p .1 .1)))))
+    let h = l .inv .2 .same-length in (
+      p .0,
+      (
+        l .inv .0,
+        (
+          chunk-marks _ (x .chunk-at .ensures),
+          (omega (arith, p .1 .0), omega (arith, p .1 .1)),
+        ),
+      ),
+    )
 
 abbrev chunk-of : tie.After-lay-chunk Inv-loop μ-loop → tie.After-chunk-at Inv-loop μ-loop
 chunk-of c = c .before .before .before .before .before
@@ -65,9 +75,11 @@ loop-again c =
     let x = chunk-of laid in
     let l = loop-of x .loop in
     let p = start (loop-of x) .pre in
-    let e = laid .lay-chunk .ensures in
-    (e .0, list-on _ _ _ (l .inv .0) _ _ _ (p .1 .0) (l .inv .1) (e .1 .0),
-    out-on _ _ _ (l .inv .0) _ _ _ (p .1 .1) (l .inv .2) (e .1 .1))
+    let e = laid .lay-chunk .ensures in (
+      e .0,
+      list-on _ _ _ (l .inv .0) _ _ _ (p .1 .0) (l .inv .1) (e .1 .0),
+      out-on _ _ _ (l .inv .0) _ _ _ (p .1 .1) (l .inv .2) (e .1 .1),
+    )
 
 pub deliver-spec : {M : Type 1} → statement M
 deliver-spec =

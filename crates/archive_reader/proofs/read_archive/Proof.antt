@@ -13,7 +13,8 @@ use Rattle.archive.specs.Listing.{recordingsOf, inForce, twice, payloads, Sound
 use Rattle.archive.proofs.AlteredLaws.{cut-count}
 use Rattle.archive.proofs.FaultLaws.{good-most}
 use Rattle.archive.proofs.OnlyLaws.{sound}
-use Rattle.archive_reader.proofs.AnswerLaws.{read-bad, read-twice, read-list, read-storage, read-accepted, all-good, no-bad}
+use Rattle.archive_reader.proofs.AnswerLaws.{read-bad, read-twice, read-list, read-storage}
+use Rattle.archive_reader.proofs.AnswerLaws.{read-accepted, all-good, no-bad}
 use Rattle.archive_reader.proofs.read_archive.Statement.{statement}
 use Rattle.archive_reader.proofs.read_archive.Tie as tie
 
@@ -26,16 +27,19 @@ bytes c i = c .before .before .before .before .shared-slice-known .given i .fits
 
 returns : tie.Need-returns
 returns c =
-    read-bad _ _ _ _ _ (c .before .before .good-blocks .ensures) (c .before .blocks-in .ensures) (c .if1 .taken)
+    read-bad _ _ _ _ _ (c .before .before .good-blocks .ensures) (c .before .blocks-in .ensures)
+    (c .if1 .taken)
 
 -- all blocks are right
-right : (c : tie.Else1) → goodBlocks (now (start (c .before) .args .file)) ≡ blocksIn (now (start (c .before) .args .file))
+right : (c : tie.Else1) → goodBlocks (now (start (c .before) .args .file)) ≡ blocksIn
+    (now (start (c .before) .args .file))
 right c =
     let file = now (start (c .before) .args .file) in
     let n = cut-count (blocksIn file) file in
     let m = good-most 0 0 (fileBlocks file) in
     let most : goodBlocks file ≤ blocksIn file = omega arith in
-    all-good file _ _ (c .before .before .good-blocks .ensures) (c .before .blocks-in .ensures) (c .if1 .left) most
+    all-good file _ _ (c .before .before .good-blocks .ensures) (c .before .blocks-in .ensures)
+    (c .if1 .left) most
 
 -- so the file is the archive of its recordings
 whole : (c : tie.Else1) → Sound (now (start (c .before) .args .file))
@@ -60,7 +64,8 @@ list-fits c = let e = counted-of c .count-all .ensures .counted in let h = c .if
 
 storage-fits : (c : tie.Else4) → let a = first-of (counted-of (c .before .before)) .args in
     length (payloads (inForce (recordingsOf (now (a .file))))) ≤ length (now (a .out))
-storage-fits c = let e = counted-of (c .before .before) .count-all .ensures .summed in let h = c .if4 .left in omega arith
+storage-fits c = let e = counted-of (c .before .before) .count-all .ensures .summed in let h = c .if4 .left
+    in omega arith
 
 returns-3 : tie.Need-returns-3
 returns-3 c =
@@ -89,7 +94,8 @@ returns-5 c =
     let t = o .before .before in
     let x = counted-of t in
     let e = x .count-all .ensures in
-    read-accepted _ _ _ (no-bad-of x) (apart (t .before .before)) (list-fits t) (storage-fits o) _ _ _ _ (e .counted)
+    read-accepted _ _ _ (no-bad-of x) (apart (t .before .before)) (list-fits t) (storage-fits o) _ _ _ _
+    (e .counted)
     (e .summed) (d .deliver .ensures .0) (d .deliver .ensures .1)
 
 pub read-archive-spec : {M : Type 1} → statement M
@@ -100,7 +106,8 @@ read-archive-spec =
     (λ c κs. search needs)
     returns
     (λ c κs. whole c)
-    (λ c. read-twice _ _ _ (no-bad-of (c .before)) (sym (c .before .count-all .ensures .repeated) ∙ c .if2 .taken))
+    (λ c. read-twice _ _ _ (no-bad-of (c .before)) (sym (c .before .count-all .ensures .repeated)
+    ∙ c .if2 .taken))
     (λ c. let f = c .before .before .count-all .ensures .few in omega arith)
     returns-3
     returns-4
