@@ -43,8 +43,8 @@ refused() { # WORD...: a command that must have the exit status 1
     [ $? -eq 1 ] || fail "$* does not have the exit status 1"
 }
 
-build ctest ctest/answers.c ctest/joined.c ctest/pages.c ctest/reach.c ctest/totals.c ctest/waves.c \
-    ctest/wide.c
+build ctest ctest/answers.c ctest/archives.c ctest/joined.c ctest/pages.c ctest/reach.c ctest/totals.c \
+    ctest/waves.c ctest/wide.c
 target/ctest || fail 'the C program'
 build refusal_texts ctest/refusal_texts.c
 target/refusal_texts >target/refusal_texts.txt || fail 'the texts of the refusals in C'
@@ -109,6 +109,38 @@ rm -f target/python.wav target/sox.wav target/none.wav
 [ ! -e target/none.wav ] || fail 'a sound file of a recording that is not exported'
 cmp target/python.wav "$wv/wave/python.wav" || fail 'a sound file as Python writes it'
 cmp target/sox.wav "$wv/wave/sox.wav" || fail 'a sound file as sox writes it'
+
+# An archive, and copies of it: a byte altered, cut inside a block and after a block of a recording, and
+# without its first two blocks.
+rm -f target/*.archive target/taken.bin target/none.bin
+{
+    stems=target/stems.archive
+    example archive $stems add 3 86400 0 target/pair.bin &&
+        example archive $stems add 4 86400 0 "$wv/plain.wv" &&
+        example archive $stems list &&
+        example archive $stems add 3 86400 2 target/stem.bin &&
+        example archive $stems add 3 86400 1 target/loud.bin &&
+        example archive $stems list &&
+        example archive $stems take 3 86400 target/taken.bin &&
+        ! example archive $stems add 3 86400 0 target/loud.bin &&
+        ! example archive $stems add 65536 86400 0 target/pair.bin &&
+        ! example archive $stems take 5 86400 target/none.bin &&
+        cp $stems target/altered.archive &&
+        printf '\377' | dd of=target/altered.archive bs=1 seek=1000 conv=notrunc 2>/dev/null &&
+        head -c 2100 $stems >target/cut.archive &&
+        head -c 2048 $stems >target/unfinished.archive &&
+        tail -c +1025 $stems >target/headless.archive
+    for copy in altered cut unfinished headless; do
+        ! example archive target/$copy.archive list || echo "$copy is listed"
+    done
+    ! example archive target/cut.archive add 9 86400 0 target/pair.bin
+} 2>&1 | diff bindings/rust/examples/archive.txt - || fail 'the example archive'
+cmp target/taken.bin target/stem.bin || fail 'a recording out of an archive'
+[ ! -e target/none.bin ] || fail 'a recording that is not in an archive'
+for words in '' 'target/stems.archive' 'target/none.archive list' 'target/cut.archive list' \
+    'target/stems.archive add 3 86400 0 target/pair.bin' 'target/cut.archive take 3 86400 target/none.bin'; do
+    refused example archive $words
+done
 
 reference=${WAVPACK_REFERENCE:-../shared/docs/src/src}
 if [ -d "$reference" ]; then

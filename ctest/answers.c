@@ -1,7 +1,8 @@
 /* Calls the library from C, through its header, and checks answers that follow from the rules of
    docs/PROVED.md. Prints each answer that is not the expected one; the exit status is 0 when there
    is none. Bits by stem are in totals.c, log words out of reach in reach.c, pass lists joined in
-   joined.c, sound files in waves.c, morning pages in pages.c, wide recordings in wide.c. */
+   joined.c, sound files in waves.c, morning pages in pages.c, wide recordings in wide.c, archives in
+   archives.c. */
 #include <stdio.h>
 #include <string.h>
 #include "answers.h"
@@ -198,6 +199,7 @@ int main(void)
     sound_files();
     morning_pages();
     wide_recordings();
+    archives();
     if (failures == 0)
         puts("ctest: every answer is the expected one");
     return failures != 0;

@@ -28,4 +28,7 @@ void morning_pages(void);
 /* Checks the two calls for recordings wider than the words. */
 void wide_recordings(void);
 
+/* Checks the two calls of archives. */
+void archives(void);
+
 #endif

@@ -11,7 +11,7 @@
 #include "wavpack_stereo.h"
 
 enum { STACK = 1 << 16, PATTERN = 0xa5, ROUNDS = 2000, FRAMES = 64, MOST_PASSES = 17 };
-enum { TWO_LINES = 4 * WV_LINE_FRAMES };
+enum { TWO_LINES = 4 * WV_LINE_FRAMES, KEPT = 6, KEPT_BYTES = 2 * WV_ARCHIVE_BLOCK_BYTES };
 
 static unsigned char stack[STACK];
 static unsigned char *above;
@@ -34,10 +34,11 @@ static uint64_t next(void)
     return z ^ (z >> 31);
 }
 
-static uint8_t entropy[12], payload[64 * FRAMES], out[28 * FRAMES], file[44 + 4 * FRAMES];
+static uint8_t entropy[12], payload[64 * FRAMES], out[28 * FRAMES], file[44 + 4 * FRAMES],
+    archive[KEPT * KEPT_BYTES];
 static int32_t numbers[2 * FRAMES], sounds[2 * FRAMES], wide[2 * FRAMES], blocks[TWO_LINES],
     passes[20 * MOST_PASSES], seed[8];
-static uint32_t answer[15], report[2], field[4];
+static uint32_t answer[15], report[2], field[4], listed[4 * KEPT];
 
 /* Entropy payloads that reading accepts, payloads with many ones, numbers of any size; as a word state
    totals that its place allows. */
@@ -99,6 +100,16 @@ static void fill_wide(void)
     wide[next() % (2 * FRAMES)] ^= next() % 8 == 0;
 }
 
+/* An archive of recordings in two blocks each, at times with a fault or with the same one twice. Its
+   numbers are bytes of the payload, so that the other functions get the inputs that they had without it. */
+static void fill_archive(void)
+{
+    for (size_t i = 0; i < KEPT; i++)
+        wv_archive_write(payload[i] % 4, 86400, payload[i + KEPT] % 16, payload, 493 + 2 * payload[i] % 504,
+                         archive + i * KEPT_BYTES, KEPT_BYTES, report, 1);
+    archive[24 * payload[2 * KEPT]] ^= payload[0] % 8 == 0;
+}
+
 static void log_word(void) { CALL(wv_log_word((int16_t)next(), numbers, 1)); }
 static void term_byte(void) { CALL(wv_term_byte((uint8_t)next(), numbers, 2)); }
 static void weight_byte(void) { CALL(wv_weight_byte((uint8_t)next(), numbers, 1)); }
@@ -134,6 +145,18 @@ static void narrowing(void)
                               1));
 }
 
+static void keeping(void)
+{
+    const size_t bytes = next() % sizeof payload;
+    CALL(wv_archive_write(3, answer[2], 4, payload, bytes, out, sizeof out, answer, 1));
+}
+static void listing(void)
+{
+    const size_t bytes = KEPT_BYTES * (next() % (KEPT + 1));
+    CALL(wv_archive_read(archive, bytes, listed, next() % 8 ? 4 * KEPT : 4, payload, sizeof payload, answer,
+                         2));
+}
+
 /* How many bytes one call needs. */
 static size_t needed(void (*call)(void))
 {
@@ -154,14 +177,15 @@ static size_t needed(void (*call)(void))
 
 int main(void)
 {
-    static const struct { const char *name; void (*call)(void); } entries[15] = {
+    static const struct { const char *name; void (*call)(void); } entries[17] = {
         {"wv_log_word", log_word}, {"wv_term_byte", term_byte}, {"wv_weight_byte", weight_byte},
         {"wv_entropy", medians}, {"wv_read", reading}, {"wv_word", word}, {"wv_pass", making},
         {"wv_decorrelate", decorrelation}, {"wv_analyse", analysis}, {"wv_pack", packing},
         {"wv_wave_export", exporting}, {"wv_wave_import", importing}, {"wv_morning_page", paging},
-        {"wv_reassemble_int32", completing}, {"wv_deconstruct_int32", narrowing}};
+        {"wv_reassemble_int32", completing}, {"wv_deconstruct_int32", narrowing},
+        {"wv_archive_write", keeping}, {"wv_archive_read", listing}};
     puts("| function | bytes of stack |\n|---|---:|");
-    for (size_t i = 0; i < 15; i++) {
+    for (size_t i = 0; i < 17; i++) {
         size_t most = 0;
         for (int round = 0; round < ROUNDS; round++) {
             fill();
@@ -169,6 +193,7 @@ int main(void)
             fill_sounds();
             fill_blocks();
             fill_wide();
+            fill_archive();
             size_t bytes = needed(entries[i].call);
             most = bytes > most ? bytes : most;
         }

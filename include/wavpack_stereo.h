@@ -2,7 +2,8 @@
  *
  * Every function answers WV_ACCEPTED or the number of a refusal; `wv_refusal_text` gives its wording. Each
  * function below lists its refusals in the order in which it tests. The rules are the rows X1 to X9, Q1.3,
- * Q1.4, Q2.2, Q5.6, Q6.6, Q7.1 to Q7.3, Q8.1 to Q8.5 and Q8.7 of docs/PROVED.md.
+ * Q1.4, Q2.2, Q5.6, Q6.6, Q7.1 to Q7.3, Q8.1 to Q8.5, Q8.7, Q9.6 and Q9.10 of docs/PROVED.md.
+ * wavpack_stereo_limits.h has the limits, sizes and numbers of slots.
  *
  * A list is a pointer to its first element and its number of elements. A list of 0 elements still needs a
  * pointer that is not null and is aligned for its type. A function reads and writes nothing beyond the
@@ -11,8 +12,8 @@
  *
  * A list that a function fills has slots, in the order given below, from the first element on. A list with
  * fewer elements than slots is refused with WV_LIST_LENGTH before anything is written. Elements after the
- * slots keep their values. On any other refusal `wv_read`, `wv_word` and `wv_pack` write what is said
- * there, and every other function leaves all lists as they were.
+ * slots keep their values. On any other refusal `wv_read`, `wv_word`, `wv_pack` and `wv_archive_read` write
+ * what is said there, and every other function leaves all lists as they were.
  *
  * docs/WV_FILES.md shows how a block of a real file is decoded with these functions; examples/c has
  * programs that do it.
@@ -22,6 +23,7 @@
 
 #include <stddef.h>
 #include <stdint.h>
+#include "wavpack_stereo_limits.h"
 #include "wavpack_stereo_refusals.h"
 
 #ifdef __cplusplus
@@ -29,58 +31,10 @@ extern "C" {
 #endif
 
 /* The version of this header, and of the Rust bindings. */
-#define WV_VERSION "0.3.0"
+#define WV_VERSION "0.4.0"
 #define WV_VERSION_MAJOR 0
-#define WV_VERSION_MINOR 3
+#define WV_VERSION_MINOR 4
 #define WV_VERSION_PATCH 0
-
-/* Limits: more is refused with WV_TOO_LARGE, and more passes with WV_TOO_MANY_PASSES. An element is a
- * sample or a residual; a frame has two of them, left and right. */
-#define WV_MAX_FRAMES 131072u
-#define WV_MAX_ELEMENTS 262144u
-#define WV_MAX_PAYLOAD_BYTES 4194304u
-#define WV_MAX_WAVE_BYTES 524332u
-#define WV_MAX_PASSES 16u
-
-/* The spans of a log word, a residual to pack, the rate of a sound file, and the four fields of wide
- * samples. */
-#define WV_MIN_LOG_WORD (-8191)
-#define WV_MAX_LOG_WORD 8191
-#define WV_MIN_RESIDUAL (-1879048192)
-#define WV_MAX_RESIDUAL 1879048191
-#define WV_MIN_RATE 1u
-#define WV_MAX_RATE 192000u
-#define WV_MAX_FIELD 31u
-
-/* The entropy payload of a stereo block, and of a mono one. */
-#define WV_ENTROPY_BYTES 12u
-#define WV_MONO_ENTROPY_BYTES 6u
-
-/* The storage that a caller lends for what is written. */
-#define WV_BYTES_PER_FRAME 28u          /* wv_pack: for each frame */
-#define WV_WAVE_HEADER_BYTES 44u        /* wv_wave_export: before the samples */
-#define WV_WAVE_BYTES_PER_SAMPLE 2u     /* and for each of them */
-#define WV_LITERAL_BYTES_PER_SAMPLE 4u  /* wv_deconstruct_int32: for each sample */
-#define WV_LINE_BYTES 45u               /* wv_morning_page: for each line, which covers */
-#define WV_LINE_FRAMES 1024u            /* so many frames, the last one those that are left: */
-#define WV_PAGE_BYTES(frames) (((size_t)(frames) + WV_LINE_FRAMES - 1) / WV_LINE_FRAMES * WV_LINE_BYTES)
-
-/* Slots of the lists. */
-#define WV_LOG_WORD_SLOTS 1u
-#define WV_TERM_BYTE_SLOTS 2u
-#define WV_WEIGHT_BYTE_SLOTS 1u
-#define WV_ENTROPY_SLOTS 6u
-#define WV_READ_SLOTS 10u
-#define WV_WORD_STATE_SLOTS 15u
-#define WV_WORD_SAMPLE_SLOTS 1u
-#define WV_WORD_REPORT_SLOTS 2u
-#define WV_PASS_SLOTS 20u
-#define WV_PACK_SLOTS 7u
-#define WV_WAVE_EXPORT_SLOTS 1u
-#define WV_WAVE_IMPORT_SLOTS 2u
-#define WV_MORNING_PAGE_SLOTS 1u
-#define WV_REASSEMBLE_INT32_SLOTS 1u
-#define WV_DECONSTRUCT_INT32_SLOTS 1u
 
 /* The signed 32-bit value of a log word.
  * value: its value, -2,143,289,344 to 2,143,289,344.
@@ -237,6 +191,43 @@ uint32_t wv_reassemble_int32(uint32_t sent_bits, uint32_t zeros, uint32_t ones, 
 uint32_t wv_deconstruct_int32(uint32_t sent_bits, uint32_t zeros, uint32_t ones, uint32_t dups,
                               int32_t *samples, size_t samples_len, uint8_t *literal, size_t literal_len,
                               uint32_t *answer, size_t answer_len);
+
+/* Writes a recording for an archive, a file of blocks of WV_ARCHIVE_BLOCK_BYTES: an archive is what this
+ * function writes of each of its recordings, one after the other, in any order.
+ * A block has its number (2 bytes), how many data bytes it uses, 1 to WV_ARCHIVE_DATA_BYTES (2), the data
+ * with zeros after the used bytes, and a check (4): the sum of (position + 1) times byte over all bytes
+ * before it. Numbers have their low byte first. The used bytes of a recording's blocks are house (2), start
+ * second (4), issue (2), payload length (4) and the payload, any bytes or none. The blocks of a recording
+ * are numbered from 0, and all but the last use WV_ARCHIVE_DATA_BYTES.
+ * out: the blocks from the first byte on, WV_ARCHIVE_BYTES of payload_len; bytes after them keep their
+ *   values.
+ * answer: bytes written.
+ * Refuses WV_LIST_LENGTH for answer; then WV_TOO_LARGE for over WV_MAX_PAYLOAD_BYTES, and
+ * WV_OUTPUT_TOO_SHORT for a shorter out; with both lists as they were. */
+uint32_t wv_archive_write(uint16_t house, uint32_t start, uint16_t issue, const uint8_t *payload,
+                          size_t payload_len, uint8_t *out, size_t out_len, uint32_t *answer,
+                          size_t answer_len);
+
+/* Reads an archive: its recordings in force, in the order of the file. A recording is in force unless
+ * another one of the same house and start second has a higher issue. A file is accepted if it is what
+ * `wv_archive_write` writes of recordings of which no two agree in house, start second and issue. An empty
+ * file has no recordings; there is no limit to a file's length.
+ * list: WV_ARCHIVE_NUMBERS_PER_RECORDING for each recording in force: house, start second, issue, payload
+ *   length.
+ * payloads: their payloads, one after the other. In both lists elements after what is written keep their
+ *   values. So many numbers for each block of the file, and as many payload bytes as the file has bytes, are
+ *   always enough.
+ * answer: recordings in force, payload bytes. Numbers over 32 bits are kept to their low 32.
+ * Refuses WV_LIST_LENGTH for answer, with nothing written.
+ * Then refuses WV_BAD_BLOCK, with the number of the first bad block, counted from 0 in the file, and 0 in
+ * answer, and the other lists as they were. A block is bad that has under WV_ARCHIVE_BLOCK_BYTES, a wrong
+ * check, a payload length over WV_MAX_PAYLOAD_BYTES, a number, a count of used bytes or a filling other
+ * than that length and the blocks before it ask for, or that is the file's last while its recording is
+ * unfinished.
+ * Then refuses WV_RECORDING_TWICE for the same house, start second and issue twice, and WV_OUTPUT_TOO_SHORT
+ * for list or payloads; with all lists as they were. */
+uint32_t wv_archive_read(const uint8_t *file, size_t file_len, uint32_t *list, size_t list_len,
+                         uint8_t *payloads, size_t payloads_len, uint32_t *answer, size_t answer_len);
 
 #ifdef __cplusplus
 }

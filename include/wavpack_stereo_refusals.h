@@ -23,9 +23,11 @@
 #define WV_FIELD_ABOVE_31 15u
 #define WV_NOT_REINSERTABLE 16u
 #define WV_LOG_WORD_OUT_OF_REACH 17u
+#define WV_BAD_BLOCK 18u
+#define WV_RECORDING_TWICE 19u
 
 /* Why a call was refused, as a text that lasts as long as the program: "accepted" for WV_ACCEPTED, and
- * "unknown refusal" for a number that is not above, which only a newer archive answers. */
+ * "unknown refusal" for a number that is not above, which only a newer library answers. */
 static inline const char *wv_refusal_text(uint32_t refusal)
 {
     switch (refusal) {
@@ -66,6 +68,10 @@ static inline const char *wv_refusal_text(uint32_t refusal)
         return "a sample whose low bits are not those that zeros, ones or dups put in";
     case WV_LOG_WORD_OUT_OF_REACH:
         return "a log word outside -8,191 to 8,191";
+    case WV_BAD_BLOCK:
+        return "a block of an archive is damaged, cut short, or not the one that has to follow";
+    case WV_RECORDING_TWICE:
+        return "an archive has the same house, start second and issue twice";
     default:
         return "unknown refusal";
     }

@@ -185,10 +185,14 @@ fn parts(length: usize) -> impl Iterator<Item = impl Iterator<Item = Range<usize
     sizes.map(move |size| (0..length).step_by(size).map(move |start| start..length.min(start + size)))
 }
 
+/// The parts of a list of this length that are left out in turn.
+pub fn left_out(length: usize) -> impl Iterator<Item = Range<usize>> {
+    parts(length).flat_map(|parts| parts.take(64))
+}
+
 /// Lists with a part left out.
 pub fn shorter<T: Clone>(list: &[T]) -> impl Iterator<Item = Vec<T>> {
-    let parts = parts(list.len()).flat_map(|parts| parts.take(64));
-    parts.map(|part| [&list[..part.start], &list[part.end..]].concat())
+    left_out(list.len()).map(|part| [&list[..part.start], &list[part.end..]].concat())
 }
 
 /// Lists with a part made 0.

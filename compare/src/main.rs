@@ -7,14 +7,15 @@
 //! earlier archive, and `compare count` makes one call, whose instructions a tool can count.
 //! `compare long` runs millions of damaged inputs.
 //!
-//! Sound files and morning pages are no part of the published Rust: there a plain statement of their
-//! rules stands for it, and in the table a plain loop. Wide samples are compared with both. A log word
-//! that the Rust accepts and the rule refuses is left to the rule, and the inputs that hold one are counted.
-//! So are the states of words whose totals exceed their place; the Rust has no totals, and the rule states
-//! them beside it.
+//! Sound files, morning pages and archive files are no part of the published Rust: there a plain statement
+//! of their rules stands for it, and in the table a plain loop. Wide samples are compared with both. A log
+//! word that the Rust accepts and the rule refuses is left to the rule, and the inputs that hold one are
+//! counted. So are the states of words whose totals exceed their place; the Rust has no totals, and the rule
+//! states them beside it.
 #![deny(unsafe_code)]
 #![warn(clippy::undocumented_unsafe_blocks)]
 
+mod archive_files;
 mod bench;
 mod case;
 mod child;
@@ -32,6 +33,7 @@ mod plain_int32;
 mod random;
 mod reach;
 mod store;
+mod their_archives;
 mod their_int32;
 mod their_packing;
 mod their_pages;
@@ -54,6 +56,7 @@ const USAGE: &str =
     "usage: compare [SEED [SCALE]] | compare long [SEED [MILLIONS [MINUTES]]] | compare store | compare bench
      | compare count ours|theirs reading|packing [loud|middling|quiet|clicks|many|silence]
      | compare count ours|theirs export|import
+     | compare count ours|theirs archive write|read
      | compare count ours|theirs page [noise|random|silence]
      | compare count ours|theirs reassembly|deconstruction SENT_BITS none|zeros|ones|dups
      | compare count ours|theirs decorrelation|analysis TERM|sixteen";

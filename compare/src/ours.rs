@@ -7,7 +7,7 @@
 //! it was. Where every element outside a list is watched all calls go to `ffi`, since the bindings
 //! answer in lists of their own.
 use crate::lent::watched;
-use wavpack_stereo::{Delta, Int32Info, Pass, Refusal, Slots, Weight, WordState, ffi};
+use wavpack_stereo::{Delta, Int32Info, Pass, Recording, Recordings, Refusal, Slots, Weight, WordState, ffi};
 
 /// No refusal number: the bindings and the C interface refuse for different reasons.
 const PARTED: u32 = u32::MAX;
@@ -176,4 +176,40 @@ pub fn deconstruct_int32(
         |(samples, literal)| wavpack_stereo::deconstruct_int32(info, samples, literal).map(|bits| [bits]),
         |(samples, literal), answer| ffi::deconstruct_int32(info, samples, literal, answer),
     )
+}
+
+/// `key` is house, start second and issue.
+pub fn archive_write(key: (u16, u32, u16), payload: &[u8], out: &mut [u8], answer: &mut [u32]) -> u32 {
+    let (house, start, issue) = key;
+    answered(
+        answer,
+        out,
+        |out| wavpack_stereo::archive_write(house, start, issue, payload, out).map(|bytes| [bytes as u32]),
+        |out, answer| ffi::archive_write(house, start, issue, payload, out, answer),
+    )
+}
+
+/// The list and the payloads that recordings were read from.
+fn lists_of(recordings: Recordings) -> (Vec<u32>, Vec<u8>) {
+    let numbers = recordings.clone().flat_map(|Recording { house, start, issue, payload }| {
+        [house.into(), start, issue.into(), payload.len() as u32]
+    });
+    (numbers.collect(), recordings.flat_map(|recording| recording.payload).copied().collect())
+}
+
+pub fn archive_read(file: &[u8], list: &mut [u32], payloads: &mut [u8], answer: &mut [u32]) -> u32 {
+    let (false, (fours, []), 2) = (watched(), list.as_chunks_mut(), answer.len()) else {
+        return ffi::archive_read(file, list, payloads, answer);
+    };
+    let told = match wavpack_stereo::archive_read(file, fours, payloads).map(lists_of) {
+        Ok((numbers, bytes)) => {
+            answer.copy_from_slice(&[numbers.len() as u32 / 4, bytes.len() as u32]);
+            let same = list.starts_with(&numbers) && payloads.starts_with(&bytes);
+            return if same { 0 } else { PARTED };
+        }
+        Err(told) => told,
+    };
+    let refusal = both(told.refusal, ffi::archive_read(file, list, payloads, answer));
+    let bad_block = (refusal == 18).then_some(answer[0] as usize);
+    if told.bad_block == bad_block { refusal } else { PARTED }
 }

@@ -4,60 +4,17 @@
 //! The functions of the crate's root are made of these and are the ones to call. These accept lists
 //! of any length and answer a number, 0 for accepted; with the feature `ffi` they are public, so
 //! that tests can lend lists with too few slots or too many. What each writes when it refuses
-//! stands in the header too: `read` then writes its answer, `word` sample 0 and report 0, 0, and
-//! `pack` an answer of zeros.
+//! stands in the header too: `read` then writes its answer, `word` sample 0 and report 0, 0, `pack` an
+//! answer of zeros, and `archive_read` the number of a bad block.
 //!
-//! All unsafe code of the crate is in this file. It rests on two things. The header promises that a
-//! function reads and writes nothing beyond the elements that it is given, and keeps no pointer. And a
-//! slice is not null, is aligned, has as many elements as its length says, and where it is written is
-//! lent to this call alone. These two together are "list" in the comments below.
+//! All unsafe code of the crate is in this file and in `declared`. It rests on two things. The header
+//! promises that a function reads and writes nothing beyond the elements that it is given, and keeps no
+//! pointer. And a slice is not null, is aligned, has as many elements as its length says, and where it is
+//! written is lent to this call alone. These two together are "list" in the comments below.
 use crate::{Delta, Int32Info, Pass, Weight};
 
-#[rustfmt::skip]
-unsafe extern "C" {
-    fn wv_log_word(word: i16, value: *mut i32, value_len: usize) -> u32;
-    fn wv_term_byte(byte: u8, out: *mut i32, out_len: usize) -> u32;
-    fn wv_weight_byte(byte: u8, out: *mut i32, out_len: usize) -> u32;
-    fn wv_entropy(entropy: *const u8, entropy_len: usize, medians: *mut i32, medians_len: usize) -> u32;
-    fn wv_read(
-        entropy: *const u8, entropy_len: usize, payload: *const u8, payload_len: usize, frames: usize,
-        samples: *mut i32, samples_len: usize, answer: *mut u32, answer_len: usize,
-    ) -> u32;
-    fn wv_word(
-        payload: *const u8, payload_len: usize, state: *mut u32, state_len: usize,
-        sample: *mut i32, sample_len: usize, report: *mut u32, report_len: usize,
-    ) -> u32;
-    fn wv_pass(
-        term: i8, delta: i32, weight_a: i32, weight_b: i32, seed_a: *const i32, seed_a_len: usize,
-        seed_b: *const i32, seed_b_len: usize, pass: *mut i32, pass_len: usize,
-    ) -> u32;
-    fn wv_decorrelate(passes: *mut i32, passes_len: usize, buffer: *mut i32, buffer_len: usize) -> u32;
-    fn wv_analyse(passes: *mut i32, passes_len: usize, buffer: *mut i32, buffer_len: usize) -> u32;
-    fn wv_pack(
-        residuals: *const i32, residuals_len: usize, entropy: *const u8, entropy_len: usize, frames: usize,
-        out: *mut u8, out_len: usize, answer: *mut u32, answer_len: usize,
-    ) -> u32;
-    fn wv_wave_export(
-        rate: u32, samples: *const i32, samples_len: usize, out: *mut u8, out_len: usize,
-        answer: *mut u32, answer_len: usize,
-    ) -> u32;
-    fn wv_wave_import(
-        file: *const u8, file_len: usize, samples: *mut i32, samples_len: usize,
-        answer: *mut u32, answer_len: usize,
-    ) -> u32;
-    fn wv_morning_page(
-        samples: *const i32, samples_len: usize, threshold: u32, page: *mut u8, page_len: usize,
-        answer: *mut u32, answer_len: usize,
-    ) -> u32;
-    fn wv_reassemble_int32(
-        sent_bits: u32, zeros: u32, ones: u32, dups: u32, samples: *mut i32, samples_len: usize,
-        literal: *const u8, literal_len: usize, answer: *mut u32, answer_len: usize,
-    ) -> u32;
-    fn wv_deconstruct_int32(
-        sent_bits: u32, zeros: u32, ones: u32, dups: u32, samples: *mut i32, samples_len: usize,
-        literal: *mut u8, literal_len: usize, answer: *mut u32, answer_len: usize,
-    ) -> u32;
-}
+mod declared;
+use declared::*;
 
 /// `wv_log_word`: 1 slot.
 pub fn log_word(word: i16, value: &mut [i32]) -> u32 {
@@ -210,6 +167,33 @@ pub fn deconstruct_int32(
         wv_deconstruct_int32(
             sent_bits, zeros, ones, dups, samples.as_mut_ptr(), samples.len(),
             literal.as_mut_ptr(), literal.len(), answer.as_mut_ptr(), answer.len(),
+        )
+    }
+}
+
+/// `wv_archive_write`: an answer of 1 slot.
+#[rustfmt::skip]
+pub fn archive_write(
+    house: u16, start: u32, issue: u16, payload: &[u8], out: &mut [u8], answer: &mut [u32],
+) -> u32 {
+    // SAFETY: all three are lists, whatever the numbers are; only `out` and `answer`, each lent to
+    // this call alone, are written.
+    unsafe {
+        wv_archive_write(
+            house, start, issue, payload.as_ptr(), payload.len(), out.as_mut_ptr(), out.len(),
+            answer.as_mut_ptr(), answer.len(),
+        )
+    }
+}
+
+/// `wv_archive_read`: 4 numbers for each recording in `list`, an answer of 2 slots.
+#[rustfmt::skip]
+pub fn archive_read(file: &[u8], list: &mut [u32], payloads: &mut [u8], answer: &mut [u32]) -> u32 {
+    // SAFETY: all four are lists; only the last three, each lent to this call alone, are written.
+    unsafe {
+        wv_archive_read(
+            file.as_ptr(), file.len(), list.as_mut_ptr(), list.len(),
+            payloads.as_mut_ptr(), payloads.len(), answer.as_mut_ptr(), answer.len(),
         )
     }
 }

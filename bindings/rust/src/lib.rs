@@ -1,6 +1,6 @@
 //! The proved decoder and writer of stereo WavPack recordings, for greenhouse controllers in Rust.
 //!
-//! Thin and safe functions over the archive `libwavpack_stereo.a`: each hands its slices to the C
+//! Thin and safe functions over the library `libwavpack_stereo.a`: each hands its slices to the C
 //! interface and names what it answers. Nothing is allocated, no list is copied, and no state is kept
 //! between calls. They have the names of the C functions, without `wv_`, and the same order of arguments.
 //!
@@ -21,9 +21,12 @@
 //! | [`morning_page`] | writes peaks and clicks of samples as a page of text |
 //! | [`reassemble_int32`] | completes samples that are wider than the words, after [`decorrelate`] |
 //! | [`deconstruct_int32`] | makes such samples narrow, before [`analyse`] |
+//! | [`archive_write`] | writes a packed recording as blocks of an archive file |
+//! | [`archive_read`] | reads such a file: the recordings that are in force |
 //!
 //! The example `wv_file` decodes real `.wv` files, by the steps of docs/WV_FILES.md; `sound_file` exports a
-//! recording, `clicks` prints its morning page, and `stem_bits` what each stem costs in bits a sample.
+//! recording, `clicks` prints its morning page, `stem_bits` what each stem costs in bits a sample, and
+//! `archive` keeps recordings in an archive file.
 //!
 //! ```
 //! use wavpack_stereo::{BYTES_PER_FRAME, Delta, Pass, Refusal, Weight};
@@ -45,9 +48,9 @@
 //! ```
 //!
 //! Every function tests its input itself and ends on every input. What it does not accept it refuses
-//! with a [`Refusal`], and then `state`, `passes`, `buffer`, `samples`, `out`, `page` and `literal` are
-//! as they were, with one exception: a reading that a word ends has written the samples of the words
-//! before it, and reports how many ([`ReadError`]).
+//! with a [`Refusal`], and then `state`, `passes`, `buffer`, `samples`, `out`, `page`, `literal`, `list` and
+//! `payloads` are as they were, with one exception: a reading that a word ends has written the samples of
+//! the words before it, and reports how many ([`ReadError`]).
 //!
 //! Numbers of bits are `u32`, as in the C interface; numbers of bytes and elements are `usize`.
 //!
@@ -58,6 +61,7 @@
 #![warn(clippy::missing_errors_doc, clippy::must_use_candidate)]
 #![deny(unsafe_code)]
 
+mod archive;
 #[allow(unsafe_code)]
 #[cfg(feature = "ffi")]
 pub mod ffi;
@@ -76,6 +80,7 @@ mod values;
 mod wave;
 mod words;
 
+pub use archive::{ArchiveError, Recording, Recordings, archive_read, archive_write};
 pub use int32::{Int32Info, deconstruct_int32, reassemble_int32};
 pub use limits::*;
 pub use packing::{Packed, pack};

@@ -1,10 +1,11 @@
-//! The limits, spans and sizes of the C interface, as `include/wavpack_stereo.h` has them.
+//! The limits, spans and sizes of the C interface, as `include/wavpack_stereo_limits.h` has them.
 
 /// The most frames of a block to read or to pack.
 pub const MAX_FRAMES: usize = 131_072;
 /// The most elements of a list of samples or residuals: a frame has two.
 pub const MAX_ELEMENTS: usize = 262_144;
-/// The most payload bytes that [`read`](crate::read) and [`word`](crate::word) accept.
+/// The most payload bytes that [`read`](crate::read), [`word`](crate::word) and
+/// [`archive_write`](crate::archive_write) accept.
 pub const MAX_PAYLOAD_BYTES: usize = 4_194_304;
 /// The most bytes of a sound file: those of [`MAX_FRAMES`] frames.
 pub const MAX_WAVE_BYTES: usize = 524_332;
@@ -45,6 +46,15 @@ pub const LINE_BYTES: usize = 45;
 /// How many frames a line of a morning page covers; the last line covers those that are left.
 pub const LINE_FRAMES: usize = 1_024;
 
+/// How many bytes a block of an archive has.
+pub const ARCHIVE_BLOCK_BYTES: usize = 512;
+/// How many bytes of a recording a block of an archive holds at most.
+pub const ARCHIVE_DATA_BYTES: usize = 504;
+/// How many bytes of a recording in an archive stand before its payload.
+pub const ARCHIVE_HEAD_BYTES: usize = 12;
+/// How many numbers the list of [`archive_read`](crate::archive_read) has for each recording.
+pub const ARCHIVE_NUMBERS_PER_RECORDING: usize = 4;
+
 /// How many bytes the morning page of so many frames has.
 ///
 /// ```
@@ -54,6 +64,17 @@ pub const LINE_FRAMES: usize = 1_024;
 #[must_use]
 pub const fn page_bytes(frames: usize) -> usize {
     LINE_BYTES * frames.div_ceil(LINE_FRAMES)
+}
+
+/// How many bytes a recording with so many payload bytes has in an archive.
+///
+/// ```
+/// use wavpack_stereo::archive_bytes;
+/// assert_eq!([0, 492, 493, 996, 997].map(archive_bytes), [512, 512, 1_024, 1_024, 1_536]);
+/// ```
+#[must_use]
+pub const fn archive_bytes(length: usize) -> usize {
+    ARCHIVE_BLOCK_BYTES * (ARCHIVE_HEAD_BYTES + length).div_ceil(ARCHIVE_DATA_BYTES)
 }
 
 /// How many bytes hold so many bits, as [`pack`](crate::pack) and
@@ -75,14 +96,15 @@ mod tests {
     use crate::{Medians, Packed, Pass, Reading, TermByte, Wave, WordState, Zone};
 
     const HEADER: &str = include_str!("../../../include/wavpack_stereo.h");
+    const LIMITS: &str = include_str!("../../../include/wavpack_stereo_limits.h");
 
     fn slots_of<T: Slots>() -> i64 {
         (size_of::<T::List>() / size_of::<u32>()) as i64
     }
 
-    /// The numbers that the header defines: names without `WV_`, and values.
+    /// The numbers that the two headers define: names without `WV_`, and values.
     fn defined() -> impl Iterator<Item = (&'static str, i64)> {
-        HEADER.lines().filter_map(|line| {
+        HEADER.lines().chain(LIMITS.lines()).filter_map(|line| {
             let (name, rest) = line.strip_prefix("#define WV_")?.split_once(' ')?;
             let value = rest.split(" /*").next()?.trim_matches(|c: char| "()u ".contains(c));
             Some((name, value.parse().ok()?))
@@ -90,7 +112,7 @@ mod tests {
     }
 
     #[test]
-    fn the_header_defines_these_numbers_and_no_others() {
+    fn the_headers_define_these_numbers_and_no_others() {
         let [major, minor, patch] = [
             env!("CARGO_PKG_VERSION_MAJOR"),
             env!("CARGO_PKG_VERSION_MINOR"),
@@ -121,6 +143,10 @@ mod tests {
             ("LITERAL_BYTES_PER_SAMPLE", LITERAL_BYTES_PER_SAMPLE as i64),
             ("LINE_BYTES", LINE_BYTES as i64),
             ("LINE_FRAMES", LINE_FRAMES as i64),
+            ("ARCHIVE_BLOCK_BYTES", ARCHIVE_BLOCK_BYTES as i64),
+            ("ARCHIVE_DATA_BYTES", ARCHIVE_DATA_BYTES as i64),
+            ("ARCHIVE_HEAD_BYTES", ARCHIVE_HEAD_BYTES as i64),
+            ("ARCHIVE_NUMBERS_PER_RECORDING", ARCHIVE_NUMBERS_PER_RECORDING as i64),
             ("LOG_WORD_SLOTS", 1),
             ("TERM_BYTE_SLOTS", slots_of::<TermByte>()),
             ("WEIGHT_BYTE_SLOTS", 1),
@@ -136,8 +162,10 @@ mod tests {
             ("MORNING_PAGE_SLOTS", 1),
             ("REASSEMBLE_INT32_SLOTS", 1),
             ("DECONSTRUCT_INT32_SLOTS", 1),
+            ("ARCHIVE_WRITE_SLOTS", 1),
+            ("ARCHIVE_READ_SLOTS", 2),
         ];
-        assert!(defined().eq(expected), "the header differs from the numbers here");
+        assert!(defined().eq(expected), "the headers differ from the numbers here");
         assert!(HEADER.contains(concat!("#define WV_VERSION \"", env!("CARGO_PKG_VERSION"), "\"\n")));
     }
 

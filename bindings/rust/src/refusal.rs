@@ -10,7 +10,7 @@ macro_rules! refusals {
         #[non_exhaustive]
         pub enum Refusal {
             $(#[doc = concat!($number, ": ", $why, ".")] $name,)*
-            /// A number that these bindings have no name for: the archive that they are linked with
+            /// A number that these bindings have no name for: the library that they are linked with
             /// is newer. It is neither 0 nor the number of another variant.
             #[non_exhaustive]
             Unknown {
@@ -80,6 +80,8 @@ refusals! {
     15 FieldAbove31 "sent_bits, zeros, ones or dups is above 31",
     16 NotReinsertable "a sample whose low bits are not those that zeros, ones or dups put in",
     17 LogWordOutOfReach "a log word outside -8,191 to 8,191",
+    18 BadBlock "a block of an archive is damaged, cut short, or not the one that has to follow",
+    19 RecordingTwice "an archive has the same house, start second and issue twice",
 }
 
 impl Refusal {
@@ -104,7 +106,7 @@ mod tests {
         for number in (1..100).chain([u32::MAX]) {
             let refusal = Refusal::outcome(number).unwrap_err();
             assert_eq!(refusal.number(), number);
-            assert_eq!(matches!(refusal, Refusal::Unknown { .. }), number > 17);
+            assert_eq!(matches!(refusal, Refusal::Unknown { .. }), number > 19);
         }
     }
 }

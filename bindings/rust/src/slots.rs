@@ -1,5 +1,5 @@
-//! The slots of the C interface and what they hold: the order of each list stands here, but for that
-//! of a pass, which stands with `Pass`, and nowhere else in Rust.
+//! The slots of the C interface and what they hold: the order of each list stands here, but for those of
+//! a pass and of an archive, which stand with `Pass` and `Recordings`, and nowhere else in Rust.
 use crate::{Delta, Medians, Packed, Reading, TermByte, Wave, WordState, Zone};
 
 /// A value that the C interface reads or writes as a list of numbers, its slots, in the order of

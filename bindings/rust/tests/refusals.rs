@@ -1,5 +1,5 @@
 //! Each refusal, reached through the safe functions, and that the lent lists are then as they were. More
-//! of the log words out of reach is in reach.rs.
+//! of the log words out of reach is in reach.rs; the refusals of archives are in archives.rs.
 mod marks;
 
 use marks::{unpacked, unread};

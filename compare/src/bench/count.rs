@@ -2,7 +2,7 @@
 //! before it, and the output is checked after it.
 use super::passes::{self, sixteen};
 use super::reading::sounds;
-use super::{int32, int32_loops, pages, waves};
+use super::{archives, int32, int32_loops, pages, waves};
 use crate::ours;
 use crate::plain_int32::BYTES_PER_SAMPLE;
 use crate::random::Random;
@@ -79,6 +79,20 @@ fn sound_file(random: &mut Random, import: bool, ours: bool) {
     }
 }
 
+/// Writing, or reading, the longest payload as an archive file, where theirs is the plain loop.
+fn archive_file(random: &mut Random, writing: bool, ours: bool) {
+    let input = archives::longest(random);
+    if writing {
+        let mut out = vec![0x5a; input.file.len()];
+        counted(|| archives::write(ours, &input, &mut out)).unwrap();
+        assert!(out == input.file);
+    } else {
+        let (mut list, mut payloads) = (vec![0x5a; 4], vec![0x5a; input.payloads.len()]);
+        counted(|| archives::read(ours, &input.file, &mut list, &mut payloads)).unwrap();
+        assert!(list == input.list && payloads == input.payloads);
+    }
+}
+
 /// The morning page of the sound with this name, where theirs is the plain loop; none where there is
 /// no such sound.
 fn page(random: &mut Random, name: &str, ours: bool) -> Option<()> {
@@ -111,10 +125,10 @@ fn wide_samples(random: &mut Random, sent_bits: u32, way: &str, back: bool, ours
 }
 
 /// Makes the call that the words name: `ours` or `theirs`; `reading` or `packing`, of the loud sound
-/// or of the one that they name; `export` or `import`; `page` of noise or of the sound that they
-/// name; `reassembly` or `deconstruction` with so many sent bits and `none`, `zeros`, `ones` or
-/// `dups`; `decorrelation` or `analysis`, of a term or, by `sixteen`, of 16 passes. None where they
-/// name none.
+/// or of the one that they name; `export` or `import`; `archive` and then `write` or `read`; `page` of
+/// noise or of the sound that they name; `reassembly` or `deconstruction` with so many sent bits and
+/// `none`, `zeros`, `ones` or `dups`; `decorrelation` or `analysis`, of a term or, by `sixteen`, of 16
+/// passes. None where they name none.
 pub fn run(words: &[&str], seed: u64) -> Option<()> {
     let random = &mut Random::new(seed);
     let [side @ ("ours" | "theirs"), ref call @ ..] = *words else {
@@ -125,6 +139,7 @@ pub fn run(words: &[&str], seed: u64) -> Option<()> {
         [what @ ("reading" | "packing")] => sound(random, "loud", what == "packing", ours)?,
         [what @ ("reading" | "packing"), name] => sound(random, name, what == "packing", ours)?,
         [what @ ("export" | "import")] => sound_file(random, what == "import", ours),
+        ["archive", what @ ("write" | "read")] => archive_file(random, what == "write", ours),
         ["page"] => page(random, "noise", ours)?,
         ["page", name] => page(random, name, ours)?,
         [what @ ("reassembly" | "deconstruction"), sent_bits, way] => {

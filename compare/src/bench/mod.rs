@@ -1,6 +1,6 @@
-//! The speed of the library and of the published Rust on the same inputs, in one run. Sound files
-//! and morning pages are no part of the published Rust: there a plain loop stands for it. Wide
-//! samples have both. With the feature `before` an earlier archive reads beside them.
+//! The speed of the library and of the published Rust on the same inputs, in one run. Sound files,
+//! morning pages and archive files are no part of the published Rust: there a plain loop stands for it.
+//! Wide samples have both. With the feature `before` an earlier archive reads beside them.
 //!
 //! The sides take turns, and the best of all turns counts. Each turn starts from fresh copies,
 //! which are made before the clock starts. The outputs are compared.
@@ -10,6 +10,8 @@ use reading::Read;
 use std::time::{Duration, Instant};
 use words::Word;
 
+mod archive_loops;
+mod archives;
 #[cfg(feature = "before")]
 mod before;
 pub mod count;
@@ -70,7 +72,8 @@ fn timed<T>(work: impl FnOnce() -> T) -> (Duration, T) {
 }
 
 pub fn run(seed: u64) {
-    println!("{MAX_FRAMES} frames, best of {TURNS} turns each, milliseconds\n");
+    let few = archives::FEW_TURNS;
+    println!("{MAX_FRAMES} frames, best of {TURNS} turns each, of large archive files {few}, milliseconds\n");
     match BEFORE {
         None => println!("| input | ours | the Rust | times as fast |\n|---|---:|---:|---:|"),
         Some(_) => {
@@ -87,4 +90,5 @@ pub fn run(seed: u64) {
     waves::run(random);
     pages::run(random);
     int32::run(random);
+    archives::run(random);
 }

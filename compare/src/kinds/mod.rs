@@ -1,6 +1,11 @@
 //! The kinds of comparison, one module each.
 use crate::case::{Failed, Run};
 
+mod archive_bytes;
+pub mod archive_case;
+mod archive_keys;
+mod archive_reads;
+pub mod archive_writes;
 mod chosen_fields;
 mod counts;
 pub mod deconstruction;
@@ -44,4 +49,8 @@ pub const KINDS: &[Kind] = &[
     ("reassembly of wide samples", reassembly::run),
     ("deconstruction of wide samples", deconstruction::run),
     ("deconstruction by fields that the Rust chose", chosen_fields::run),
+    ("recordings written as archive files", archive_writes::run),
+    ("archive files read", archive_reads::run),
+    ("archive files with one byte altered", archive_bytes::run),
+    ("archive files with superseded recordings", archive_keys::run),
 ];

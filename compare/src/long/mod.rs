@@ -1,6 +1,6 @@
 //! Damaged inputs by the million: payloads, states, pass lists, packings, sound files, recordings for
-//! morning pages and wide samples that were real and then damaged, each answered as the published
-//! Rust, or the rule, answers.
+//! morning pages, wide samples and archive files that were real and then damaged, each answered as the
+//! published Rust, or the rule, answers.
 //!
 //! Every list that is lent stands in turn right before a page that must not be touched, right
 //! after such a page, and in a block of the heap of its own. A child compares, so that a stray
@@ -15,6 +15,7 @@ use recordings::Recordings;
 use std::ops::Range;
 use std::time::{Duration, Instant};
 
+mod archives;
 mod damage;
 mod int32;
 mod packs;
@@ -35,9 +36,9 @@ pub struct Bounds {
 /// A kind: its name, how many of 100 inputs are of it, and what makes and compares one.
 type Kind = (&'static str, usize, fn(&mut Run, &Recordings) -> Result<(), Failed>);
 
-const KINDS: [Kind; 11] = [
-    ("damaged payloads, read whole", 33, |run, from| one(run, |random| reads::read(random, from))),
-    ("damaged payloads and states, read by words", 21, |run, from| {
+const KINDS: [Kind; 13] = [
+    ("damaged payloads, read whole", 30, |run, from| one(run, |random| reads::read(random, from))),
+    ("damaged payloads and states, read by words", 20, |run, from| {
         one(run, |random| words::word(random, from))
     }),
     ("damaged entropy payloads", 4, |run, from| one(run, |random| reads::entropy(random, from))),
@@ -51,6 +52,10 @@ const KINDS: [Kind; 11] = [
     ("damaged deconstruction of wide samples", 3, |run, from| {
         one(run, |random| int32::deconstruction(random, from))
     }),
+    ("damaged recordings written as archive files", 1, |run, from| {
+        one(run, |random| archives::write(random, from))
+    }),
+    ("damaged archive files", 3, |run, from| one(run, |random| archives::read(random, from))),
 ];
 
 const PLACES: [Place; 3] = [Place::BeforePage, Place::AfterPage, Place::Block];

@@ -3,7 +3,7 @@
 use mathlib.Core.Path.{_≡_, refl, ap, _∙_}
 use mathlib.Core.Bool.{Bool, true, false}
 use mathlib.Core.List.{List, [], _∷_}
-use Prim.Native.Nat.{ℕ, _+_, _*_, _/_, _≤_, _<_}
+use Prim.Native.Nat.{ℕ, _≤_, _<_}
 use native.Mathlib.Omega.{arith}
 use borrow.Author.Tests.{ltb-false}
 use lib.Dec.{ltb}
@@ -37,11 +37,13 @@ module _ (r : Recording) (out : List ℕ) where
       rw (ap (λ (t : WriteTold). t .bytes) e) (small-if _ _ refl refl)
 
 module _ (r : Recording) (out answer : List ℕ) where
+  -- no slot: 6, and nothing is written
   pub write-short : (n : ℕ) → n ≡ 6 → length answer < 1
       → record { refusal = n; list = out; answer = answer } ≡ writeCall r out answer
   unfolding writeCall
   write-short n e h = fill-short 1 out _ answer _ _ n e h
 
+  -- what the writer refuses: the slot is as it was
   pub write-refused : (o : Outcome) (x : Refusal) (b n : ℕ) (after : List ℕ) → 1 ≤ length answer
       → record { refusal = outcomeNumber o; bytes = b; out = after } ≡ writeEntry r out
       → o ≡ Outcome.Refused x → n ≡ outcomeNumber o
@@ -50,6 +52,7 @@ module _ (r : Recording) (out answer : List ℕ) where
   write-refused o x b n after h e q k = fill-refused 1 out after answer (b ∷ []) o x n h q k
       ∙ ap (leaveWrite out answer) e
 
+  -- what it accepts: the bytes written stand in the slot
   pub write-laid : (o : Outcome) (b : ℕ) (after laid : List ℕ) → 1 ≤ length answer
       → record { refusal = outcomeNumber o; bytes = b; out = after } ≡ writeEntry r out
       → o ≡ Outcome.Accepted → laid ≡ overlay answer 0 (b ∷ [])
