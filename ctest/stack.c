@@ -10,7 +10,7 @@
 #include <ucontext.h>
 #include "wavpack_stereo.h"
 
-enum { STACK = 1 << 16, PATTERN = 0xa5, ROUNDS = 2000, FRAMES = 64, MOST_PASSES = 17 };
+enum { STACK = 1 << 18, PATTERN = 0xa5, ROUNDS = 2000, FRAMES = 64, MOST_PASSES = 17 };
 enum { TWO_LINES = 4 * WV_LINE_FRAMES, KEPT = 6, KEPT_BYTES = 2 * WV_ARCHIVE_BLOCK_BYTES };
 
 static unsigned char stack[STACK];

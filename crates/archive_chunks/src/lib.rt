@@ -30,7 +30,7 @@ pub struct Chunk {
     pub count: usize,
     pub next: usize,
     pub twice: bool,
-    pub superseded: [bool; 1024],
+    pub superseded: [bool; 4096],
 }
 
 // House, start second and issue as one number.
@@ -116,10 +116,10 @@ pub fn chunk_at(file: &[u8], at: usize, first: usize) -> Chunk
         ChunkIs (now (file .entry)) at first (r .count) (r .next) (r .twice) (r .superseded)
         ⌝ }
 {
-    let mut keys = [0u64; 1024];
-    let mut heads = [0u16; 2039];
-    let mut links = [0u16; 1024];
-    let mut marks = [false; 1024];
+    let mut keys = [0u64; 4096];
+    let mut heads = [0u16; 8191];
+    let mut links = [0u16; 4096];
+    let mut marks = [false; 4096];
     let loaded = load_keys(file, at, first, &mut keys);
     let count = loaded.count;
     chain(&keys, count, &mut heads, &mut links);

@@ -22,7 +22,7 @@ bucket-below key = mod-lt (key / 65536) (omega arith)
 pub beats-bucket : (key other : ℕ) → beats key other ≡ true → bucketOf other ≡ bucketOf key
 unfolding beats bucketOf
 beats-bucket key other e =
-    ap (λ (n : ℕ). n % 2039) (sym (eqb-true (key / 65536) (other / 65536) (and-eq-true-iff _ _ .0 e .0)))
+    ap (λ (n : ℕ). n % 8191) (sym (eqb-true (key / 65536) (other / 65536) (and-eq-true-iff _ _ .0 e .0)))
 
 -- so one of another bucket is not superseded
 pub beats-apart : (key other : ℕ) → (bucketOf other ≡ bucketOf key → ⊥) → beats key other ≡ false

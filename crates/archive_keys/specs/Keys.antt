@@ -26,11 +26,11 @@ beaten (key ∷ keys) other = beats key other || beaten keys other
 
 -- the bucket of a key
 unfoldable pub bucketOf : ℕ → ℕ
-bucketOf key = key / 65536 % 2039
+bucketOf key = key / 65536 % 8191
 
 -- keys of a chunk, and buckets
 abbrev pub chunk : ℕ
-chunk = 1024
+chunk = 4096
 
 abbrev pub buckets : ℕ
-buckets = 2039
+buckets = 8191

@@ -10,16 +10,16 @@ ghost use Rattle.archive_keys.specs.Keys.{bucketOf, beats, chunk, bucket
 ghost use Rattle.archive_keys.specs.Chains.{Chained, NoHeads, Marked, Met, elsewhere};
 
 // Keys of a chunk.
-pub const CHUNK: usize = 1024;
+pub const CHUNK: usize = 4096;
 
 // Buckets: a prime number, so that seconds in a row have buckets in a row.
-pub const BUCKETS: usize = 2039;
+pub const BUCKETS: usize = 8191;
 
 // The bucket of a key: that of its house and start second.
 fn bucket(key: u64) -> usize
     ensures { λ r. ⌜ r ≡ bucketOf key ⌝ }
 {
-    (key / 65536 % 2039) as usize
+    (key / 65536 % 8191) as usize
 }
 
 // Whether a key supersedes another: the same house and start second, and a higher issue.
