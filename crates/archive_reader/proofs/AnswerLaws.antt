@@ -8,10 +8,20 @@ use native.Mathlib.Omega.{arith}
 use borrow.Author.Tests.{lt-ltb, le-ltb}
 use lib.Dec.{ltb}
 use lib.ListN.{length}
+use Rattle.answers.specs.declared.Outcome.{Outcome}
+use Rattle.answers.specs.declared.Refusal.{Refusal}
+use Rattle.answers.specs.Numbers.{numberOf}
 use Rattle.overlay.specs.Overlay.{overlay}
 use Rattle.archive.specs.Faults.{blocksIn, goodBlocks, hasBad}
 use Rattle.archive.specs.Listing.{recordingsOf, inForce, twice, listed, payloads}
-use Rattle.archive_reader.specs.Read.{ReadTold, refuseRead, tellRead, readEntry, CountsAre}
+use Rattle.archive_reader.specs.Read.{ReadTold, viewRead, refuseRead, tellRead, readEntry}
+use Rattle.archive_reader.specs.declared.ArchiveRead.{ArchiveRead}
+
+-- the answer that a refusal's struct holds
+pub refused-is : (list storage : List ℕ) (x : Refusal) (block : ℕ) {r : ArchiveRead} {told : ReadTold}
+    → r ≡ record { outcome = Outcome.Refused x; block = block; recordings = 0; bytes = 0 }
+    → refuseRead list storage (numberOf x) block ≡ told → viewRead r list storage ≡ told
+refused-is list storage x block e t = ap (λ (r : ArchiveRead). viewRead r list storage) e ∙ t
 
 module _ (file list storage : List ℕ) where
   -- 18, with the block

@@ -86,6 +86,20 @@ fn deliver(file: &[u8], list: &mut [u32], out: &mut [u8])
     }
 }
 
+// A refusal, and the block that it comes with.
+fn refused(refusal: Refusal, block: usize) -> ArchiveRead
+    ensures { λ r. ⌜
+        r ≡ record { outcome = Outcome.Refused refusal; block = block; recordings = 0; bytes = 0 }
+        ⌝ }
+{
+    ArchiveRead {
+        outcome: Outcome::Refused(refusal),
+        block: block,
+        recordings: 0,
+        bytes: 0,
+    }
+}
+
 // Lists the recordings in force, four numbers each, and lays their payloads one after the other; answers
 // how many there are and how many bytes their payloads have. Refuses with 18 and the first bad block,
 // then with 19 and 11; list and storage are then as they were.
@@ -97,37 +111,17 @@ pub fn read_archive(file: &[u8], list: &mut [u32], out: &mut [u8]) -> ArchiveRea
 {
     let good = good_blocks(file);
     if good < blocks_in(file.len()) {
-        return ArchiveRead {
-            outcome: Outcome::Refused(Refusal::BadBlock),
-            block: good,
-            recordings: 0,
-            bytes: 0,
-        };
+        return refused(Refusal::BadBlock, good);
     }
     let counted = count_all(file);
     if counted.twice {
-        return ArchiveRead {
-            outcome: Outcome::Refused(Refusal::RecordingTwice),
-            block: 0,
-            recordings: 0,
-            bytes: 0,
-        };
+        return refused(Refusal::RecordingTwice, 0);
     }
     if list.len() < 4 * counted.recordings {
-        return ArchiveRead {
-            outcome: Outcome::Refused(Refusal::OutputTooShort),
-            block: 0,
-            recordings: 0,
-            bytes: 0,
-        };
+        return refused(Refusal::OutputTooShort, 0);
     }
     if out.len() < counted.bytes {
-        return ArchiveRead {
-            outcome: Outcome::Refused(Refusal::OutputTooShort),
-            block: 0,
-            recordings: 0,
-            bytes: 0,
-        };
+        return refused(Refusal::OutputTooShort, 0);
     }
     deliver(file, list, out);
     ArchiveRead {

@@ -7,13 +7,14 @@ use native.Mathlib.Omega.{arith}
 use denote.Ref.{now}
 use lib.ListN.{length}
 use borrow.Author.Needs.{needs}
+use Rattle.answers.specs.declared.Refusal.the-variants.{BadBlock, RecordingTwice, OutputTooShort}
 use Rattle.archive.specs.Block.{Bytes}
 use Rattle.archive.specs.Faults.{fileBlocks, blocksIn, goodBlocks, hasBad}
 use Rattle.archive.specs.Listing.{recordingsOf, inForce, twice, payloads, Sound}
 use Rattle.archive.proofs.AlteredLaws.{cut-count}
 use Rattle.archive.proofs.FaultLaws.{good-most}
 use Rattle.archive.proofs.OnlyLaws.{sound}
-use Rattle.archive_reader.proofs.AnswerLaws.{read-bad, read-twice, read-list, read-storage}
+use Rattle.archive_reader.proofs.AnswerLaws.{refused-is, read-bad, read-twice, read-list, read-storage}
 use Rattle.archive_reader.proofs.AnswerLaws.{read-accepted, all-good, no-bad}
 use Rattle.archive_reader.proofs.read_archive.Statement.{statement}
 use Rattle.archive_reader.proofs.read_archive.Tie as tie
@@ -27,8 +28,9 @@ bytes c i = c .before .before .before .before .shared-slice-known .given i .fits
 
 returns : tie.Need-returns
 returns c =
-    read-bad _ _ _ _ _ (c .before .before .good-blocks .ensures) (c .before .blocks-in .ensures)
-    (c .if1 .taken)
+    let t = c .before in
+    refused-is _ _ BadBlock _ (c .refused .ensures)
+    (read-bad _ _ _ _ _ (t .before .before .good-blocks .ensures) (t .before .blocks-in .ensures) (t .if1 .taken))
 
 -- all blocks are right
 right : (c : tie.Else1) → goodBlocks (now (start (c .before) .args .file)) ≡ blocksIn
@@ -67,20 +69,30 @@ storage-fits : (c : tie.Else4) → let a = first-of (counted-of (c .before .befo
 storage-fits c = let e = counted-of (c .before .before) .count-all .ensures .summed in let h = c .if4 .left
     in omega arith
 
+returns-2 : tie.Need-returns-2
+returns-2 c =
+    let x = c .before .before in
+    refused-is _ _ RecordingTwice 0 (c .refused2 .ensures)
+    (read-twice _ _ _ (no-bad-of x) (sym (x .count-all .ensures .repeated) ∙ c .before .if2 .taken))
+
 returns-3 : tie.Need-returns-3
 returns-3 c =
-    let x = c .before .before .before in
+    let t = c .before in
+    let x = t .before .before .before in
     let e = x .count-all .ensures .counted in
-    let h = c .if3 .taken in
-    read-list _ _ _ (no-bad-of x) (apart (c .before .before)) (omega arith)
+    let h = t .if3 .taken in
+    refused-is _ _ OutputTooShort 0 (c .refused3 .ensures)
+    (read-list _ _ _ (no-bad-of x) (apart (t .before .before)) (omega arith))
 
 returns-4 : tie.Need-returns-4
 returns-4 c =
-    let o = c .before .before in
+    let t = c .before in
+    let o = t .before .before in
     let x = counted-of o in
     let e = x .count-all .ensures .summed in
-    let h = c .if4 .taken in
-    read-storage _ _ _ (no-bad-of x) (apart (o .before .before)) (list-fits o) (omega arith)
+    let h = t .if4 .taken in
+    refused-is _ _ OutputTooShort 0 (c .refused4 .ensures)
+    (read-storage _ _ _ (no-bad-of x) (apart (o .before .before)) (list-fits o) (omega arith))
 
 deliver-requires : tie.Need-deliver-requires
 deliver-requires c κs =
@@ -104,12 +116,15 @@ read-archive-spec =
     (tie.spec
     (λ c κs. search needs)
     (λ c κs. search needs)
+    (λ c κs. search needs)
     returns
     (λ c κs. whole c)
-    (λ c. read-twice _ _ _ (no-bad-of (c .before)) (sym (c .before .count-all .ensures .repeated)
-    ∙ c .if2 .taken))
+    (λ c κs. search needs)
+    returns-2
     (λ c. let f = c .before .before .count-all .ensures .few in omega arith)
+    (λ c κs. search needs)
     returns-3
+    (λ c κs. search needs)
     returns-4
     deliver-requires
     (λ c. search needs)
