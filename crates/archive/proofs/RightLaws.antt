@@ -82,9 +82,6 @@ number-of count l e b = sym (rw e at (number-bytes-back l b))
 module _ (last : Bool) (announced before : ℕ) (b : List ℕ) (r : Right last announced before b)
     (bytes : Bytes b)
     (size : length b ≡ blockBytes) where
-  u : ℕ
-  u = usedIn b
-
   few : usedIn b ≤ maxUsed
   few = rw (r .used) (used-most announced before)
 
@@ -110,10 +107,6 @@ module _ (last : Bool) (announced before : ℕ) (b : List ℕ) (r : Right last a
       let d = length-drop (4 + usedIn b) b in
       let n : length (fillingIn b) ≡ maxUsed - length (dataIn b) = let e = data-length in omega arith in
       zeros-are (fillingIn b) (r .filling) ∙ ap (λ (k : ℕ). replicate k 0) n
-
-  -- the file's bytes of the check
-  stored : List ℕ
-  stored = drop checkedBytes b
 
   parts : b ≡ blockBody before (dataIn b) ++ drop checkedBytes b
   unfolding blockBody

@@ -12,10 +12,8 @@ ghost use Rattle.archive_keys.specs.Chains.{Chained, NoHeads, Marked, Me
 // Keys of a chunk.
 pub const CHUNK: usize = 4096;
 
-// Buckets: a prime number, so that seconds in a row have buckets in a row.
-pub const BUCKETS: usize = 8191;
-
-// The bucket of a key: that of its house and start second.
+// The bucket of a key: that of its house and start second. The number of buckets is prime, so that seconds
+// at regular distances have different ones.
 fn bucket(key: u64) -> usize
     ensures { λ r. ⌜ r ≡ bucketOf key ⌝ }
 {

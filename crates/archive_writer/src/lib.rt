@@ -4,6 +4,7 @@ use answers::Outcome;
 use answers::Refusal;
 use answers::limits::MAX_PAYLOAD_BYTES;
 use block_check::BLOCK_BYTES;
+use block_check::HEAD_BYTES;
 use block_check::MAX_USED;
 use block_laying::lay_block;
 use little_endian::number_bytes;
@@ -16,9 +17,6 @@ ghost use Rattle.overlay.specs.Overlay.{overlay};
 ghost use Rattle.archive.specs.Block.{blockBytes, maxUsed, block};
 ghost use Rattle.archive.specs.Recording.{headBytes, head, blocksFor, numbered, joined};
 ghost use Rattle.archive_writer.specs.Write.{viewWrite, writeEntry};
-
-// The bytes before a payload: house, start second, issue and the payload's length.
-const HEAD_BYTES: usize = 12;
 
 // What the writer answers: how many bytes it wrote, 0 on refusal.
 pub struct Written {

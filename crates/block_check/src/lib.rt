@@ -11,6 +11,9 @@ pub const CHECKED_BYTES: usize = 508;
 
 pub const MAX_USED: usize = 504;
 
+// Bytes of a recording's stream before its payload: house, start second, issue and the payload's length.
+pub const HEAD_BYTES: usize = 12;
+
 fn wide(byte: u8) -> u32
     ensures { λ r. ⌜ r ≡ byte ⌝ }
 {

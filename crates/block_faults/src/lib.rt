@@ -4,6 +4,7 @@
 use answers::limits::MAX_PAYLOAD_BYTES;
 use block_check::BLOCK_BYTES;
 use block_check::CHECKED_BYTES;
+use block_check::HEAD_BYTES;
 use block_check::MAX_USED;
 use block_check::check_of;
 use little_endian::number;
@@ -15,9 +16,6 @@ ghost use Rattle.archive.specs.Block.{blockBytes, numberAt};
 ghost use Rattle.archive.specs.Faults.{announcedBy, usedAsked, finished, allZero, wrong, nextBefore};
 ghost use Rattle.archive.specs.Faults.{goodBlocks};
 ghost use Rattle.block_faults.specs.Open.{Open};
-
-// The bytes of a stream before its payload.
-pub const HEAD_BYTES: usize = 12;
 
 // The number that two bytes of a block hold, from a place on.
 fn short_at(block: &[u8], at: usize) -> usize
