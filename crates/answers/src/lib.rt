@@ -1,6 +1,9 @@
 // Implements document 01, "Why each operation says no", and the numbers that document 02 adds: one
 // enum for all of them, and what an entry answers. Every entry answers with an `Outcome`; none
 // refuses for a reason that is not listed here.
+
+#![tactic(auto)]
+
 ghost use Rattle.std.specs.Prelude.{◌≡◌};
 ghost use Rattle.answers.specs.Guard.{or_else};
 ghost use Rattle.answers.specs.Numbers.{number_of, outcome_number};

@@ -2,6 +2,9 @@
 // there twice. Comparing every recording with every other would take minutes for 100,000 of them, so
 // they are taken a chunk at a time: the keys of a chunk are chained, and the whole file is walked once
 // for it. A walk reads 16 bytes of each recording.
+
+#![tactic(auto)]
+
 ghost use Rattle.std.specs.Prelude.{◌≡◌, ◌+◌, ◌≤◌, ◌<◌, length};
 ghost use Rattle.archive.specs.Listing.{Sound};
 ghost use Rattle.archive.specs.Places.{At};

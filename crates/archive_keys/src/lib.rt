@@ -2,6 +2,9 @@
 // is a higher key with the same quotient by 65,536. Keys are looked up a chunk at a time, by chains:
 // `heads` has for each bucket the last key of the chunk in it, and `links` for each key the one before
 // it in the same bucket; both count from 1, and 0 ends a chain.
+
+#![tactic(auto)]
+
 ghost use Rattle.std.specs.Prelude.{◌≡◌, Bool, ◌||◌, ◌+◌, ◌≤◌, ◌<◌, length};
 ghost use Rattle.archive_keys.specs.Keys.{bucket_of, beats, chunk, buckets};
 ghost use Rattle.archive_keys.specs.Chains.{Chained, NoHeads, Marked, Met, elsewhere};

@@ -1,5 +1,8 @@
 // Recordings in force, counted and laid into lent storage one after the other: four numbers of each into
 // a list, and their payloads.
+
+#![tactic(auto)]
+
 ghost use Rattle.std.specs.Prelude.{◌≡◌, [], ◌∷◌, ◌+◌, ◌*◌, ◌≤◌, ◌<◌, length};
 ghost use Rattle.overlay.specs.Overlay.{overlay};
 ghost use Rattle.archive.specs.Recording.{blocks_for};

@@ -1,5 +1,8 @@
 // Implements document 02 §9 (Q9.4 to Q9.6): the reader of an archive. All blocks are judged first, then
 // the recordings are compared and counted; nothing is written before it is known that everything fits.
+
+#![tactic(auto)]
+
 ghost use Rattle.std.specs.Prelude.{◌≡◌, ◌*◌, ◌≤◌, length};
 ghost use Rattle.overlay.specs.Overlay.{overlay};
 ghost use Rattle.archive.specs.Listing.{recordings_of, in_force, listed, payloads, Sound};

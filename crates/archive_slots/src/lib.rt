@@ -1,4 +1,7 @@
 // The writer and the reader of archives for a caller that holds what it is told in a list of slots.
+
+#![tactic(auto)]
+
 ghost use Rattle.std.specs.Prelude.{◌≡◌, [], ◌∷◌, ◌≤◌, length};
 ghost use Rattle.overlay.specs.Overlay.{overlay};
 ghost use Rattle.archive_slots.specs.ArchiveSlots.{write_call, low_bits, read_call};

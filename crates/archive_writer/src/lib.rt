@@ -1,5 +1,8 @@
 // Implements document 02 §9 (Q9.1 to Q9.3, Q9.10): a recording as the blocks of an archive. The blocks
 // of several recordings, one after the other, are the file of all of them.
+
+#![tactic(auto)]
+
 ghost use Rattle.std.specs.Prelude.{◌≡◌, ◌++◌, ◌+◌, ◌*◌, ◌≤◌, ◌<◌, min, length, take, drop};
 ghost use Rattle.answers.specs.Limits.{max_payload_bytes};
 ghost use Rattle.overlay.specs.Overlay.{overlay};

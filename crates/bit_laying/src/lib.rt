@@ -2,6 +2,9 @@
 // place stay, the spare bits of the last byte that is touched become 0, the bytes behind stay.
 // `put_bits` and `put_unary` write into the rest of a buffer from its first unfinished byte on, so
 // their places are small; `lay_bits` lends that rest on.
+
+#![tactic(auto)]
+
 ghost use Rattle.std.specs.Prelude.{◌≡◌, ◌+◌, ◌*◌, ◌/◌, ◌%◌, ◌^◌, ◌≤◌, ◌<◌, min, length};
 ghost use Rattle.bits.specs.Bits.{low};
 ghost use Rattle.bits.specs.Fields.{unary_field};

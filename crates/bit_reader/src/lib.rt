@@ -2,6 +2,9 @@
 // place in it. Its functions are thin: each takes the reader apart and leaves the work to an entry
 // of `checked_bits` on the slice and the place. A function over a struct that holds a reference is proved
 // by a walk by hand; `field_at`, whose parameters are plain, serves callers that are to need none.
+
+#![tactic(auto)]
+
 ghost use Rattle.std.specs.Prelude.{◌≡◌};
 ghost use Rattle.bits.specs.Checked.{told, bits_read_at, unary_read};
 

@@ -2,6 +2,9 @@
 // payload. A place is a bit number, and may lie past the end. A field comes out of one window of up
 // to eight bytes. The payload's limit, 4,194,304 bytes, keeps every place within the integers that
 // hold them.
+
+#![tactic(auto)]
+
 ghost use Rattle.std.specs.Prelude.{◌≡◌, ◌≤◌, length};
 ghost use Rattle.answers.specs.Limits.{max_payload_bytes};
 ghost use Rattle.bits.specs.Bits.{bits_of};

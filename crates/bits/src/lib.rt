@@ -4,6 +4,8 @@
 // `bit_windows`, `bit_reading`, `unary_reading` and `bit_laying` are the core, for payloads within
 // document 01's limit; `checked_bits` takes any slice and any place.
 
+#![tactic(auto)]
+
 // What reading a field finds: its value and the place after it, or that a bit is missing.
 #[derive(Drop)]
 pub enum Field {

@@ -1,4 +1,7 @@
 // Implements document 02 §9 (Q9.2): the check of a block, over its first 508 bytes.
+
+#![tactic(auto)]
+
 ghost use Rattle.std.specs.Prelude.{◌≡◌, ◌≤◌, length};
 ghost use Rattle.archive.specs.Block.{checked_bytes, check_of};
 

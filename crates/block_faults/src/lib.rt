@@ -1,6 +1,9 @@
 // Implements document 02 §9 (Q9.6): what is wrong with a block of an archive, and the first block of a
 // file that is bad. A block is judged by itself, by the payload length that its recording announced, and
 // by how many blocks of that recording stand before it.
+
+#![tactic(auto)]
+
 ghost use Rattle.std.specs.Prelude.{◌≡◌, ◌+◌, ◌-◌, ◌/◌, ◌≤◌, ◌<◌, length, take, drop};
 ghost use Rattle.archive.specs.Block.{block_bytes, number_at};
 ghost use Rattle.archive.specs.Faults.{announced_by, used_asked, finished, all_zero, wrong, next_before};

@@ -1,4 +1,7 @@
 // Implements document 02 §9 (Q9.1): a block laid into lent storage: number, used bytes, data, zeros, check.
+
+#![tactic(auto)]
+
 ghost use Rattle.std.specs.Prelude.{◌≡◌, ◌++◌, ◌+◌, ◌-◌, ◌≤◌, ◌<◌, length, replicate};
 ghost use Rattle.overlay.specs.Overlay.{overlay};
 ghost use Rattle.archive.specs.Block.{block_bytes, max_used, block};

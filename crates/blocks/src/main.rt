@@ -1,6 +1,9 @@
 // Runs the blocks that `wavpack` wrote (data/, whose README says how they were made): reads each,
 // decorrelates it to the samples that it was made from, analyses these and packs them again, and
 // prints whether the samples and the bits are the file's.
+
+#![tactic(auto)]
+
 mod block;
 mod record;
 

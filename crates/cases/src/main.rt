@@ -1,6 +1,9 @@
 // Runs the cases that the rules want run and not proved, and those of later requests beside them
 // (data/, whose README says what a line holds), and prints a line for each: its name, the refusal
 // and the values. What is printed is held to the file `stdout`.
+
+#![tactic(auto)]
+
 mod lines;
 mod lists;
 mod payloads;

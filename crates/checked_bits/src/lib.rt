@@ -1,6 +1,9 @@
 // The readers and the writer for any slice, any place and any width: what lies over document 01's
 // limits is refused as too large, and nothing else is asked of the caller. Each answer is told by
 // document 01's number and the case's values.
+
+#![tactic(auto)]
+
 ghost use Rattle.std.specs.Prelude.{◌≡◌};
 ghost use Rattle.bits.specs.Checked.{told, put_told, bit_read, bits_read_at, unary_read, written};
 

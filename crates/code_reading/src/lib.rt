@@ -3,6 +3,9 @@
 // field by field where the payload may end. Whether a code has its last bit is as random as a coin,
 // so in a window no branch hangs on it: two functions of their own choose between the cases, which
 // the compiler leaves as choices.
+
+#![tactic(auto)]
+
 ghost use Rattle.std.specs.Prelude.{◌≡◌, cond, ◌+◌, ◌-◌, ◌*◌, ◌≤◌, ◌<◌, ltb, length};
 ghost use Rattle.answers.specs.Limits.{max_payload_bytes};
 ghost use Rattle.bits.specs.Bits.{bits_of};

@@ -1,5 +1,8 @@
 // Implements document 01, "One word", run length and prefix: a count of ones up to a zero, and for
 // a count of 2 or more a number behind it.
+
+#![tactic(auto)]
+
 ghost use Rattle.std.specs.Prelude.{◌≡◌, ◌≤◌, length};
 ghost use Rattle.answers.specs.Limits.{max_payload_bytes};
 ghost use Rattle.bits.specs.Bits.{bits_of};

@@ -2,6 +2,9 @@
 // payloads of 0 to 20 bytes every starting bit and every place of the zero, or none, is tried. Each
 // line says how many counts were made and how many agree. What is printed is held to the file
 // `stdout`.
+
+#![tactic(auto)]
+
 ghost use Rattle.std.specs.Prelude.{◌≤◌};
 
 mod payloads;

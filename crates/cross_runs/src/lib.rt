@@ -1,4 +1,7 @@
 // Implements document 01, "Passes": the cross terms -1, -2 and -3 over a whole buffer.
+
+#![tactic(auto)]
+
 ghost use Rattle.std.specs.Prelude.{◌≡◌, cond};
 ghost use Rattle.passes.specs.Step.{slot};
 ghost use Rattle.passes.specs.Run.{run, turn};

@@ -1,5 +1,8 @@
 // Implements document 01, "Passes": decorrelation and analysis by a list of passes, lent or held in
 // an array.
+
+#![tactic(auto)]
+
 mod arrays;
 mod lists;
 

@@ -1,6 +1,9 @@
 // Implements document 01, "Entropy": the structs of the entropy payload and of the medians that it
 // seeds a word state with. The functions stand in crates of their own: `median_set`, `entropy_info` and
 // `stereo_pair`.
+
+#![tactic(auto)]
+
 use answers::Outcome;
 
 // The three adaptive medians of one channel.

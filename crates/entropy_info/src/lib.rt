@@ -1,4 +1,7 @@
 // Implements document 01, "Entropy": the two sets of medians that an entropy payload holds.
+
+#![tactic(auto)]
+
 ghost use Rattle.std.specs.Prelude.{◌≡◌};
 ghost use Rattle.answers.specs.Numbers.{outcome_number};
 ghost use Rattle.entropy.specs.Entropy.{entropy_info, entropy_refusal, is_mono, no_info};

@@ -1,4 +1,7 @@
 // The medians of an entropy payload in a list of slots. A refused call leaves the lent list as it was.
+
+#![tactic(auto)]
+
 ghost use Rattle.std.specs.Prelude.{◌≡◌};
 ghost use Rattle.slots.specs.Slots.{leaveValues};
 ghost use Rattle.entropy_slots.specs.EntropySlots.{entropy_values, entropy_answer};

@@ -1,6 +1,9 @@
 // The fields of a word, written (document 01, "Packing": K2, K6). Code and sign, and a prefix below 16
 // in front of them, are gathered in one number, low bit first; run lengths and escaped prefixes are
 // rare, and are laid field by field.
+
+#![tactic(auto)]
+
 ghost use Rattle.std.specs.Prelude.{◌≡◌, ◌++◌, ◌+◌, ◌-◌, ◌*◌, ◌^◌, ◌≤◌, ◌<◌, length};
 ghost use Rattle.answers.specs.Limits.{max_width};
 ghost use Rattle.bits.specs.Bits.{low, num};

@@ -2,6 +2,9 @@
 // as "One word" reads them and as "Packing" writes them: the definitions in specs/ and their laws in
 // proofs/, what reading a prefix finds, bits gathered to be laid, and the one number that readers and
 // writers both work out. They stand in `count_reading`, `code_reading` and `field_writing`.
+
+#![tactic(auto)]
+
 ghost use Rattle.std.specs.Prelude.{◌≡◌};
 ghost use Rattle.fields.specs.Code.{bit_length};
 

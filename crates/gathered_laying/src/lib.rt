@@ -1,6 +1,9 @@
 // Bits that are gathered in one number, laid byte by byte into the lent rest of a buffer (document 01,
 // "Packing", K7, K8). A word's prefix, code and sign go in by one call, so that each byte is stored
 // once; bytes after the last one that holds a bit are not stored at all.
+
+#![tactic(auto)]
+
 ghost use Rattle.std.specs.Prelude.{◌≡◌, ◌+◌, ◌*◌, ◌^◌, ◌≤◌, ◌<◌, length};
 ghost use Rattle.bits.specs.Bits.{low};
 ghost use Rattle.bits.specs.Laid.{put};

@@ -1,6 +1,9 @@
 // Document 02 §6, after int32.rs: recordings of samples wider than the words. Each sample is completed
 // by literal bits of a second bit stream and by redundant bits, and the way back takes both out. Here
 // are the fields that say how, what both entries answer, and the tests that they share.
+
+#![tactic(auto)]
+
 ghost use Rattle.std.specs.Prelude.{◌≡◌};
 ghost use Rattle.answers.specs.Numbers.{outcome_number};
 ghost use Rattle.int32.specs.Info.{info_refusal};

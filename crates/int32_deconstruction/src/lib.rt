@@ -1,5 +1,8 @@
 // The way back: the redundant bits are taken out of each sample, and the literal bits go into lent
 // storage. Every test comes before the first sample or byte is written.
+
+#![tactic(auto)]
+
 ghost use Rattle.std.specs.Prelude.{◌≡◌, map, ◌≤◌};
 ghost use Rattle.answers.specs.Numbers.{outcome_number};
 ghost use Rattle.int32_sample.specs.Sample.{above};

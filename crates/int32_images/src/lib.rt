@@ -1,5 +1,8 @@
 // The test of whether every sample is the image of one: the redundant bits that the setting puts in
 // are there (document 02 §6).
+
+#![tactic(auto)]
+
 ghost use Rattle.std.specs.Prelude.{◌≡◌, ◌≤◌};
 ghost use Rattle.int32_sample.specs.Setting.{setting};
 ghost use Rattle.int32.specs.Deconstruct.{all_reinsertable};

@@ -1,5 +1,8 @@
 // The literal bits of a recording's samples, gathered in one number and laid into lent storage four
 // bytes at a time (document 02 §6).
+
+#![tactic(auto)]
+
 ghost use Rattle.std.specs.Prelude.{◌≡◌, map, ◌*◌, ◌≤◌, length};
 ghost use Rattle.answers.specs.Limits.{max_elements};
 ghost use Rattle.overlay.specs.Overlay.{overlay};

@@ -1,4 +1,7 @@
 // The literal bits of a recording, put in below its samples (document 02 §6).
+
+#![tactic(auto)]
+
 ghost use Rattle.std.specs.Prelude.{◌≡◌, ◌+◌, ◌*◌, ◌≤◌, length, take, drop};
 ghost use Rattle.answers.specs.Limits.{max_elements};
 ghost use Rattle.bits.specs.Bits.{num, bits_of};

@@ -1,6 +1,9 @@
 // Reassembly, after int32.rs: each sample with its literal bits and the redundant bits below it. First
 // all literal bits are put in, then all redundant ones. Every test comes before the first sample is
 // written.
+
+#![tactic(auto)]
+
 ghost use Rattle.std.specs.Prelude.{◌≡◌, length};
 ghost use Rattle.answers.specs.Numbers.{outcome_number};
 ghost use Rattle.bits.specs.Bits.{bits_of};

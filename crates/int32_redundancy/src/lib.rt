@@ -1,5 +1,8 @@
 // Redundant bits put in below all samples (document 02 §6). Bits that are the same below every sample
 // have a loop of their own, which the machine does several at once.
+
+#![tactic(auto)]
+
 ghost use Rattle.std.specs.Prelude.{◌≡◌, map, ◌^◌, ◌≤◌, ◌<◌};
 ghost use Rattle.int32_sample.specs.Sample.{below};
 ghost use Rattle.int32_sample.specs.Setting.{setting, dups, reinsert};

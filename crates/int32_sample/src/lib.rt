@@ -1,5 +1,8 @@
 // Implements document 02 §6 for one sample, after int32.rs: bits put in below a sample and taken out
 // again. All shifts are by at most 31.
+
+#![tactic(auto)]
+
 ghost use Rattle.std.specs.Prelude.{◌≡◌, cond, ◌^◌, ◌≤◌, ◌<◌, eqb};
 ghost use Rattle.int32_sample.specs.Sample.{below, low_bits, above};
 ghost use Rattle.int32_sample.specs.Setting.{setting, all_ones, width, even_bits, odd_bits};

@@ -1,5 +1,8 @@
 // Reassembly of wide samples and the way back for a caller that holds what is answered in a list of
 // slots. A refused call leaves every lent list as it was, the slots too.
+
+#![tactic(auto)]
+
 ghost use Rattle.std.specs.Prelude.{◌≡◌};
 ghost use Rattle.int32_slots.specs.Int32Slots.{reassemble_call, deconstruct_call};
 

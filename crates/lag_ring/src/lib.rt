@@ -1,5 +1,8 @@
 // Implements document 01, "Passes": a fixed lag over a whole buffer, by a ring of the last eight
 // samples.
+
+#![tactic(auto)]
+
 ghost use Rattle.std.specs.Prelude.{◌≡◌};
 ghost use Rattle.passes.specs.Run.{run, turn};
 ghost use Rattle.passes.specs.declared.Term.TheVariants.{Lag};

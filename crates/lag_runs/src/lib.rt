@@ -3,6 +3,9 @@
 // In decorrelation the sample that is looked back at stands in the buffer already, so
 // no ring is kept along the way; what the ring would hold is put together at the end. A lag of 1
 // stays with the ring: there the sample was stored a moment ago, and a load of it waits for that.
+
+#![tactic(auto)]
+
 ghost use Rattle.std.specs.Prelude.{◌≡◌, ◌+◌, ◌≤◌, ◌<◌, length};
 ghost use Rattle.passes.specs.Run.{run, turn};
 ghost use Rattle.passes.specs.declared.Direction.TheVariants.{Decorrelation};

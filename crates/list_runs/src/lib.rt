@@ -2,6 +2,9 @@
 //
 // The list stays lent: `run_list` walks it, takes each pass out, runs it over the buffer and stores
 // it back. All arithmetic stands in a function of plain values.
+
+#![tactic(auto)]
+
 ghost use Rattle.std.specs.Prelude.{◌≡◌, ◌<◌};
 ghost use Rattle.list_runs.specs.Chained.{chained, place_of};
 

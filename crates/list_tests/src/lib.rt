@@ -1,5 +1,8 @@
 // Implements document 01, "Why each operation says no": the tests of a list of passes, lent or in an
 // array.
+
+#![tactic(auto)]
+
 ghost use Rattle.std.specs.Prelude.{◌≡◌, ◌≤◌, take};
 ghost use Rattle.answers.specs.Limits.{max_passes};
 ghost use Rattle.answers.specs.Numbers.{outcome_number};

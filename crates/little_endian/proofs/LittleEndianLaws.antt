@@ -7,7 +7,7 @@ use native.Mathlib.Omega.{arith}
 use lib.IntN.{ℤ}
 use lib.ListN.{get_or}
 use mir.Syntax.{w16}
-use mir.Val.{to_z, of_z, Fits, SFits}
+use mir.Val.{to_z, of_z, SFits}
 use mir.ValLaws.{to_z-of_z, of_z-to_z, of_z_fits}
 use Rattle.little_endian.specs.LittleEndian.{little_endian, from_little_endian, signed_word, signed_bytes}
 

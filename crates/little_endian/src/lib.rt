@@ -1,5 +1,8 @@
 // Numbers in bytes, the low byte first: those of a sound file, and the log words of an entropy
 // payload. Every number and every byte is taken.
+
+#![tactic(auto)]
+
 ghost use Rattle.std.specs.Prelude.{◌≡◌, [], ◌∷◌, ◌+◌, ◌≤◌, length};
 ghost use Rattle.std.specs.Int.{w16};
 ghost use Rattle.std.proofs.Common.{to_z, of_z};

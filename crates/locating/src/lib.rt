@@ -2,6 +2,9 @@
 // and the medians after it, all found by one walk past the intervals. Residuals are in the span, so
 // no end of an interval that holds one meets the 31-bit mask. And whether the count of the next
 // residual is above 0 (document 01, "Packing", K3, K5).
+
+#![tactic(auto)]
+
 ghost use Rattle.std.specs.Prelude.{◌≡◌, ◌<◌, drop};
 ghost use Rattle.answers.specs.Limits.{residual_span};
 ghost use Rattle.entropy.specs.Medians.{medians_of, Small};

@@ -2,6 +2,9 @@
 // that it stands for. A word is an exponent above eight bits that pick a mantissa. Both signs go by
 // the rule for words that are not negative. Words whose value does not fit are refused (document
 // 02, §7).
+
+#![tactic(auto)]
+
 mod exp2_table;
 
 ghost use Rattle.std.specs.Prelude.{◌≡◌, ◌≤◌, nat_abs};

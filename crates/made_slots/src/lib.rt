@@ -1,4 +1,7 @@
 // A pass in slots, 20 of them, and pass making into slots that a caller of the C interface lends.
+
+#![tactic(auto)]
+
 ghost use Rattle.std.specs.Prelude.{◌≡◌};
 ghost use Rattle.slots.specs.Slots.{leaveValues};
 ghost use Rattle.made_slots.specs.MadeSlots.{slots_of, pass_answer, pass_values};

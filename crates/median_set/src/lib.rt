@@ -1,5 +1,8 @@
 // Implements document 01, "Entropy": one set of medians. Log words are expanded in one place,
 // `read_median_set`, which passes on their refusal.
+
+#![tactic(auto)]
+
 ghost use Rattle.std.specs.Prelude.{◌≡◌, ◌≤◌, length};
 ghost use Rattle.answers.specs.Numbers.{outcome_number};
 ghost use Rattle.entropy.specs.Sets.{set_refusal, set_told};

@@ -1,4 +1,7 @@
 // Medians in lists of slots, and the bits before them: what reading and packing report.
+
+#![tactic(auto)]
+
 ghost use Rattle.std.specs.Prelude.{◌≡◌, ◌+◌, ◌≤◌, ◌<◌, length};
 ghost use Rattle.entropy.specs.Medians.{pair_of};
 ghost use Rattle.overlay.specs.Overlay.{overlay};

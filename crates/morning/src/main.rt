@@ -2,6 +2,9 @@
 // writes its morning page to standard output; a refusal is one line with its number and reason. The
 // threshold is its argument. One byte more than the longest input is read, so that a longer one is
 // over the limits. A read that fails ends the input.
+
+#![tactic(auto)]
+
 mod output;
 
 use answers::outcome_number;

@@ -1,6 +1,9 @@
 // Implements document 02 §5: the morning page, which has for every 1,024 frames of a recording the peaks
 // and the clicks of both stems. `page_block` finds them, `page_lines` lays a line for each block; here
 // the lists are tested.
+
+#![tactic(auto)]
+
 ghost use Rattle.std.specs.Prelude.{◌≡◌};
 ghost use Rattle.answers.specs.Numbers.{outcome_number};
 ghost use Rattle.morning_page.specs.Entry.{page_refusal, view_page, page_entry};

@@ -1,4 +1,7 @@
 // Implements document 02 §5, the program: the morning page of a recording as `morning` reads it.
+
+#![tactic(auto)]
+
 ghost use Rattle.std.specs.Prelude.{◌≡◌, ◌≤◌, pos, length, replicate};
 ghost use Rattle.answers.specs.Limits.{max_frames};
 ghost use Rattle.morning_page.specs.Entry.{view_page};

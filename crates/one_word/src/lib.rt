@@ -1,5 +1,8 @@
 // Implements document 01, "One word", as an entry of its own, and document 02, §8: for a caller that holds
 // the state from word to word, and with it the bits that each channel took.
+
+#![tactic(auto)]
+
 ghost use Rattle.std.specs.Prelude.{◌≡◌, ◌<◌, pos};
 ghost use Rattle.answers.specs.Numbers.{number_of};
 ghost use Rattle.word_state.specs.State.{with_flags, with_bits, paid, in_run, unbroken, after};

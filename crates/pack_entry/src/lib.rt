@@ -1,5 +1,8 @@
 // Implements document 01, "Packing", its entry: what is refused, or all words from the medians that the
 // entropy payload seeds.
+
+#![tactic(auto)]
+
 ghost use Rattle.std.specs.Prelude.{◌≡◌};
 ghost use Rattle.packing.specs.Entry.{view_packing, pack_entry};
 ghost use Rattle.packing.specs.View.{PackRefuses};

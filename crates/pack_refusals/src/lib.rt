@@ -1,5 +1,8 @@
 // Implements document 01, "Why each operation says no", for packing: all that it refuses before it looks
 // at a residual.
+
+#![tactic(auto)]
+
 ghost use Rattle.std.specs.Prelude.{◌≡◌};
 ghost use Rattle.answers.specs.Numbers.{outcome_number};
 ghost use Rattle.packing.specs.Entry.{refusal_before_span};

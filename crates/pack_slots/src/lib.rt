@@ -1,5 +1,8 @@
 // Packing for a caller that holds what it is told in a list of slots. As in reading, what it
 // answers is laid into its slots on refusal too; only a list with too few slots is left alone.
+
+#![tactic(auto)]
+
 ghost use Rattle.std.specs.Prelude.{◌≡◌};
 ghost use Rattle.pack_slots.specs.PackSlots.{pack_call};
 

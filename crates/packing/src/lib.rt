@@ -3,6 +3,9 @@
 // are the crate word_bits. The code stands in `packing_turns` (a turn of the loop, in every state),
 // `word_packing` (all words), `pack_refusals` (what is refused before a residual is looked at) and
 // `pack_entry`.
+
+#![tactic(auto)]
+
 use answers::Outcome;
 use entropy::AdaptiveMedians;
 

@@ -1,6 +1,9 @@
 // Implements document 01, "Packing", a turn of its loop: a run length where one is due, and the word where
 // it tells of no zeros. A turn takes and gives numbers and flags: the medians and flags of the whole state
 // are locals of the loop that calls it.
+
+#![tactic(auto)]
+
 ghost use Rattle.std.specs.Prelude.{◌≡◌, false, not, cond, suc, ◌+◌, ◌*◌, ◌≤◌, ◌<◌, pos, length, drop, get_or};
 ghost use Rattle.std.specs.Int.Signed.{mag};
 ghost use Rattle.answers.specs.Limits.{residual_span, max_elements, max_word_bits};

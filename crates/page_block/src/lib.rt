@@ -2,6 +2,9 @@
 // in one walk without a branch on a sample, which the machine does several at once. What is counted of
 // the left stem stands in the low half of a number and what is counted of the right one in the high
 // half, so that one operation serves both.
+
+#![tactic(auto)]
+
 ghost use Rattle.std.specs.Prelude.{◌≡◌, ◌+◌, ◌*◌, ◌/◌, ◌%◌, ◌≤◌, max, length};
 ghost use Rattle.page_block.specs.Heard.{Flags, Heard};
 ghost use Rattle.page_block.specs.Heard.{exceeds as Heard·exceeds};

@@ -1,5 +1,8 @@
 // Implements document 02 §5 (Q5.1, Q5.2): the lines of the page, one for each block of 1,024 frames
 // and the last for what is left.
+
+#![tactic(auto)]
+
 ghost use Rattle.std.specs.Prelude.{◌≡◌, ◌++◌, ◌+◌, ◌*◌, ◌≤◌, ◌<◌, min, length};
 ghost use Rattle.answers.specs.Limits.{max_elements};
 ghost use Rattle.answers.specs.Lists.{Fitting};

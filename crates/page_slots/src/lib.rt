@@ -1,5 +1,8 @@
 // The morning page for a caller that holds what it is told in a list of slots. A refused call leaves
 // every lent list as it was, the slot too.
+
+#![tactic(auto)]
+
 ghost use Rattle.std.specs.Prelude.{◌≡◌};
 ghost use Rattle.page_slots.specs.PageSlots.{page_call};
 

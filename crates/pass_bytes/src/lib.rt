@@ -1,4 +1,7 @@
 // Implements document 01, "Passes": the term byte and the weight byte.
+
+#![tactic(auto)]
+
 ghost use Rattle.std.specs.Prelude.{◌≡◌};
 ghost use Rattle.pass_bytes.specs.PassBytes.{term_of_byte, delta_of_byte, weight_of_byte};
 

@@ -1,4 +1,7 @@
 // Decorrelation and analysis over lists of slots, each in its own direction.
+
+#![tactic(auto)]
+
 ghost use Rattle.std.specs.Prelude.{◌≡◌};
 ghost use Rattle.decorrelation.specs.Lists.{decorrelation, analysis};
 ghost use Rattle.pass_slots.specs.PassSlots.{passes_call};

@@ -1,5 +1,8 @@
 // Implements document 01, "Passes": one pass over a whole buffer, decorrelation and analysis: the
 // match on the term stands outside the loops.
+
+#![tactic(auto)]
+
 ghost use Rattle.std.specs.Prelude.{◌≡◌};
 ghost use Rattle.passes.specs.Run.{passed};
 

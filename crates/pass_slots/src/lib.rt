@@ -1,6 +1,9 @@
 // Passes in lists of slots, 20 to a pass: what the C interface's callers hold. The passes of a list
 // are taken into an array for a call, since a list of numbers is no list of passes, and laid back
 // where the call was accepted.
+
+#![tactic(auto)]
+
 ghost use Rattle.std.specs.Prelude.{◌≡◌, ◌*◌, ◌≤◌, length, take};
 ghost use Rattle.answers.specs.Limits.{max_passes};
 ghost use Rattle.decorrelation.specs.Lists.{listed};

@@ -1,6 +1,9 @@
 // Implements document 01, "Passes": what a pass is, how it is made from its seeds, and what its
 // term stands for. The definitions of a step, a pass over a buffer and a list of passes stand in
 // specs/, with their theorems in proofs/.
+
+#![tactic(auto)]
+
 ghost use Rattle.std.specs.Prelude.{◌≡◌, ◌<◌, ◌≤◌, pos, length, take, get_or};
 ghost use Rattle.answers.specs.Numbers.{outcome_number};
 ghost use Rattle.answers.specs.declared.Outcome.{Outcome};

@@ -2,6 +2,9 @@
 // the zeros of a run, or a sample and the short words after it, as far as they go: most words are short, and
 // that is what is fast. The medians are an array that is indexed by channel. A run is one turn, so that no
 // debt is held.
+
+#![tactic(auto)]
+
 ghost use Rattle.std.specs.Prelude.{◌≡◌, ◌%◌, ◌≤◌, ◌<◌, length};
 ghost use Rattle.answers.specs.Limits.{max_payload_bytes};
 ghost use Rattle.word_state.specs.State.{side};

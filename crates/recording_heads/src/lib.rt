@@ -1,4 +1,7 @@
 // The numbers before a payload, read where a recording stands in a file, and the bytes that it takes.
+
+#![tactic(auto)]
+
 ghost use Rattle.std.specs.Prelude.{◌≡◌, ◌+◌, ◌*◌, ◌≤◌, ◌<◌, length, drop};
 ghost use Rattle.archive.specs.Recording.{blocks_for};
 ghost use Rattle.archive.specs.Listing.{recordings_of, Sound};

@@ -1,5 +1,8 @@
 // Replays the stored answers of the published Rust (data/, whose README says how they were made)
 // through the proved functions, and prints for each kind how many there are and how many agree.
+
+#![tactic(auto)]
+
 mod kinds;
 mod pack_records;
 mod pass_records;

@@ -2,6 +2,9 @@
 // packing takes, known before lent storage is written. For that analysis goes through the recording part
 // by part, over an array of its own, which comes to the same as the whole since parts end on eights
 // (Q10.4).
+
+#![tactic(auto)]
+
 ghost use Rattle.std.specs.Prelude.{◌≡◌, ◌+◌, ◌≤◌, min, length, take};
 ghost use Rattle.passes.specs.Run.{analysed};
 ghost use Rattle.word_bits.specs.Residuals.{spanned};

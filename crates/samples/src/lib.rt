@@ -1,4 +1,7 @@
 // Implements document 01, "Reading": the words of a payload one after another, into a lent list.
+
+#![tactic(auto)]
+
 use answers::Outcome;
 use entropy::AdaptiveMedians;
 

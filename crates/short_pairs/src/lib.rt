@@ -1,5 +1,8 @@
 // Implements document 01, "Reading", for short words that come one after another: a left and a right
 // one a turn, so that the medians of both stay in registers.
+
+#![tactic(auto)]
+
 ghost use Rattle.std.specs.Prelude.{◌≡◌, false, ◌+◌, ◌/◌, ◌%◌, ◌≤◌, length};
 ghost use Rattle.answers.specs.Limits.{max_payload_bytes};
 ghost use Rattle.entropy.specs.Medians.{medians_of};

@@ -1,5 +1,8 @@
 // Implements document 01, "Reading", for short words that come one after another: where they may begin,
 // and how far they may go.
+
+#![tactic(auto)]
+
 ghost use Rattle.std.specs.Prelude.{◌≤◌, length};
 ghost use Rattle.answers.specs.Limits.{max_payload_bytes};
 ghost use Rattle.short_steps.specs.Onward.{Onward};

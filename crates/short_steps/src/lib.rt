@@ -1,5 +1,8 @@
 // Implements document 01, "Reading", for a short word: out of 64 bits in a register, with the medians of
 // both channels in registers too. Its sample is written, and the reading stands after it.
+
+#![tactic(auto)]
+
 ghost use Rattle.std.specs.Prelude.{◌≡◌, ◌+◌, ◌/◌, ◌%◌, ◌≤◌, ◌<◌, length};
 ghost use Rattle.answers.specs.Limits.{max_payload_bytes};
 ghost use Rattle.bits.specs.Bits.{bits_of};

@@ -5,6 +5,9 @@
 // What must be fast hangs on branches. A count of 0 or 1 is tested for, since the medians make a 0
 // come five times in seven; what is as random as a coin is chosen (`code_reading`). Each way adapts
 // the medians by a count that the compiler knows.
+
+#![tactic(auto)]
+
 ghost use Rattle.std.specs.Prelude.{◌≡◌, true, false};
 ghost use Rattle.entropy.specs.Medians.{medians_of};
 ghost use Rattle.short_words.specs.Short.{ShortPrefix, ShortWordIs, CountedIs, WordIs};

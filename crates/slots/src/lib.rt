@@ -1,4 +1,7 @@
 // The values that a function of the C interface answers, laid into slots of a lent list.
+
+#![tactic(auto)]
+
 ghost use Rattle.std.specs.Prelude.{◌≡◌, ◌+◌, ◌≤◌, length};
 ghost use Rattle.overlay.specs.Overlay.{overlay};
 

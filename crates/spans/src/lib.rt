@@ -1,6 +1,9 @@
 // Signed numbers: their magnitude, their distance from 0, and whether all numbers of a list lie in a
 // span. Every number of the list is looked at, without an early end, which the machine does several
 // at once.
+
+#![tactic(auto)]
+
 ghost use Rattle.std.specs.Prelude.{◌≡◌, ◌≤◌, nat_abs, length};
 ghost use Rattle.std.specs.Int.Signed.{mag};
 ghost use Rattle.answers.specs.Limits.{max_elements};

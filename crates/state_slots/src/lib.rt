@@ -1,4 +1,7 @@
 // The state of a word, and its place, in 15 slots.
+
+#![tactic(auto)]
+
 ghost use Rattle.std.specs.Prelude.{◌≡◌, ◌≤◌, ◌<◌, length};
 ghost use Rattle.bits.specs.Bits.{val};
 ghost use Rattle.overlay.specs.Overlay.{overlay};

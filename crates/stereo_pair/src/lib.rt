@@ -1,5 +1,8 @@
 // Implements document 01, "Entropy": the medians that an entropy payload seeds a word state with.
 // Refusal 2 is decided in one place, `is_not_stereo`.
+
+#![tactic(auto)]
+
 ghost use Rattle.std.specs.Prelude.{◌≡◌, false};
 ghost use Rattle.answers.specs.Numbers.{outcome_number};
 ghost use Rattle.entropy.specs.Medians.{medians_of, pair_of, zero_pair};

@@ -1,4 +1,7 @@
 // Implements document 02 §5 (Q5.4): the threshold as it is typed.
+
+#![tactic(auto)]
+
 ghost use Rattle.std.specs.Prelude.{◌≡◌};
 ghost use Rattle.threshold.specs.Threshold.{is_digit, threshold_in};
 

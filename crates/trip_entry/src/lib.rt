@@ -1,6 +1,9 @@
 // Implements demand 3 at run time: analyse, pack, read back, decorrelate, compare, on lent storage.
 // That the answer is always `same` where nothing is refused is the entry's contract, from demand
 // 3's theorem (`demand_3`).
+
+#![tactic(auto)]
+
 ghost use Rattle.std.specs.Prelude.{◌≡◌};
 ghost use Rattle.trip_entry.specs.Trip.{view_trip, trip_entry, TripRefuses};
 

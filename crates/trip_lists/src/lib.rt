@@ -1,4 +1,7 @@
 // Lists of samples, copied and compared.
+
+#![tactic(auto)]
+
 ghost use Rattle.std.specs.Prelude.{◌≡◌, length};
 ghost use Rattle.trip_lists.specs.Same.{SameIs, CopyIs};
 

@@ -1,5 +1,8 @@
 // The steps of the round trip: what is refused before anything is written, the residuals of a
 // recording, and whether their payload gives it back.
+
+#![tactic(auto)]
+
 ghost use Rattle.std.specs.Prelude.{◌≡◌, length};
 ghost use Rattle.answers.specs.Numbers.{outcome_number};
 ghost use Rattle.trip_steps.specs.Steps.{early_refusal, came_back, FoundIs, BackIs};

@@ -1,4 +1,7 @@
 // Implements document 01, "Passes": terms 17 and 18 over a whole buffer.
+
+#![tactic(auto)]
+
 ghost use Rattle.std.specs.Prelude.{◌≡◌};
 ghost use Rattle.passes.specs.Run.{run, turn};
 ghost use Rattle.two_runs.specs.Two.{two_term, two_source, last_two, two_at};

@@ -2,6 +2,9 @@
 // windows of eight bytes, and through single bytes near the end (document 02, §3: Q3.1, Q3.2). A place
 // is a bit number, and may lie past the end. The payload's limit, 4,194,304 bytes, keeps every place
 // and count within the integers that hold them.
+
+#![tactic(auto)]
+
 ghost use Rattle.std.specs.Prelude.{◌≡◌, ◌≤◌, length};
 ghost use Rattle.answers.specs.Limits.{max_payload_bytes};
 ghost use Rattle.bits.specs.Bits.{bits_of};

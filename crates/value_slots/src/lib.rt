@@ -1,4 +1,7 @@
 // Values of one word or byte in lists of slots. A refused call leaves the lent list as it was.
+
+#![tactic(auto)]
+
 ghost use Rattle.std.specs.Prelude.{◌≡◌};
 ghost use Rattle.slots.specs.Slots.{slotRefusal, leaveValues};
 ghost use Rattle.value_slots.specs.Values.{log_word_values, log_word_answer};

@@ -1,5 +1,8 @@
 // Implements document 02 §1 (Q1.2): the samples of a sound file, laid after its header and taken out
 // of it, two bytes each, left then right.
+
+#![tactic(auto)]
+
 ghost use Rattle.std.specs.Prelude.{◌≡◌, true, ◌++◌, ◌+◌, ◌≤◌, length};
 ghost use Rattle.answers.specs.Lists.{Fitting};
 ghost use Rattle.overlay.specs.Overlay.{overlay};

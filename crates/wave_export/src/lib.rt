@@ -1,5 +1,8 @@
 // Implements document 02 §1 (Q1.1, Q1.2, Q1.3): export, a recording as the bytes of a sound file. All
 // tests come before the first byte is written.
+
+#![tactic(auto)]
+
 ghost use Rattle.std.specs.Prelude.{◌≡◌};
 ghost use Rattle.answers.specs.Numbers.{outcome_number};
 ghost use Rattle.wave_export.specs.Export.{export_refusal, view_export, export_entry};

@@ -1,6 +1,9 @@
 // Implements document 02 §1: the bytes of a sound file. It has one form only, RIFF WAVE with a
 // header of 44 bytes and two channels of 16 bits; specs/File.antt has it field by field. Export
 // writes the header, and import compares with it.
+
+#![tactic(auto)]
+
 ghost use Rattle.std.specs.Prelude.{◌≡◌, ◌≤◌, length};
 ghost use Rattle.overlay.specs.Overlay.{overlay};
 ghost use Rattle.wave_file.specs.File.{header_bytes, max_rate, max_file_bytes, rate_taken, wave_header};

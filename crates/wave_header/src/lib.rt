@@ -1,5 +1,8 @@
 // Implements document 02 §1 (Q1.4): whether bytes are a sound file of the one form that is accepted. The
 // header that export would write for the file's rate and length is laid and compared with the file's.
+
+#![tactic(auto)]
+
 ghost use Rattle.std.specs.Prelude.{◌≡◌, ◌≤◌, length, take};
 ghost use Rattle.wave_file.specs.File.{header_bytes, max_file_bytes};
 ghost use Rattle.wave_header.specs.Wave.{alike, file_rate, is_wave};

@@ -1,5 +1,8 @@
 // Implements document 02 §1 (Q1.1, Q1.2, Q1.4): import, the rate and the samples of a sound file. All
 // tests come before the first sample is written.
+
+#![tactic(auto)]
+
 ghost use Rattle.std.specs.Prelude.{◌≡◌};
 ghost use Rattle.answers.specs.Numbers.{outcome_number};
 ghost use Rattle.wave_import.specs.Import.{import_refusal, view_import, import_entry};

@@ -1,5 +1,8 @@
 // Export and import of sound files for a caller that holds what it is told in a list of slots. A
 // refused call leaves every lent list as it was, the slots too.
+
+#![tactic(auto)]
+
 ghost use Rattle.std.specs.Prelude.{◌≡◌};
 ghost use Rattle.wave_slots.specs.WaveSlots.{export_call, import_call};
 

@@ -3,6 +3,9 @@
 // refusal number, 0 for accepted. Values are laid into the first slots of a lent list; one that has
 // fewer slots is refused with 6, and then nothing is written. Only the passes of a list are copied,
 // into an array of 16.
+
+#![tactic(auto)]
+
 pub mod archives;
 pub mod pack;
 pub mod pages;

@@ -5,6 +5,9 @@
 // on it costs more than working out both outcomes and picking one: `by_sign` is the only test of a
 // sign, and its arms hold names alone. The number that is ready last is tested last: the source in
 // decorrelation, the residual in analysis.
+
+#![tactic(auto)]
+
 ghost use Rattle.std.specs.Prelude.{◌≡◌};
 ghost use Rattle.weights.specs.Weights.{predict, sample, residual, source17, source18, at_most1024, Way, way_of, moved_clip, updated, updated_clip};
 ghost use Rattle.weights.specs.Sign.{by_sign, chosen};

@@ -3,6 +3,8 @@
 // what the code over them answers. It stands in `zero_runs` (stretches of zeros), `locating` (where a
 // residual lies among the intervals) and `word_laying` (a word, and the run length before it).
 
+#![tactic(auto)]
+
 // The count of a magnitude, its code, the last code of its interval, and the medians after it.
 #[derive(Drop)]
 pub struct Located {

@@ -1,6 +1,9 @@
 // Reading, and one word for a caller that holds the state in a list of slots. Unlike the values,
 // what these two answer is laid into its slots on refusal too; only lists with too few slots are
 // left alone.
+
+#![tactic(auto)]
+
 ghost use Rattle.std.specs.Prelude.{◌≡◌};
 ghost use Rattle.word_calls.specs.Calls.{read_call, word_call};
 

@@ -1,5 +1,8 @@
 // One word outside a run, and the run length that goes before a word. Code and sign with a short
 // prefix go in by one call of `put_gathered`; a run length and an escaped prefix are laid first.
+
+#![tactic(auto)]
+
 ghost use Rattle.std.specs.Prelude.{◌≡◌, cond, ◌++◌, ◌+◌, ◌-◌, ◌*◌, ◌^◌, ◌≤◌, ◌<◌, length, drop};
 ghost use Rattle.std.specs.Int.Signed.{mag};
 ghost use Rattle.answers.specs.Limits.{residual_span, max_elements, max_word_bits};

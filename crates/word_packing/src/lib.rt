@@ -1,6 +1,9 @@
 // Implements document 01, "Packing", all words. The loop holds the medians of both channels, the flags and
 // the place in locals; a run is one turn, so that no debt is held: the zeros that it tells of are passed
 // over. Each turn is lent the rest of the buffer from its first unfinished byte.
+
+#![tactic(auto)]
+
 ghost use Rattle.std.specs.Prelude.{◌≡◌, true, ◌*◌, ◌≤◌, length};
 ghost use Rattle.answers.specs.Limits.{max_elements};
 ghost use Rattle.entropy.specs.Medians.{pair_of, Small};

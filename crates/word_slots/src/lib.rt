@@ -1,4 +1,7 @@
 // What one word answers, in lists of slots: its sample, its report, and its place and state.
+
+#![tactic(auto)]
+
 ghost use Rattle.std.specs.Prelude.{◌≡◌, ◌≤◌, ◌<◌, length};
 ghost use Rattle.one_word.specs.View.{view_word};
 ghost use Rattle.zones.specs.Report.{report_of};

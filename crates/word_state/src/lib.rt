@@ -1,6 +1,9 @@
 // Implements document 01, "One word": the state that reading and packing walk, and the one test of
 // whether a run length stands before a word; and document 02, §8: the bits that each channel took. What
 // a word does to the state is in specs/State.antt.
+
+#![tactic(auto)]
+
 ghost use Rattle.std.specs.Prelude.{◌≡◌, not, ◌&&◌, ◌+◌, ◌<◌, get_or};
 ghost use Rattle.entropy.specs.Medians.{medians_of};
 ghost use Rattle.word_state.specs.State.{run_due, SmallBits, plus_bits, exceeds};

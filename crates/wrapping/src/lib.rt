@@ -2,6 +2,9 @@
 // wrap at 32 bits, and the right shift. Each function is worked out exactly, in 64 bits, and then
 // kept to 32 bits by `narrow`: so one function wraps, and the machine code is that of the plain
 // 32-bit operation. None has a requirement: all inputs are taken.
+
+#![tactic(auto)]
+
 ghost use Rattle.std.specs.Prelude.{◌≡◌, ℤ, pos, neg_ℤ, ◌+ℤ◌, ◌-ℤ◌, ◌*ℤ◌};
 ghost use Rattle.wrapping.specs.Wrap.{wrap32, floor_div};
 

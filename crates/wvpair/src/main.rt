@@ -1,6 +1,9 @@
 // Implements document 01, "Proved cases" (C6, C7): the program `wvpair`. It reads standard input,
 // and writes what `wvpair_text` makes of it to standard output. One byte more than the longest
 // input is read, so that a longer one is over the limits. A read that fails ends the input.
+
+#![tactic(auto)]
+
 use libc::{STDIN_FILENO, STDOUT_FILENO};
 use wvpair_text::{LARGEST_INPUT, LARGEST_TEXT, wvpair_text};
 

@@ -1,5 +1,8 @@
 // Implements document 01, "Proved cases" (C6), the lines: one for each whole frame, and the `end`
 // line. Each writer goes on where the one before it ended, and answers where it ended itself.
+
+#![tactic(auto)]
+
 ghost use Rattle.std.specs.Prelude.{◌+◌, ◌*◌, ◌≤◌, length};
 ghost use Rattle.wvpair_lines.specs.Lines.{frame_line, frame_lines, end_line, report};
 ghost use Rattle.decimal.specs.TextPut.{TextPut};

@@ -1,6 +1,9 @@
 // Implements document 01, "Proved cases" (C6, C7): what `wvpair` prints, as a function from its
 // input bytes to its output bytes. `wvpair_lines` lays the lines of a reading; here an input is taken
 // apart, read and printed.
+
+#![tactic(auto)]
+
 ghost use Rattle.std.specs.Prelude.{◌≡◌, ◌≤◌, pos, length, replicate};
 ghost use Rattle.wvpair_text.specs.Limits.{head_bytes, most_frames, largest_input, largest_text};
 ghost use Rattle.decimal.specs.TextPut.{TextPut};

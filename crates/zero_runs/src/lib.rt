@@ -1,5 +1,8 @@
 // Stretches of zeros: in a list of zeros every residual is looked at, and little else is done.
 // Whole blocks are counted without an early end, which the machine does several residuals at once.
+
+#![tactic(auto)]
+
 ghost use Rattle.std.specs.Prelude.{◌≡◌, ◌+◌, ◌≤◌, leb, length, drop};
 ghost use Rattle.word_bits.specs.Residuals.{zeros};
 ghost use Rattle.word_bits.specs.View.{other_of, SkipIs};

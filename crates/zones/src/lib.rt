@@ -1,4 +1,7 @@
 // Implements document 01 (Z1): the zone of a count, and the report of a word, which holds one or none.
+
+#![tactic(auto)]
+
 ghost use Rattle.std.specs.Prelude.{◌≡◌};
 ghost use Rattle.zones.specs.Report.{zone_of, report_of_zone};
 

@@ -1,0 +1,9 @@
+-- `little_endian::number_bytes` meets its contract.
+-- Assumes nothing.
+use borrow.Author.Rules.{rules}
+use Rattle.little_endian.specs.LittleEndian.{little_endian}
+use Rattle.little_endian.proofs.number_bytes.Goals as goal
+
+pub returns : goal.returns
+unfolding little_endian
+returns c = search rules
