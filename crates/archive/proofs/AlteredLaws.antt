@@ -105,7 +105,9 @@ pub each-passes : (a n j : ℕ) (blocks : List (List ℕ)) → good a n blocks �
 each-passes a n j [] e h = absurd (omega arith)
 each-passes a n zero (b ∷ rest) e h =
     let r = right-first a n b rest e in record { whole = r.whole; checked = r.checked }
-each-passes a n (suc j) (b ∷ rest) e h = each-passes _ _ j rest (rest-right a n b rest e) (omega arith)
+each-passes a n (suc j) (b ∷ rest) e h =
+    let l = announced_by a n b in
+    each-passes l (next_before l n) j rest (rest-right a n b rest e) (omega arith)
 
 -- whether a block is the last does not hang on what another one holds
 none-set : (j : ℕ) (b : List ℕ) (rest : List (List ℕ)) → none_left (set rest j b) ≡ none_left rest
@@ -119,8 +121,9 @@ good-set : (a n j : ℕ) (blocks : List (List ℕ)) (b : List ℕ) → good a n 
 good-set a n j [] b e h p = absurd (omega arith)
 good-set a n zero (x ∷ rest) b e h p = good-ends a n b rest (check_wrong _ _ _ b p)
 good-set a n (suc j) (x ∷ rest) b e h p =
+    let l = announced_by a n x in
     good_counts a n x (set rest j b) (rw (none-set j b rest) (first-right a n x rest e))
-    ∙ ap suc (good-set _ _ j rest b (rest-right a n x rest e) (omega arith) p)
+    ∙ ap suc (good-set l (next_before l n) j rest b (rest-right a n x rest e) (omega arith) p)
 
 -- an accepted file with one byte altered has its first bad block where the byte stands
 pub altered_file : (file : List ℕ) (i v : ℕ) → good_blocks file ≡ blocks_in file → i < length file

@@ -1,16 +1,16 @@
 -- The file of recordings is judged right and holds just these (Q9.8).
 -- Assumes nothing.
-use mathlib.Core.Path.{◌≡◌, refl, sym, ap, ap₂, ◌∙◌}
+use mathlib.Core.Path.{◌≡◌, refl, sym, ap, ◌∙◌}
 use mathlib.Core.List.{List, [], ◌∷◌, ◌++◌}
-use Prim.Native.Nat.{ℕ, zero, suc, ◌+◌, ◌-◌, ◌*◌, ◌/◌, ◌≤◌, ◌<◌}
+use Prim.Native.Nat.{ℕ, suc, ◌+◌, ◌-◌}
 use native.Mathlib.Omega.{arith}
-use lib.ListN.{length, take, drop, length-append, length-take, length-drop}
+use lib.ListN.{length, take, length-append, length-take}
 use Rattle.little_endian.specs.LittleEndian.{from_little_endian}
-use Rattle.archive.specs.Block.{Bytes, max_used, block}
-use Rattle.archive.specs.Recording.{Recording, InSpan, AllInSpan, head_bytes, stream, of_stream}
+use Rattle.archive.specs.Block.{max_used, block}
+use Rattle.archive.specs.Recording.{Recording, InSpan, AllInSpan, stream}
 use Rattle.archive.specs.Recording.{blocks_for}
-use Rattle.archive.specs.Recording.{numbered, recording_blocks, joined, archive_blocks, archive}
-use Rattle.archive.specs.Faults.{announced_by, blocks_in, file_blocks, good, good_blocks}
+use Rattle.archive.specs.Recording.{numbered, recording_blocks, archive_blocks, archive}
+use Rattle.archive.specs.Faults.{announced_by, blocks_in, good, good_blocks}
 use Rattle.archive.specs.Listing.{recordings_from, recordings_of}
 use Rattle.archive.proofs.BlockLaws.{stream-length, numbered-count, cut_fits, head-cut}
 use Rattle.archive.proofs.ByteLaws.{bytes_take}

@@ -1,15 +1,15 @@
 -- How long blocks, streams and files are, and blocks one after the other.
 -- Assumes nothing.
-use mathlib.Core.Path.{◌≡◌, refl, sym, ap, ap₂, ◌∙◌}
+use mathlib.Core.Path.{◌≡◌, refl, sym, ap, ◌∙◌}
 use mathlib.Core.List.{List, [], ◌∷◌, ◌++◌, append_assoc}
 use Prim.Native.Nat.{ℕ, zero, suc, ◌+◌, ◌-◌, ◌*◌, ◌≤◌}
 use native.Mathlib.Omega.{arith}
-use lib.ListN.{length, take, drop, replicate, length-append, length-replicate, length-take, length-drop}
+use lib.ListN.{length, take, drop, length-append, length-replicate, length-take}
 use lib.Seq.{drop-drop, drop_at, take-add, take-take, length-take-le}
 use Rattle.little_endian.specs.LittleEndian.{little_endian}
-use Rattle.archive.specs.Block.{max_used, checked_bytes, block_bytes, check_of, block_body, block}
+use Rattle.archive.specs.Block.{max_used, checked_bytes, block_bytes, block_body, block}
 use Rattle.archive.specs.Recording.{Recording, head_bytes, head, stream, blocks_for, numbered, joined}
-use Rattle.archive.specs.Recording.{recording_blocks, recording_bytes, archive_blocks, archive}
+use Rattle.archive.specs.Recording.{recording_bytes}
 
 -- a number in so many bytes has that many
 pub bytes-length : (count number : ℕ) → length (little_endian count number) ≡ count

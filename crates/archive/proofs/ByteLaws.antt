@@ -8,7 +8,7 @@ use native.Mathlib.Nat.{mul-le-mul}
 use native.Mathlib.Omega.{arith}
 use borrow.Author.Tests.{eqb-true}
 use lib.Dec.{eqb}
-use lib.ListN.{length, take, drop, get_or, replicate}
+use lib.ListN.{length, take, drop, replicate}
 use lib.Seq.{get_or-drop}
 use Rattle.answers.proofs.TestLaws.{both}
 use Rattle.little_endian.specs.LittleEndian.{little_endian, from_little_endian}

@@ -1,14 +1,14 @@
 -- Files of whole blocks, cut and joined.
 -- Assumes nothing.
-use mathlib.Core.Path.{◌≡◌, refl, sym, ap, ap₂, ◌∙◌}
+use mathlib.Core.Path.{◌≡◌, refl, ap, ◌∙◌}
 use mathlib.Core.List.{List, [], ◌∷◌, ◌++◌}
-use Prim.Native.Nat.{ℕ, zero, suc, ◌+◌, ◌*◌, ◌≤◌, ◌<◌}
+use Prim.Native.Nat.{ℕ, zero, suc, ◌+◌, ◌*◌, ◌≤◌}
 use native.Mathlib.Omega.{arith}
 use lib.ListN.{length, take, drop, length-append, length-take, length-drop, take-append-drop}
-use lib.Seq.{take_at, drop_at, take-nil, drop-nil}
+use lib.Seq.{take_at, drop_at}
 use Rattle.archive.specs.Block.{Bytes, block_bytes, max_used}
-use Rattle.archive.specs.Recording.{Recording, stream, blocks_for, numbered, recording_blocks, joined}
-use Rattle.archive.specs.Recording.{archive_blocks, archive}
+use Rattle.archive.specs.Recording.{Recording, stream, blocks_for, numbered, joined}
+use Rattle.archive.specs.Recording.{archive_blocks}
 use Rattle.archive.specs.Faults.{cut, blocks_in, file_blocks}
 use Rattle.archive.proofs.BlockLaws.{block-length, cut_fits}
 use Rattle.archive.proofs.ByteLaws.{bytes_take, bytes_drop}

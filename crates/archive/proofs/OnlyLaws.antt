@@ -7,9 +7,9 @@ use Prim.Native.Nat.{ℕ, zero, suc, ◌+◌, ◌≤◌, ◌<◌}
 use native.Mathlib.Omega.{arith}
 use lib.ListN.{length}
 use Rattle.answers.proofs.TestLaws.{clash}
-use Rattle.archive.specs.Block.{Bytes, block_bytes, block, data_in}
+use Rattle.archive.specs.Block.{Bytes, block_bytes, data_in}
 use Rattle.archive.specs.Recording.{AllInSpan}
-use Rattle.archive.specs.Recording.{numbered, joined, archive_blocks, archive}
+use Rattle.archive.specs.Recording.{numbered, joined, archive_blocks}
 use Rattle.archive.specs.Faults.{announced_by, finished, none_left, next_before, blocks_in}
 use Rattle.archive.specs.Faults.{good, good_blocks}
 use Rattle.archive.specs.Listing.{recordings_from, Sound}

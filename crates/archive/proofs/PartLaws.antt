@@ -1,24 +1,22 @@
 -- The parts of a block that was made of a number and its used bytes; and a right block is such a one.
 -- Assumes nothing.
-use mathlib.Core.Path.{◌≡◌, refl, sym, ap, ap₂, ◌∙◌}
-use mathlib.Core.Bool.{Bool, true}
-use mathlib.Core.List.{List, [], ◌∷◌, ◌++◌, append_assoc}
-use Prim.Native.Nat.{ℕ, zero, suc, ◌+◌, ◌-◌, ◌*◌, ◌≤◌, ◌<◌}
+use mathlib.Core.Path.{◌≡◌, refl, sym, ◌∙◌}
+use mathlib.Core.Bool.{true}
+use mathlib.Core.List.{List, ◌++◌, append_assoc}
+use Prim.Native.Nat.{ℕ, ◌-◌, ◌*◌, ◌≤◌, ◌<◌}
 use native.Mathlib.Omega.{arith}
-use borrow.Author.Tests.{eq-eqb, eqb-true}
-use lib.ListN.{length, take, drop, replicate, length-append, length-replicate, length-take, length-drop}
-use lib.ListN.{take-append-drop}
-use lib.Seq.{take_at, drop_at, drop-drop, take_all, take-append-le, drop-append-le, take-add}
-use Rattle.answers.specs.Limits.{max_payload_bytes}
+use borrow.Author.Tests.{eq-eqb}
+use lib.ListN.{length, take, drop, replicate, length-append, length-replicate, length-drop}
+use lib.Seq.{take_at, drop_at, drop-drop, take_all, take-append-le, drop-append-le}
 use Rattle.little_endian.specs.LittleEndian.{little_endian, from_little_endian}
 use Rattle.little_endian.proofs.LittleEndianLaws.{number-back}
-use Rattle.archive.specs.Block.{Bytes, block_bytes, checked_bytes, max_used, weighted_from, check_of}
+use Rattle.archive.specs.Block.{Bytes, checked_bytes, max_used, check_of}
 use Rattle.archive.specs.Block.{block_body, block}
 use Rattle.archive.specs.Block.{number_at, number_in, used_in, check_in, data_in, filling_in, passes}
 use Rattle.archive.specs.Faults.{all_zero}
-use Rattle.archive.proofs.BlockLaws.{bytes-length, body_length, block-length}
-use Rattle.archive.proofs.ByteLaws.{bytes_take, bytes_drop, bytes_append, bytes-number, bytes-zeros}
-use Rattle.archive.proofs.ByteLaws.{number_bytes-back, short_back, zeros_are, zeros-all}
+use Rattle.archive.proofs.BlockLaws.{bytes-length, body_length}
+use Rattle.archive.proofs.ByteLaws.{bytes_append, bytes-number, bytes-zeros}
+use Rattle.archive.proofs.ByteLaws.{zeros-all}
 use Rattle.archive.proofs.ByteLaws.{weighted_small}
 
 module _ (number : ℕ) (used : List ℕ) where

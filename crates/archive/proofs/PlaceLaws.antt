@@ -1,23 +1,23 @@
 -- Where recordings stand in a file that has no bad block, and what stands there.
 -- Assumes nothing.
-use mathlib.Core.Path.{◌≡◌, refl, sym, ap, ap₂, ◌∙◌}
+use mathlib.Core.Path.{◌≡◌, refl, sym, ap, ◌∙◌}
 use mathlib.Core.List.{List, [], ◌∷◌, ◌++◌, append_assoc}
 use Prim.Native.Nat.{ℕ, zero, suc, ◌+◌, ◌-◌, ◌*◌, ◌≤◌, ◌<◌}
 use native.Mathlib.Numerals.{add-one}
 use native.Mathlib.Omega.{arith}
 use lib.ListN.{length, take, drop, get_or, length-append, length-take, length-drop}
 use lib.Seq.{drop-drop, drop_at, drop-cons, take-add, take-take, length-take-le, take-append-le}
-use lib.Seq.{drop-append-le, drop-append-add}
+use lib.Seq.{drop-append-le}
 use Rattle.little_endian.specs.LittleEndian.{little_endian, from_little_endian}
 use Rattle.little_endian.proofs.LittleEndianLaws.{number-back}
-use Rattle.archive.specs.Block.{block_bytes, max_used, block, number_at}
-use Rattle.archive.specs.Recording.{Recording, InSpan, AllInSpan, head_bytes, head, stream, blocks_for}
+use Rattle.archive.specs.Block.{max_used, block, number_at}
+use Rattle.archive.specs.Recording.{Recording, InSpan, AllInSpan, head, stream, blocks_for}
 use Rattle.archive.specs.Recording.{numbered, joined}
 use Rattle.archive.specs.Recording.{recording_blocks, recording_bytes, archive_blocks, archive}
 use Rattle.archive.specs.Listing.{recordings_of, Sound}
 use Rattle.archive.specs.Places.{At, HeadAt, HeadOf, no_recording, recording_at}
 use Rattle.archive.proofs.BlockLaws.{joined_append, block-length, cut_fits, stream-length}
-use Rattle.archive.proofs.BlockLaws.{head-length, recording_length}
+use Rattle.archive.proofs.BlockLaws.{recording_length}
 use Rattle.archive.proofs.ByteLaws.{short_back}
 use Rattle.archive.proofs.PartLaws.{front, behind, block-parts, front_length}
 

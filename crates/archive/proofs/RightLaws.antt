@@ -2,16 +2,16 @@
 -- Assumes nothing.
 use mathlib.Core.Path.{◌≡◌, refl, sym, ap, ap₂, ◌∙◌}
 use mathlib.Core.Bool.{Bool, true, false, cond}
-use mathlib.Core.List.{List, [], ◌∷◌, ◌++◌, append_assoc}
-use Prim.Native.Nat.{ℕ, zero, suc, ◌+◌, ◌-◌, ◌*◌, ◌≤◌, ◌<◌}
+use mathlib.Core.List.{List, ◌++◌, append_assoc}
+use Prim.Native.Nat.{ℕ, ◌+◌, ◌-◌, ◌*◌, ◌≤◌, ◌<◌}
 use native.Mathlib.Omega.{arith}
-use borrow.Author.Tests.{eqb-true, ltb-true, ltb-false, lt-ltb, le-ltb, le-leb, lt-leb, leb-true, leb-false}
-use lib.Dec.{leb, ltb}
+use borrow.Author.Tests.{eqb-true, ltb-true, ltb-false, le-ltb, le-leb, lt-leb, leb-true, leb-false}
+use lib.Dec.{ltb}
 use lib.ListN.{length, take, drop, replicate, length-take, length-drop, take-append-drop}
 use lib.Seq.{take_at, drop-drop, take_all}
 use Rattle.little_endian.specs.LittleEndian.{little_endian, from_little_endian}
 use Rattle.archive.specs.Block.{Bytes, block_bytes, checked_bytes, max_used, check_of, block_body, block}
-use Rattle.archive.specs.Block.{number_in, used_in, check_in, data_in, filling_in, passes}
+use Rattle.archive.specs.Block.{used_in, data_in, filling_in}
 use Rattle.archive.specs.Recording.{head_bytes}
 use Rattle.archive.specs.Faults.{used_asked, finished}
 use Rattle.archive.proofs.BlockLaws.{body_length}

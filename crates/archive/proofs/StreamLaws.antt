@@ -1,17 +1,16 @@
 -- Streams and the recordings that they hold, there and back.
 -- Assumes nothing.
-use mathlib.Core.Path.{◌≡◌, refl, sym, ap, ap₂, ◌∙◌}
+use mathlib.Core.Path.{◌≡◌}
 use mathlib.Core.List.{List, [], ◌∷◌, ◌++◌, append_assoc}
-use Prim.Native.Nat.{ℕ, zero, suc, ◌+◌, ◌-◌, ◌*◌, ◌≤◌, ◌<◌}
+use Prim.Native.Nat.{ℕ, ◌+◌, ◌≤◌, ◌<◌}
 use native.Mathlib.Omega.{arith}
-use lib.ListN.{length, take, drop, get_or, length-take, length-drop, take-append-drop}
-use lib.Seq.{take_at, drop_at, drop-drop}
+use lib.ListN.{length, take, drop, length-take, length-drop, take-append-drop}
+use lib.Seq.{drop-drop}
 use Rattle.answers.specs.Limits.{max_payload_bytes}
 use Rattle.little_endian.specs.LittleEndian.{little_endian, from_little_endian}
 use Rattle.little_endian.proofs.LittleEndianLaws.{number-back}
 use Rattle.archive.specs.Block.{Bytes}
 use Rattle.archive.specs.Recording.{Recording, InSpan, head_bytes, head, stream, of_stream}
-use Rattle.archive.proofs.BlockLaws.{head-length, bytes-length}
 use Rattle.archive.proofs.ByteLaws.{bytes_take, bytes_drop, bytes_append, bytes-number}
 use Rattle.archive.proofs.ByteLaws.{number_bytes-back, short_back}
 

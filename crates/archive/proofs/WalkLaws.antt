@@ -1,15 +1,15 @@
 -- The blocks of a recording, judged and read one after the other.
 -- Assumes nothing.
-use mathlib.Core.Path.{◌≡◌, refl, sym, ap, ◌∙◌}
-use mathlib.Core.Bool.{Bool, true, false, cond}
+use mathlib.Core.Path.{◌≡◌, refl, ◌∙◌}
+use mathlib.Core.Bool.{Bool, true, false}
 use mathlib.Core.List.{List, [], ◌∷◌, ◌++◌, append_assoc}
-use Prim.Native.Nat.{ℕ, zero, suc, ◌+◌, ◌-◌, ◌*◌, ◌≤◌, ◌<◌}
+use Prim.Native.Nat.{ℕ, zero, suc, ◌+◌, ◌*◌, ◌≤◌, ◌<◌}
 use native.Mathlib.Numerals.{add-one}
 use native.Mathlib.Omega.{arith}
 use lib.ListN.{length, take, drop, length-take, length-drop, take-append-drop}
 use lib.Seq.{take_all}
 use Rattle.answers.specs.Limits.{max_payload_bytes}
-use Rattle.archive.specs.Block.{Bytes, max_used, block, data_in}
+use Rattle.archive.specs.Block.{Bytes, max_used, block}
 use Rattle.archive.specs.Recording.{head_bytes, of_stream, blocks_for, numbered}
 use Rattle.archive.specs.Faults.{announced_by, used_asked, finished, none_left, good}
 use Rattle.archive.specs.Listing.{recordings_from}

@@ -1,6 +1,6 @@
 -- Document 02 §9: the recordings of a file, and those in force (Q9.4, Q9.5).
 -- Assumes nothing.
-use Rattle.std.specs.Prelude.{◌≡◌, Bool, true, false, not, ◌&&◌, ◌||◌, cond, List, [], ◌∷◌, ◌++◌, ℕ, ◌+◌, eqb, ltb, length}
+use Rattle.std.specs.Prelude.{◌≡◌, Bool, false, ◌&&◌, ◌||◌, cond, List, [], ◌∷◌, ◌++◌, ℕ, ◌+◌, eqb, ltb, length}
 use Rattle.archive.specs.Block.{data_in}
 use Rattle.archive.specs.Recording.{Recording, AllInSpan, of_stream, archive}
 use Rattle.archive.specs.Faults.{file_blocks, announced_by, finished}

@@ -1,7 +1,7 @@
 -- Where the recordings of a file stand.
 -- Assumes nothing.
 -- ---- for the code alone
-use Rattle.std.specs.Prelude.{◌≡◌, List, [], ℕ, ◌+◌, ◌≤◌, length, drop, get_or}
+use Rattle.std.specs.Prelude.{◌≡◌, List, [], ℕ, ◌≤◌, length, drop, get_or}
 use Rattle.archive.specs.Block.{number_at}
 use Rattle.archive.specs.Recording.{Recording, archive}
 use Rattle.archive.specs.Listing.{recordings_of}
