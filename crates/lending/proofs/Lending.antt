@@ -7,20 +7,22 @@ use Prim.Native.Nat.{ℕ}
 use mathlib.Core.List.{List, [], ◌∷◌}
 use lib.ListN.{length}
 use seplogic.Ra.Ura.{Ura}
-use seplogic.Ra.TreeShare.{full_share}
+use base.Fraction.{full_share}
 use mir.Syntax.{Lifetime}
 use mir.Val.{Val}
 use base.Logic.{ent, sep, ex}
-use base.Fml.{Lft, GName, Share, Fml, fsep, flft, fdead, fobs, fauth, fres, flent, fobor}
-use types.Logic.{Logic, sem}
-use types.Kit.{‵, ◌⊛◌, some, later, ◌$◌, ◌∵◌, !, qed, move, use0, use1, use2, use3, drop, split, pick, fsplit, fjoin, fpack, feq_i, frame, await, updating, now as at_once, show, done}
+use base.Fml.{Lft, GName, Share, Fml, fsep, flft, fdead, fobs, fauth, fres, flent, fobor, Incl}
+use ghost.Rules.{Toks, span}
+use types.Logic.{Logic, sem, lfts}
+use types.Kit.{‵, raw, ◌⊛◌, some, later, ◌$◌, ◌∵◌, !, qed, move, use0, use1, use2, use3, drop, split, join, pick, fsplit, fjoin, fpack, feq_i, frame, await, updating, now as at_once, show, done}
 use types.Hole.{fills_l, fills_up}
 use types.SemTy.{cells, Arr}
 use types.Share.{arr_parts}
 use types.Tokens.{lent_back}
 use denote.RattleType.{RattleType}
 use denote.Shadow.{pure_i}
-use denote.Memory.{mem, shares}
+use denote.Memory.{mem, shares, shared_of}
+use denote.Shares.{SharesAsFrom}
 use denote.Ref.{MutBor}
 use denote.Slice.{slice_val, MutSlice, ShrSlice, Holeys, heres, Room, finally, mut_slice_at, coded_holeys}
 use denote.Lend.{Held, lends_slice, slice_back, lends_shr_slice}
@@ -82,14 +84,18 @@ module _ (R : RattleType) (κ κ' : Lft) (q : Share) (γ : GName) (b o : ℕ) wh
         use1 𝓛 (‵ (row R full_share zs b o)) (whole_out 𝓛 R zs b o) $ use2 𝓛 (later (‵ ((MutSlice ℓ κ R).own_val (at-list γ zs) vals) ⊛ ‵ (flft κ q))) (closed zs room e) $ await ! tt $ split ! $
         at_once ! $ frame ! $ done !
 
-    -- lent as a `&[T]`
-    pub lends_shared : Room R (length ys) → ent 𝓤 (sep 𝓤 (sem 𝓛 ((MutSlice ℓ κ R).own_val (at-list γ ys) vals)) (A.lft κ q))
-        (H.⇛ (ex 𝓤 (λ (δ : GName). sep 𝓤 (sem 𝓛 ((ShrSlice ℓ' κ' R).own_val (at-list δ ys) vals)) (sem 𝓛 (LentShared ys)))))
-    lends_shared room =
-        qed 𝓛 (‵ ((MutSlice ℓ κ R).own_val (at-list γ ys) vals) ∷ ‵ (flft κ q) ∷ []) ∵ updating ! $ use2 𝓛 (later (‵ (row R full_share ys b o) ⊛ ‵ (Open ys))) opened $ await ! tt $ split ! $
+    -- lent as a `&[T]`, over tokens whose lifetimes lie within κ' and within what sharing the elements takes
+    pub lends_shared : Room R (length ys) → (l : Lft) → SharesAsFrom 𝓛 full_share R (shared_of R) l → (ts : Toks) → Incl (span ts) l → Incl (span ts) κ'
+        → ent 𝓤 (sep 𝓤 (sem 𝓛 ((MutSlice ℓ κ R).own_val (at-list γ ys) vals)) (sep 𝓤 (A.lft κ q) (lfts 𝓛 ts)))
+        (H.⇛ (sep 𝓤 (sem 𝓛 ((ShrSlice ℓ' κ' R).own_val (record { ref_ptr = (b, o); now = ys }) vals)) (sep 𝓤 (sem 𝓛 (LentShared ys)) (lfts 𝓛 ts))))
+    lends_shared room l free ts inner outer =
+        qed 𝓛 (‵ ((MutSlice ℓ κ R).own_val (at-list γ ys) vals) ∷ (‵ (flft κ q) ⊛ raw (lfts 𝓛 ts)) ∷ []) ∵ updating ! $ move ! (1 ∷ []) $ split ! $ move ! (2 ∷ 0 ∷ []) $
+        -- [the slice; its token; the other tokens]
+        use2 𝓛 (later (‵ (row R full_share ys b o) ⊛ ‵ (Open ys))) opened $ await ! tt $ split ! $ move ! (0 ∷ 2 ∷ 1 ∷ []) $
         feq_i ! ℕ (length ys) (length ys) refl $ fjoin ! $
-        use1 𝓛 (later (some (λ (δ : GName). ‵ ((ShrSlice ℓ' κ' R).own_val (at-list δ ys) vals) ⊛ ‵ (flent κ' ((arr_parts (shares R) (length ys)).part full_share ys b o))))) (lends_shr_slice 𝓛 R ℓ' κ' full_share ys b o room) $ await ! tt $ pick ! (λ δ. split ! $
-        at_once ! $ show ! (λ (ε : GName). sep 𝓤 (sem 𝓛 ((ShrSlice ℓ' κ' R).own_val (at-list ε ys) vals)) (sem 𝓛 (LentShared ys))) δ $ frame ! $ fjoin ! $ done !)
+        use2 𝓛 (later ((‵ ((ShrSlice ℓ' κ' R).own_val (record { ref_ptr = (b, o); now = ys }) vals) ⊛ ‵ (flent κ' ((arr_parts (shares R) (length ys)).part full_share ys b o))) ⊛ raw (lfts 𝓛 ts))) (lends_shr_slice 𝓛 R ℓ' κ' full_share ys b o room l free ts inner outer) $ await ! tt $ split ! $ split ! $
+        -- [the shared slice; the lender's part; the tokens; what is open]
+        at_once ! $ frame ! $ move ! (0 ∷ 2 ∷ 1 ∷ []) $ fjoin ! $ join ! $ done !
 
     -- it comes back as it was
     pub shared_back : Room R (length ys) → ent 𝓤 (sep 𝓤 (A.dead κ') (sem 𝓛 (LentShared ys))) (H.⇛ (sep 𝓤 (sem 𝓛 ((MutSlice ℓ κ R).own_val (at-list γ ys) vals)) (A.lft κ q)))
