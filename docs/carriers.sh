@@ -16,7 +16,7 @@ trap 'rm -f "$index" "$found"' EXIT
 
 # What specs and laws declare: kind, crate, name.
 declared() {
-    find crates -name '*.antt' ! -name Proof.antt -print0 | xargs -0 awk '
+    find crates -name '*.antt' ! -name Proof.antt ! -name Invariants.antt ! -name Answers.antt ! -path '*/out/*' -print0 | xargs -0 awk '
         /^ *--/ { next }
         {
             split(FILENAME, part, "/")
@@ -31,7 +31,7 @@ declared() {
 # What the code declares: types, and functions, by whether they are public and have an `ensures` or a
 # `requires`. A method's name has its type before it.
 coded() {
-    find crates -name '*.rt' -print0 | xargs -0 awk '
+    find crates -name '*.rt' ! -path '*/out/*' -print0 | xargs -0 awk '
         function tell(kind, name) { print kind "\t" part[2] "\t" name }
         FNR == 1 { split(FILENAME, part, "/"); owner = name = "" }
         /^ *\/\// { next }

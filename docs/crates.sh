@@ -10,7 +10,7 @@ listed() { sed 's/#.*//' crates.txt | awk -F : 'NF == 2 { n = split($2, d, " ");
 # crate, dependency: the same where a file of the crate names the dependency.
 named() {
     listed | while read -r crate dep; do
-        grep -rqE --include='*.rt' --include='*.antt' "Rattle·$dep[.]|(^|[^A-Za-z0-9_:])$dep::" "crates/$crate" &&
+        grep -rqE --include='*.rt' --include='*.antt' "Rattle[.]$dep[.]|(^|[^A-Za-z0-9_:])$dep::" "crates/$crate" &&
             echo "$crate $dep"
     done
 }

@@ -34,7 +34,7 @@ fn print_tally(made: usize, agreed: usize) {
 // Payloads of `length` bytes with the zero in every place, or behind them, from every bit and from
 // ten places past the last one. The number of a case tells its fill, the place of its zero and its
 // starting bit.
-fn run_length_lem(length: usize)
+fn run_length(length: usize)
     requires { length ≤ 20 }
 {
     let places = 8 * length + 1;
@@ -57,7 +57,7 @@ fn run_length_lem(length: usize)
 fn main() {
     let mut length = 0;
     while length <= 20 {
-        run_length_lem(length);
+        run_length(length);
         length += 1;
     }
 }

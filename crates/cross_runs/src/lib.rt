@@ -74,9 +74,9 @@ pub fn run_cross(
     while buffer.len() - i > 1 {
         let frame = frame_at(buffer, i);
         let in_one = either(second, frame.a, frame.b);
-        let in_two_lem = either(second, frame.b, frame.a);
+        let in_two = either(second, frame.b, frame.a);
         let one = turn_clip(direction, weight, delta, last, in_one);
-        let two = turn_clip(direction, other, delta, one.sample, in_two_lem);
+        let two = turn_clip(direction, other, delta, one.sample, in_two);
         let out_a = either(second, one.element, two.element);
         let out_b = either(second, two.element, one.element);
         store_frame(buffer, i, out_a, out_b);

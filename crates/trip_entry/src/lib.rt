@@ -10,7 +10,7 @@ ghost use Rattle.trip_entry.specs.Trip.{view_trip, trip_entry, TripRefuses};
 use answers::{Outcome, Refusal};
 use pack_entry::encode_packed_samples_stereo_from_entropy;
 use passes::DecorrPass;
-use trip_steps::{early_refusal, find_residuals, read_back_lem};
+use trip_steps::{early_refusal, find_residuals, read_back};
 
 // What the round trip answers: why it refused, if it did, the bits written, and whether the
 // recording came back: reading and decorrelation accept, as many bits are used as were written, and
@@ -69,7 +69,7 @@ pub fn round_trip(
     TripAnswer {
         outcome: Outcome::Accepted,
         bits: bits,
-        same: read_back_lem(
+        same: read_back(
             passes,
             count,
             entropy,

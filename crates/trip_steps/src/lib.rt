@@ -65,7 +65,7 @@ fn came_back(read: Outcome, decorrelated: Outcome, used: usize, written: usize, 
 }
 
 // Whether a payload of so many bits, read and decorrelated into the scratch list, is the recording.
-pub fn read_back_lem(
+pub fn read_back(
     passes: [DecorrPass; MAX_PASSES],
     count: usize,
     entropy: &[u8],
