@@ -4,6 +4,8 @@ ghost use Rattle.std.specs.Prelude.{◌≤◌, length};
 
 use crate::numbers::read_byte;
 use crate::printing::print;
+use std::io;
+use std::io::Read;
 
 // A number without its sign, whether it is negative, and whether it ends a list.
 #[derive(Drop)]
@@ -15,48 +17,43 @@ struct Entry {
 
 // The first letter of the next line's word, which is read to the space after it; 0 where the file
 // ends. No word has more than 20 letters.
-pub fn read_kind(fd: i32) -> u8 {
-    let kind = read_byte(fd);
-    let mut i: u32 = 0;
-    while i < 20 {
-        if read_byte(fd) == b' ' {
+pub fn read_kind<R: Read>(file: &mut R) -> u8 {
+    let kind = read_byte(file);
+    for _ in 0..20u32 {
+        if read_byte(file) == b' ' {
             break;
         }
-        i += 1;
     }
     kind
 }
 
 // Prints the name of a case, and the colon after it. No name has more than 80 letters.
-pub fn print_name(fd: i32) {
-    let mut i: u32 = 0;
-    while i < 80 {
-        let byte = read_byte(fd);
+pub fn print_name<R: Read>(rt: &impl Print, file: &mut R) -> io::Result<()> {
+    for _ in 0..80u32 {
+        let byte = read_byte(file);
         let text = [byte];
-        print(&text);
+        print(rt, &text)?;
         if byte == b':' {
             break;
         }
-        i += 1;
     }
+    Ok(())
 }
 
 // The next number of a list, after the space before it: a sign or none, and up to nine digits.
-fn read_entry(fd: i32) -> Entry {
-    let mut byte = read_byte(fd);
+fn read_entry<R: Read>(file: &mut R) -> Entry {
+    let mut byte = read_byte(file);
     let negative = byte == b'-';
     if negative {
-        byte = read_byte(fd);
+        byte = read_byte(file);
     }
     let mut size: u32 = 0;
-    let mut i: u32 = 0;
-    while i < 9 {
+    for _ in 0..9u32 {
         if byte < b'0' || byte > b'9' {
             break;
         }
         size = size % 100000000 * 10 + (byte - b'0') as u32;
-        byte = read_byte(fd);
-        i += 1;
+        byte = read_byte(file);
     }
     Entry {
         size,
@@ -66,16 +63,16 @@ fn read_entry(fd: i32) -> Entry {
 }
 
 // Reads a list of bytes to the start of another, and answers how many there are.
-pub fn read_bytes(fd: i32, list: &mut [u8]) -> usize
+pub fn read_bytes<R: Read>(file: &mut R, list: &mut [u8]) -> usize
     ensures { result ≤ length list.new }
 {
-    let mut last = read_byte(fd) != b' ';
+    let mut last = read_byte(file) != b' ';
     let mut i = 0;
     while i < list.len() {
         if last {
             break;
         }
-        let entry = read_entry(fd);
+        let entry = read_entry(file);
         list[i] = (entry.size % 256) as u8;
         i += 1;
         last = entry.last;
@@ -94,16 +91,16 @@ fn signed(size: u32, negative: bool) -> i32 {
 }
 
 // Reads a list of numbers to the start of another, and answers how many there are.
-pub fn read_list(fd: i32, list: &mut [i32]) -> usize
+pub fn read_list<R: Read>(file: &mut R, list: &mut [i32]) -> usize
     ensures { result ≤ length list.new }
 {
-    let mut last = read_byte(fd) != b' ';
+    let mut last = read_byte(file) != b' ';
     let mut i = 0;
     while i < list.len() {
         if last {
             break;
         }
-        let entry = read_entry(fd);
+        let entry = read_entry(file);
         list[i] = signed(entry.size, entry.negative);
         i += 1;
         last = entry.last;

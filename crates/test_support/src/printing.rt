@@ -1,37 +1,37 @@
 // Text and numbers on standard output.
-use libc::STDOUT_FILENO;
 use spans::distance;
+use std::io;
 
-pub fn print(text: &[u8]) {
-    io::write_all(STDOUT_FILENO, text);
+pub fn print(rt: &impl Print, text: &[u8]) -> io::Result<()> {
+    rt.write_all(text)
 }
 
 // A number with what it counts.
-pub fn print_count(count: usize, of: &[u8]) {
-    io::print_decimal(STDOUT_FILENO, count as u64);
-    print(of);
+pub fn print_count(rt: &impl Print, count: usize, of: &[u8]) -> io::Result<()> {
+    print!(rt; "{count}")?;
+    print(rt, of)
 }
 
 // A number, after its name.
-pub fn print_named(name: &[u8], number: usize) {
-    print(name);
-    io::print_decimal(STDOUT_FILENO, number as u64);
+pub fn print_named(rt: &impl Print, name: &[u8], number: usize) -> io::Result<()> {
+    print(rt, name)?;
+    print!(rt; "{number}")
 }
 
 // A signed number, with a space before it.
-pub fn print_value(value: i32) {
-    print(b" ");
+pub fn print_value(rt: &impl Print, value: i32) -> io::Result<()> {
+    print(rt, b" ")?;
     if value < 0 {
-        print(b"-");
+        print(rt, b"-")?;
     }
-    io::print_decimal(STDOUT_FILENO, distance(value) as u64);
+    let size = distance(value);
+    print!(rt; "{size}")
 }
 
 // Signed numbers one after another.
-pub fn print_list(values: &[i32]) {
-    let mut i = 0;
-    while i < values.len() {
-        print_value(values[i]);
-        i += 1;
+pub fn print_list(rt: &impl Print, values: &[i32]) -> io::Result<()> {
+    for value in values {
+        print_value(rt, *value)?;
     }
+    Ok(())
 }
