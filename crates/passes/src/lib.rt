@@ -13,7 +13,7 @@ ghost use Rattle.passes.specs.Making.{seed_count, ordered, padded, seed_length, 
 use answers::{Outcome, Refusal};
 
 // One pass: its term, the step of its weights, and for each channel the weight and the history.
-#[derive(Drop)]
+#[derive(Clone, Copy)]
 pub struct DecorrPass {
     pub term: i8,
     pub delta: i32,
@@ -24,7 +24,7 @@ pub struct DecorrPass {
 }
 
 // Which way passes are run.
-#[derive(Drop)]
+#[derive(Clone, Copy)]
 pub enum Direction {
     // Residuals to samples, the first pass first.
     Decorrelation,
@@ -33,7 +33,7 @@ pub enum Direction {
 }
 
 // What a term's number stands for: a fixed lag of 1 to 8 frames, or one of the five others.
-#[derive(Drop)]
+#[derive(Clone, Copy)]
 pub enum Term {
     Lag(usize),
     Seventeen,
@@ -45,7 +45,7 @@ pub enum Term {
 }
 
 // Whether a seed has the samples that a term takes.
-#[derive(Drop)]
+#[derive(Clone, Copy)]
 pub enum SeedLength {
     Enough,
     TooShort,

@@ -1,0 +1,65 @@
+-- `DecorrPass::new` meets its contract: one law for each of its four answers. Assumes nothing.
+use mathlib.Core.Bool.{false, ◌&&◌}
+use lib.Dec.{ltb}
+use Prim.Native.Nat.{◌≤◌}
+use lib.ListN.{length}
+use mir.Syntax.{w8}
+use mir.ValLaws.{to_z-of_z}
+use Rattle.passes.proofs.SeedLaws.{enough-long}
+use Rattle.passes.proofs.MakingLaws.{count_small, Known, made_invalid, made-short-a, made-short-b, made-accepted}
+use Rattle.passes.proofs.DecorrPass.new.Goals as goal
+
+-- an invalid term
+pub returns-then-not-is_valid : goal.returns-then-not-is_valid
+returns-then-not-is_valid c =
+    rw c.refused.ensures
+    (made_invalid c.args.term c.args.delta c.args.weight_a c.args.weight_b c.args.seed_a.now c.args.seed_b.now (rw (to_z-of_z w8 _ c.ranges.term) at c.term_of-t.ensures) c.is_valid.ensures c.if-not-is_valid.true)
+
+-- an A seed that is too short
+pub returns-in_default : goal.returns-in_default
+returns-in_default c =
+    let k : Known c.args.term c.term_of-t.result c.is_valid.result c.seed_count-count.result =
+    record {
+      term_is = rw (to_z-of_z w8 _ c.ranges.term) at c.term_of-t.ensures;
+      valid-is = c.is_valid.ensures;
+      valid = c.if-not-is_valid.false;
+      count-is = c.seed_count-count.ensures;
+    } in
+    rw c.refused-in_default.ensures
+    (made-short-a c.args.term c.args.delta c.args.weight_a c.args.weight_b c.args.seed_a.now c.args.seed_b.now k c.seed_length.ensures c.in_default.is)
+
+-- a B seed that is too short
+pub returns-in_default-seed_length : goal.returns-in_default-seed_length
+returns-in_default-seed_length c =
+    let k : Known c.args.term c.term_of-t.result c.is_valid.result c.seed_count-count.result =
+    record {
+      term_is = rw (to_z-of_z w8 _ c.ranges.term) at c.term_of-t.ensures;
+      valid-is = c.is_valid.ensures;
+      valid = c.if-not-is_valid.false;
+      count-is = c.seed_count-count.ensures;
+    } in
+    rw c.refused-in_default-seed_length.ensures
+    (made-short-b c.args.term c.args.delta c.args.weight_a c.args.weight_b c.args.seed_a.now c.args.seed_b.now k c.seed_length.ensures c.in-Enough.is c.is_cross.ensures c.seed_length-2.ensures c.in_default-seed_length.is)
+
+pub seed_history-requires : goal.seed_history-requires
+seed_history-requires c =
+    let small : c.seed_count-count.result ≤ 8 = rw (c.seed_count-count.ensures, c.term_of-t.ensures) (count_small _) in
+    (small, enough-long false c.seed_count-count.result (length c.args.seed_a.now) c.seed_length.ensures c.in-Enough.is)
+
+pub seed_history-requires-2 : goal.seed_history-requires-2
+seed_history-requires-2 c =
+    let small : c.seed_count-count.result ≤ 8 = rw (c.seed_count-count.ensures, c.term_of-t.ensures) (count_small _) in
+    (small, enough-long (c.is_cross.result && ltb 0 (length c.args.seed_a.now)) c.seed_count-count.result (length c.args.seed_b.now) c.seed_length-2.ensures c.in-Enough-seed_length.is)
+
+-- a pass that is made
+pub returns : goal.returns
+returns c =
+    let k : Known c.args.term c.term_of-t.result c.is_valid.result c.seed_count-count.result =
+    record {
+      term_is = rw (to_z-of_z w8 _ c.ranges.term) at c.term_of-t.ensures;
+      valid-is = c.is_valid.ensures;
+      valid = c.if-not-is_valid.false;
+      count-is = c.seed_count-count.ensures;
+    } in
+    made-accepted c.args.term c.args.delta c.args.weight_a c.args.weight_b c.args.seed_a.now c.args.seed_b.now k c.seed_length.ensures c.in-Enough.is c.is_cross.ensures c.seed_length-2.ensures c.in-Enough-seed_length.is
+    c.is_lag-reversed.ensures c.seed_history.ensures c.seed_history-2.ensures c.ranges.term c.ranges.delta c.ranges.weight_a c.ranges.weight_b
