@@ -11,8 +11,8 @@ mod payloads;
 mod plain;
 
 use checked_bits::checked_get_unary;
-use libc::STDOUT_FILENO;
 use plain::{count_bit_by_bit, same};
+use std::io;
 
 // Whether both counts of a payload from a place on are the same.
 fn agrees(payload: &[u8], at: usize) -> bool {
@@ -23,18 +23,14 @@ fn agrees(payload: &[u8], at: usize) -> bool {
 }
 
 // The end of a line.
-fn print_tally(made: usize, agreed: usize) {
-    io::write_all(STDOUT_FILENO, b": ");
-    io::print_decimal(STDOUT_FILENO, made as u64);
-    io::write_all(STDOUT_FILENO, b" counts, ");
-    io::print_decimal(STDOUT_FILENO, agreed as u64);
-    io::write_all(STDOUT_FILENO, b" as bit by bit\n");
+fn print_tally(rt: &impl Print, made: usize, agreed: usize) -> io::Result<()> {
+    println!(rt; ": {made} counts, {agreed} as bit by bit")
 }
 
 // Payloads of `length` bytes with the zero in every place, or behind them, from every bit and from
 // ten places past the last one. The number of a case tells its fill, the place of its zero and its
 // starting bit.
-fn run_length(length: usize)
+fn run_length(rt: &impl Print, length: usize) -> io::Result<()>
     requires { length ≤ 20 }
 {
     let places = 8 * length + 1;
@@ -49,15 +45,13 @@ fn run_length(length: usize)
         }
         i += 1;
     }
-    io::write_all(STDOUT_FILENO, b"length ");
-    io::print_decimal(STDOUT_FILENO, length as u64);
-    print_tally(made, agreed);
+    print!(rt; "length {length}")?;
+    print_tally(rt, made, agreed)
 }
 
-fn main() {
-    let mut length = 0;
-    while length <= 20 {
-        run_length(length);
-        length += 1;
+fn main(rt: HostRuntime) -> io::Result<()> {
+    for length in 0..=20usize {
+        run_length(&rt, length)?;
     }
+    Ok(())
 }

@@ -23,10 +23,8 @@ pub fn with_a_zero(fill: usize, zero: usize, at: usize) -> [u8; 20]
     let from = if fill % 2 == 0 { 0 } else { at };
     let on = if fill < 2 { zero + 1 } else { 160 };
     let mut bytes = [0u8; 20];
-    let mut i = 0usize;
-    while i < 20 {
+    for i in 0..20usize {
         bytes[i] = (ones_from(i, from) & !ones_from(i, zero)) | ones_from(i, on);
-        i += 1;
     }
     bytes
 }
