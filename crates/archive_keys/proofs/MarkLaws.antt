@@ -1,7 +1,7 @@
 -- A key looked up along its chain: what it supersedes is marked, and where it stands again is told.
 -- Assumes nothing.
 use mathlib.Core.Path.{◌≡◌, refl, sym, ap, ◌∙◌}
-use mathlib.Core.Bool.{Bool, true, false, ◌||◌, false≢true, true≢false, or-false, and-eq-true_iff}
+use mathlib.Core.Bool.{Bool, true, false, ◌||◌, false≢true, or-false, and-eq-true_iff}
 use mathlib.Core.List.{List}
 use Prim.Native.Nat.{ℕ, ◌+◌, ◌≤◌, ◌<◌}
 use native.Mathlib.Omega.{arith}
