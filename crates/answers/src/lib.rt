@@ -11,7 +11,7 @@ ghost use Rattle.answers.specs.Numbers.{number_of, outcome_number};
 pub mod limits;
 
 // A reason to refuse. The order is that of the numbers 1 to 19.
-#[derive(Drop)]
+#[derive(Clone, Copy)]
 pub enum Refusal {
     // The entropy payload is neither 6 nor 12 bytes long.
     EntropyLength,
@@ -54,7 +54,7 @@ pub enum Refusal {
 }
 
 // What an entry says: that it accepted its input, or why not.
-#[derive(Drop)]
+#[derive(Clone, Copy)]
 pub enum Outcome {
     Accepted,
     Refused(Refusal),
