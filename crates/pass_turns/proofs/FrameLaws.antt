@@ -6,7 +6,7 @@ use Prim.Native.Nat.{ℕ, ◌+◌, ◌/◌, ◌<◌, ◌≤◌}
 use native.Mathlib.Numerals.{add-one, add-two}
 use native.Mathlib.Omega.{arith}
 use lib.IntN.{ℤ}
-use lib.ListN.{length, set, take, drop, length-set, length-map}
+use lib.ListN.{length, take, drop, length-set}
 use mir.Syntax.{w32}
 use mir.Val.{Val, SFits}
 use denote.Laws.{Is}
@@ -49,8 +49,8 @@ pass_fits p vs g =
       delta = record { sfits = g.1.1.1.0.1 };
       weight-a = record { sfits = g.1.1.1.1.0.1 };
       weight-b = record { sfits = g.1.1.1.1.1.0.1 };
-      eight-a = simp length-map at g.1.1.1.1.1.1.0.1.0.1;
-      eight-b = simp length-map at g.1.1.1.1.1.1.1.0.1.0.1;
+      eight-a = g.1.1.1.1.1.1.0.1.0.1;
+      eight-b = g.1.1.1.1.1.1.1.0.1.0.1;
     }
 
 -- the numbers of a frame are 32-bit numbers

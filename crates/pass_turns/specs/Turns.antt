@@ -1,7 +1,7 @@
 -- One channel's step in either direction, as the loops make it, and the pass with the numbers that
 -- a loop carries. The definition of a step stands in `passes`. Assumes nothing.
 -- ---- for the code alone
-use Rattle.std.specs.Prelude.{Bool, true, false, List, ℕ, ◌+◌, ℤ, set}
+use Rattle.std.specs.Prelude.{Bool, List, ℕ, ◌+◌, ℤ, set}
 use Rattle.weights.specs.Weights.{sample, residual}
 use Rattle.passes.specs.Step.{slot, weighed}
 use Rattle.passes.specs.declared.DecorrPass.{DecorrPass}
