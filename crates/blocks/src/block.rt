@@ -5,15 +5,17 @@ ghost use Rattle.std.specs.Prelude.{◌≡◌, length};
 use crate::record::read_passes;
 use answers::outcome_number;
 use decorrelation::{decorrelate_array, recorrelate_array};
+use inputs::read_full;
 use pack_entry::encode_packed_samples_stereo_from_entropy;
 use packing::PackAnswer;
 use passes::DecorrPass;
 use samples::reading::decode_packed_samples_stereo_from_entropy;
+use std::io::Read;
 use test_support::numbers::{fill, load_words, part, part_signed, read_size};
 use trip_lists::same;
 
 // How much of each part a block holds.
-#[derive(Drop)]
+#[derive(Clone, Copy)]
 pub struct Head {
     pub frames: usize,
     pub passes: usize,
@@ -29,10 +31,10 @@ pub struct Verdict {
 }
 
 // The sizes after a label.
-pub fn read_head(fd: i32) -> Head {
-    let frames = read_size(fd);
-    let passes = read_size(fd);
-    let length = read_size(fd);
+pub fn read_head<R: Read>(file: &mut R) -> Head {
+    let frames = read_size(file);
+    let passes = read_size(file);
+    let length = read_size(file);
     Head {
         frames,
         passes,
@@ -56,8 +58,7 @@ fn same_bit(a: u8, b: u8, place: usize) -> bool {
 
 // Whether two lists both have this many bits, and the same ones.
 fn same_bits(a: &[u8], b: &[u8], bits: usize) -> bool {
-    let mut i: usize = 0;
-    while i < bits {
+    for i in 0..bits {
         let at = i / 8;
         if at >= a.len() || at >= b.len() {
             return false;
@@ -65,7 +66,6 @@ fn same_bits(a: &[u8], b: &[u8], bits: usize) -> bool {
         if !same_bit(a[at], b[at], i) {
             return false;
         }
-        i += 1;
     }
     true
 }
@@ -88,7 +88,7 @@ fn packs_again(
     let analysed = recorrelate_array(list, count, buffer);
     let analysis = analysed.outcome;
     let frames = buffer.len() / 2;
-    let mut out = io::large_buffer();
+    let mut out = large_buffer();
     let packed: PackAnswer = encode_packed_samples_stereo_from_entropy(
         buffer, entropy, frames, &mut out,
     );
@@ -122,6 +122,13 @@ fn judge(
     }
 }
 
+// 65,536 zeros. The `ensures` gives only the length, which lending the array needs.
+fn large_buffer() -> [u8; 65536]
+    ensures { 65536 ≡ length result }
+{
+    [0; 65536]
+}
+
 // 2,048 frames of zeros. The `ensures` gives only the length, which lending the array needs.
 fn silence() -> [i32; 4096]
     ensures { 4096 ≡ length result }
@@ -131,20 +138,20 @@ fn silence() -> [i32; 4096]
 
 // Runs the block of a head, of up to 2,048 frames and 65,536 bytes: reads its entropy payload,
 // passes, samples and payload from the file.
-pub fn run(fd: i32, head: Head) -> Verdict {
+pub fn run<R: Read>(file: &mut R, head: Head) -> Verdict {
     let frames = head.frames;
     let length = head.length;
     if frames > 2048 {
         return neither();
     }
     let mut entropy = [0u8; 12];
-    io::read_full(fd, &mut entropy);
-    let passes = read_passes(fd, head.passes);
+    read_full(file, &mut entropy);
+    let passes = read_passes(file, head.passes);
     let list = passes.list;
     let mut stored = silence();
-    load_words(fd, &mut stored, 2 * frames);
-    let mut payload = io::large_buffer();
-    let whole = fill(fd, &mut payload, length);
+    load_words(file, &mut stored, 2 * frames);
+    let mut payload = large_buffer();
+    let whole = fill(file, &mut payload, length);
     if !(passes.complete & whole) {
         return neither();
     }

@@ -8,62 +8,60 @@ mod block;
 mod record;
 
 use block::{Head, Verdict};
+use inputs::read_full;
+use std::io::Read;
+use std::{fs, io};
 use test_support::printing::{print, print_count};
 
 // No file holds more blocks than this. A proved loop has to end, and nothing says that a file does.
 const MOST: u32 = 1000;
 
-fn print_agreement(agrees: bool) {
+fn print_agreement(rt: &impl Print, agrees: bool) -> io::Result<()> {
     if agrees {
-        print(b"agree");
+        print(rt, b"agree")
     } else {
-        print(b"DIFFER");
+        print(rt, b"DIFFER")
     }
 }
 
 // The line about a block, after its label.
-fn print_verdict(head: Head, verdict: Verdict) {
-    print_count(head.frames, b" frames, ");
-    print_count(head.passes, b" passes, ");
-    print_count(verdict.bits, b" bits, samples ");
-    print_agreement(verdict.samples_agree);
-    print(b", bits ");
-    print_agreement(verdict.bits_agree);
-    print(b"\n");
+fn print_verdict(rt: &impl Print, head: Head, verdict: Verdict) -> io::Result<()> {
+    print_count(rt, head.frames, b" frames, ")?;
+    print_count(rt, head.passes, b" passes, ")?;
+    print_count(rt, verdict.bits, b" bits, samples ")?;
+    print_agreement(rt, verdict.samples_agree)?;
+    print(rt, b", bits ")?;
+    print_agreement(rt, verdict.bits_agree)?;
+    print(rt, b"\n")
 }
 
 // Runs the next block of an open file. False where the file ends before another label.
-fn next(fd: i32) -> bool {
+fn next<R: Read>(rt: &impl Print, file: &mut R) -> io::Result<bool> {
     let mut label = [0u8; 24];
-    if io::read_full(fd, &mut label) < 24 {
-        return false;
+    if read_full(file, &mut label) < 24 {
+        return Ok(false);
     }
-    print(&label);
-    let head = block::read_head(fd);
-    let verdict = block::run(fd, head);
-    print_verdict(head, verdict);
-    true
+    print(rt, &label)?;
+    let head = block::read_head(file);
+    let verdict = block::run(file, head);
+    print_verdict(rt, head, verdict)?;
+    Ok(true)
 }
 
 // Runs the blocks of an open file, to its end, and answers how many there are.
-fn run_blocks(fd: i32) -> u32 {
-    let mut count: u32 = 0;
-    while count < MOST {
-        if !next(fd) {
-            break;
+fn run_blocks<R: Read>(rt: &impl Print, file: &mut R) -> io::Result<u32> {
+    for count in 0..MOST {
+        if !next(rt, file)? {
+            return Ok(count);
         }
-        count += 1;
     }
-    count
+    Ok(MOST)
 }
 
-fn main() {
-    let fd = os::open_read(b"blocks.bin");
-    if fd < 0 {
-        print(b"blocks.bin cannot be opened\n");
-        return;
-    }
-    let count = run_blocks(fd);
-    libc::close(fd);
-    print_count(count as usize, b" blocks\n");
+fn main(rt: HostRuntime) -> io::Result<()> {
+    let Ok(mut file) = fs::open(&rt, "blocks.bin") else {
+        return print(&rt, b"blocks.bin cannot be opened\n");
+    };
+    let count = run_blocks(&rt, &mut file)?;
+    print_count(&rt, count as usize, b" blocks\n")
 }

@@ -3,6 +3,7 @@ use answers::outcome_number;
 use logpack::wp_exp2s;
 use pass_bytes::{decode_term_byte, expand_weight_byte};
 use passes::{DecorrPass, PassAnswer};
+use std::io::Read;
 use test_support::numbers::{read_byte, read_word};
 
 // The passes of a block; `complete` where pass making accepts each.
@@ -25,27 +26,24 @@ fn no_pass() -> DecorrPass {
 }
 
 // The values of eight log words; 0 for one that is out of reach.
-fn read_seeds(fd: i32) -> [i32; 8] {
+fn read_seeds<R: Read>(file: &mut R) -> [i32; 8] {
     let mut seeds = [0i32; 8];
-    let mut i: usize = 0;
-    while i < 8 {
-        let seed = wp_exp2s(read_word(fd));
-        let value = seed.value;
-        seeds[i] = value;
-        i += 1;
+    for place in seeds.iter_mut() {
+        let seed = wp_exp2s(read_word(file));
+        *place = seed.value;
     }
     seeds
 }
 
 // The next pass: the term byte, both weight bytes, how many seeds a channel has, and eight log words
 // a channel.
-fn read_pass(fd: i32) -> PassAnswer {
-    let term = decode_term_byte(read_byte(fd));
-    let weight_a = expand_weight_byte(read_byte(fd));
-    let weight_b = expand_weight_byte(read_byte(fd));
-    let count = (read_byte(fd) % 9) as usize;
-    let seed_a = read_seeds(fd);
-    let seed_b = read_seeds(fd);
+fn read_pass<R: Read>(file: &mut R) -> PassAnswer {
+    let term = decode_term_byte(read_byte(file));
+    let weight_a = expand_weight_byte(read_byte(file));
+    let weight_b = expand_weight_byte(read_byte(file));
+    let count = (read_byte(file) % 9) as usize;
+    let seed_a = read_seeds(file);
+    let seed_b = read_seeds(file);
     DecorrPass::new(
         term.term,
         term.delta,
@@ -57,21 +55,15 @@ fn read_pass(fd: i32) -> PassAnswer {
 }
 
 // Reads the passes of a block, the first one first.
-pub fn read_passes(fd: i32, count: usize) -> Passes {
+pub fn read_passes<R: Read>(file: &mut R, count: usize) -> Passes {
     let none = no_pass();
     let mut list = [none; 16];
     let mut complete = count <= 16;
-    let mut i: usize = 0;
-    while i < 16 {
-        if i >= count {
-            break;
-        }
-        let answer = read_pass(fd);
+    for place in list.iter_mut().take(count) {
+        let answer = read_pass(file);
         let outcome = answer.outcome;
         complete = complete & (outcome_number(outcome) == 0);
-        let pass = answer.pass;
-        list[i] = pass;
-        i += 1;
+        *place = answer.pass;
     }
     Passes { complete, list }
 }

@@ -4,6 +4,8 @@ use answers::outcome_number;
 use decorrelation::decorrelate_array;
 use pass_slots::run_slots;
 use passes::{DecorrPass, Direction};
+use std::io;
+use std::io::Read;
 use test_support::lines::{read_bytes, read_list};
 use test_support::printing::{print, print_value};
 use wrapping::casts::u8_to_usize;
@@ -21,48 +23,52 @@ pub fn some_pass() -> DecorrPass {
 }
 
 // Decorrelation of two frames by passes that are all alike: how many, and the buffer.
-pub fn run_many(fd: i32) {
+pub fn run_many<R: Read>(rt: &impl Print, file: &mut R) -> io::Result<()> {
     let mut count = [0u8; 1];
-    read_bytes(fd, &mut count);
+    read_bytes(file, &mut count);
     let mut buffer = [0i32; 4];
-    read_list(fd, &mut buffer);
+    read_list(file, &mut buffer);
     let passes = [some_pass(); 16];
     let answer = decorrelate_array(passes, u8_to_usize(count[0]), &mut buffer);
     let outcome = answer.outcome;
-    print_refusal(outcome_number(outcome));
-    print_values(&buffer);
+    print_refusal(rt, outcome_number(outcome))?;
+    print_values(rt, &buffer)
 }
 
 // The states of passes of 20 slots, a line each: the weights of A and B, then their histories.
-fn print_states(passes: &[i32]) {
-    let mut i = 0;
-    while i < passes.len() {
+fn print_states(rt: &impl Print, passes: &[i32]) -> io::Result<()> {
+    for (i, slot) in passes.iter().enumerate() {
         if i % 20 == 2 {
-            print(b"  pass state");
+            print(rt, b"  pass state")?;
         }
         if i % 20 >= 2 {
-            print_value(passes[i]);
+            print_value(rt, *slot)?;
         }
         if i % 20 == 19 {
-            print(b"\n");
+            print(rt, b"\n")?;
         }
-        i += 1;
     }
+    Ok(())
 }
 
 // Decorrelation or analysis by passes of 20 slots each: the line of the call, and below it a line for
 // each pass with its state after it.
-fn run(direction: Direction, passes: &mut [i32], buffer: &mut [i32]) {
-    print_refusal(run_slots(direction, passes, buffer));
-    print_values(buffer);
-    print_states(passes);
+fn run(
+    rt: &impl Print,
+    direction: Direction,
+    passes: &mut [i32],
+    buffer: &mut [i32],
+) -> io::Result<()> {
+    print_refusal(rt, run_slots(direction, passes, buffer))?;
+    print_values(rt, buffer)?;
+    print_states(rt, passes)
 }
 
 // The same of up to three passes over up to eight numbers.
-pub fn run_list(direction: Direction, fd: i32) {
+pub fn run_list<R: Read>(rt: &impl Print, direction: Direction, file: &mut R) -> io::Result<()> {
     let mut passes = [0i32; 60];
-    let slots = read_list(fd, &mut passes);
+    let slots = read_list(file, &mut passes);
     let mut buffer = [0i32; 8];
-    let length = read_list(fd, &mut buffer);
-    run(direction, &mut passes[..slots], &mut buffer[..length]);
+    let length = read_list(file, &mut buffer);
+    run(rt, direction, &mut passes[..slots], &mut buffer[..length])
 }

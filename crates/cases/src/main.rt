@@ -10,6 +10,8 @@ mod payloads;
 mod values;
 
 use passes::Direction;
+use std::io::Read;
+use std::{fs, io};
 use test_support::lines::{print_name, read_kind};
 use test_support::printing::print;
 
@@ -17,41 +19,37 @@ use test_support::printing::print;
 const MOST: u32 = 1000;
 
 // Runs a case of the kind that a letter names.
-fn run_case(kind: u8, fd: i32) {
+fn run_case<R: Read>(rt: &impl Print, kind: u8, file: &mut R) -> io::Result<()> {
     match kind {
-        b'e' => payloads::run_entropy(fd),
-        b'r' => payloads::run_reading(fd),
-        b'p' => payloads::run_packing(fd),
-        b't' => payloads::run_trip(fd),
-        b'f' => values::run_field(fd),
-        b'l' => values::run_log_word(fd),
-        b'm' => lists::run_many(fd),
-        b'd' => lists::run_list(Direction::Decorrelation, fd),
-        b'a' => lists::run_list(Direction::Analysis, fd),
-        _ => print(b" no such kind\n"),
+        b'e' => payloads::run_entropy(rt, file),
+        b'r' => payloads::run_reading(rt, file),
+        b'p' => payloads::run_packing(rt, file),
+        b't' => payloads::run_trip(rt, file),
+        b'f' => values::run_field(rt, file),
+        b'l' => values::run_log_word(rt, file),
+        b'm' => lists::run_many(rt, file),
+        b'd' => lists::run_list(rt, Direction::Decorrelation, file),
+        b'a' => lists::run_list(rt, Direction::Analysis, file),
+        _ => print(rt, b" no such kind\n"),
     }
 }
 
 // Runs the cases of an open file, to its end.
-fn run_cases(fd: i32) {
-    let mut i: u32 = 0;
-    while i < MOST {
-        let kind = read_kind(fd);
+fn run_cases<R: Read>(rt: &impl Print, file: &mut R) -> io::Result<()> {
+    for _ in 0..MOST {
+        let kind = read_kind(file);
         if kind == 0 {
             break;
         }
-        print_name(fd);
-        run_case(kind, fd);
-        i += 1;
+        print_name(rt, file)?;
+        run_case(rt, kind, file)?;
     }
+    Ok(())
 }
 
-fn main() {
-    let fd = os::open_read(b"cases.txt");
-    if fd < 0 {
-        print(b"cases.txt cannot be opened\n");
-        return;
-    }
-    run_cases(fd);
-    libc::close(fd);
+fn main(rt: HostRuntime) -> io::Result<()> {
+    let Ok(mut file) = fs::open(&rt, "cases.txt") else {
+        return print(&rt, b"cases.txt cannot be opened\n");
+    };
+    run_cases(&rt, &mut file)
 }

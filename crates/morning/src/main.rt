@@ -5,45 +5,49 @@
 
 #![tactic(auto)]
 
+mod arguments;
 mod output;
 
 use answers::outcome_number;
-use libc::STDIN_FILENO;
+use arguments::{has_more, read_word};
+use inputs::read_full;
 use morning_text::{LARGEST_INPUT, LARGEST_PAGE, input_page};
 use output::{print, print_refusal};
+use std::io;
 use threshold::threshold_of;
 
 // Room for a threshold: a number of 32 bits has ten digits.
 const WORD_BYTES: usize = 32;
 
 // Prints the page of the recording that an input holds, or why there is none.
-fn print_input(input: &[u8], threshold: u32) {
+fn print_input(rt: &impl Print, input: &[u8], threshold: u32) -> io::Result<()> {
     let mut page = [0u8; LARGEST_PAGE];
     let answer = input_page(input, threshold, &mut page);
     let outcome = answer.outcome;
     let number = outcome_number(outcome);
     if number != 0 {
-        print_refusal(number);
-        return;
+        return print_refusal(rt, number);
     }
     let written = answer.written as usize;
-    print(&page[..written]);
+    print(rt, &page[..written])
 }
 
 // Prints the page of the recording on standard input.
-fn print_page(threshold: u32) {
+fn print_page(rt: &(impl Input + Print), threshold: u32) -> io::Result<()> {
     let mut input = [0u8; LARGEST_INPUT + 1];
-    let n = io::read_full(STDIN_FILENO, &mut input[..]);
-    print_input(&input[..n], threshold);
+    let n = read_full(&mut rt.reader(), &mut input[..]);
+    print_input(rt, &input[..n], threshold)
 }
 
-fn main() {
+fn main(rt: HostRuntime) -> io::Result<()> {
     let mut word = [0u8; WORD_BYTES];
-    let n = os::arg(1, &mut word);
+    let n = read_word(&rt, &mut word);
     let threshold = threshold_of(&word[..n]);
-    if !threshold.valid || os::arg_count() != 2 {
-        print(b"usage: morning THRESHOLD <RECORDING, a threshold from 0 to 4294967295\n");
-        return;
+    if !threshold.valid || has_more(&rt) {
+        return print(
+            &rt,
+            b"usage: morning THRESHOLD <RECORDING, a threshold from 0 to 4294967295\n",
+        );
     }
-    print_page(threshold.value);
+    print_page(&rt, threshold.value)
 }

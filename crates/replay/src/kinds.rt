@@ -3,11 +3,13 @@
 use crate::pack_records::packing_agrees;
 use crate::pass_records::{making_agrees, passes_agree};
 use crate::word_records::{reading_agrees, word_agrees};
+use inputs::read_full;
 use little_endian::signed_word;
+use std::io::Read;
 use test_support::numbers::{holds_signed, part, read_number, read_signed};
 
 // What a file holds.
-#[derive(Drop)]
+#[derive(Clone, Copy)]
 pub enum Kind {
     LogWords,
     TermBytes,
@@ -21,17 +23,17 @@ pub enum Kind {
 }
 
 // Whether the function of a kind answers as a record holds, whose first number is read.
-pub fn agrees(kind: Kind, first: u32, fd: i32, number: u32) -> bool {
+pub fn agrees<R: Read>(kind: Kind, first: u32, file: &mut R, number: u32) -> bool {
     match kind {
-        Kind::LogWords => log_word_agrees(first, fd, number),
-        Kind::TermBytes => term_byte_agrees(first, fd, number),
+        Kind::LogWords => log_word_agrees(first, file, number),
+        Kind::TermBytes => term_byte_agrees(first, file, number),
         Kind::WeightBytes => weight_byte_agrees(first, number),
-        Kind::Entropy => entropy_agrees(first, fd),
-        Kind::Words => word_agrees(first, fd),
-        Kind::Readings => reading_agrees(first, fd),
-        Kind::PassMaking => making_agrees(first, fd),
-        Kind::Passes => passes_agree(first, fd),
-        Kind::Packings => packing_agrees(first, fd),
+        Kind::Entropy => entropy_agrees(first, file),
+        Kind::Words => word_agrees(first, file),
+        Kind::Readings => reading_agrees(first, file),
+        Kind::PassMaking => making_agrees(first, file),
+        Kind::Passes => passes_agree(first, file),
+        Kind::Packings => packing_agrees(first, file),
     }
 }
 
@@ -46,17 +48,17 @@ fn signed(number: u32) -> i32 {
 }
 
 // A log word's refusal and value.
-fn log_word_agrees(refusal: u32, fd: i32, number: u32) -> bool {
+fn log_word_agrees<R: Read>(refusal: u32, file: &mut R, number: u32) -> bool {
     let mut value = [0i32; 1];
     let answered = wavpack_stereo::wv_log_word(log_word(number), &mut value);
-    (answered == refusal) & (value[0] == read_signed(fd))
+    (answered == refusal) & (value[0] == read_signed(file))
 }
 
 // A term byte's term and delta.
-fn term_byte_agrees(term: u32, fd: i32, number: u32) -> bool {
+fn term_byte_agrees<R: Read>(term: u32, file: &mut R, number: u32) -> bool {
     let mut out = [0i32; 2];
     let refusal = wavpack_stereo::wv_term_byte((number % 256) as u8, &mut out);
-    (refusal == 0) & (out[0] == signed(term)) & (out[1] == read_signed(fd))
+    (refusal == 0) & (out[0] == signed(term)) & (out[1] == read_signed(file))
 }
 
 // A weight byte's weight.
@@ -67,11 +69,11 @@ fn weight_byte_agrees(weight: u32, number: u32) -> bool {
 }
 
 // An entropy payload's refusal and medians.
-fn entropy_agrees(length: u32, fd: i32) -> bool {
-    let refusal = read_number(fd);
+fn entropy_agrees<R: Read>(length: u32, file: &mut R) -> bool {
+    let refusal = read_number(file);
     let mut payload = [0u8; 16];
-    io::read_full(fd, &mut payload);
+    read_full(file, &mut payload);
     let mut medians = [0i32; 6];
     let answered = wavpack_stereo::wv_entropy(part(&payload, length as usize), &mut medians);
-    (answered == refusal) & holds_signed(fd, &medians)
+    (answered == refusal) & holds_signed(file, &medians)
 }

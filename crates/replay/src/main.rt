@@ -9,6 +9,9 @@ mod pass_records;
 mod word_records;
 
 use kinds::{Kind, agrees};
+use std::io::Read;
+use std::rt::Files;
+use std::{fs, io};
 use test_support::numbers::{Next, next_number};
 use test_support::printing::{print, print_count};
 
@@ -24,14 +27,14 @@ struct Tally {
 }
 
 // Replays the records of one open file, to its end.
-fn replay(kind: Kind, fd: i32) -> Tally {
+fn replay<R: Read>(kind: Kind, file: &mut R) -> Tally {
     let mut replayed: u32 = 0;
     let mut agreed: u32 = 0;
     while replayed < MOST {
-        let Next::Number(first) = next_number(fd) else {
+        let Next::Number(first) = next_number(file) else {
             break;
         };
-        if agrees(kind, first, fd, replayed) {
+        if agrees(kind, first, file, replayed) {
             agreed += 1;
         }
         replayed += 1;
@@ -41,28 +44,25 @@ fn replay(kind: Kind, fd: i32) -> Tally {
 
 // Replays one file and prints the line about it. A file that cannot be opened has a line of its
 // own.
-fn replay_file(kind: Kind, path: &[u8]) {
-    print(path);
-    let fd = os::open_read(path);
-    if fd < 0 {
-        print(b": cannot be opened\n");
-        return;
-    }
-    let tally = replay(kind, fd);
-    libc::close(fd);
-    print(b": ");
-    print_count(tally.replayed as usize, b" replayed, ");
-    print_count(tally.agreed as usize, b" agree\n");
+fn replay_file(rt: &(impl Files + Print), kind: Kind, path: &str) -> io::Result<()> {
+    print(rt, path.as_bytes())?;
+    let Ok(mut file) = fs::open(rt, path) else {
+        return print(rt, b": cannot be opened\n");
+    };
+    let tally = replay(kind, &mut file);
+    print(rt, b": ")?;
+    print_count(rt, tally.replayed as usize, b" replayed, ")?;
+    print_count(rt, tally.agreed as usize, b" agree\n")
 }
 
-fn main() {
-    replay_file(Kind::LogWords, b"log_words.bin");
-    replay_file(Kind::TermBytes, b"term_bytes.bin");
-    replay_file(Kind::WeightBytes, b"weight_bytes.bin");
-    replay_file(Kind::Entropy, b"entropy.bin");
-    replay_file(Kind::Words, b"words.bin");
-    replay_file(Kind::Readings, b"readings.bin");
-    replay_file(Kind::PassMaking, b"pass_making.bin");
-    replay_file(Kind::Passes, b"passes.bin");
-    replay_file(Kind::Packings, b"packings.bin");
+fn main(rt: HostRuntime) -> io::Result<()> {
+    replay_file(&rt, Kind::LogWords, "log_words.bin")?;
+    replay_file(&rt, Kind::TermBytes, "term_bytes.bin")?;
+    replay_file(&rt, Kind::WeightBytes, "weight_bytes.bin")?;
+    replay_file(&rt, Kind::Entropy, "entropy.bin")?;
+    replay_file(&rt, Kind::Words, "words.bin")?;
+    replay_file(&rt, Kind::Readings, "readings.bin")?;
+    replay_file(&rt, Kind::PassMaking, "pass_making.bin")?;
+    replay_file(&rt, Kind::Passes, "passes.bin")?;
+    replay_file(&rt, Kind::Packings, "packings.bin")
 }

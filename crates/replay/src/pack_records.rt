@@ -1,5 +1,7 @@
 // Stored packing.
 use answers::limits::BYTES_PER_FRAME;
+use inputs::read_full;
+use std::io::Read;
 use test_support::numbers::{holds, holds_bytes, load_signed, part_signed, read_number};
 
 // Packs up to eight frames: two residuals and 28 lent bytes each. 0, with nothing packed, for more
@@ -28,13 +30,13 @@ fn pack(
 }
 
 // Whether the residuals of up to eight frames are refused or packed as stored.
-pub fn packing_agrees(frames: u32, fd: i32) -> bool {
+pub fn packing_agrees<R: Read>(frames: u32, file: &mut R) -> bool {
     let mut entropy = [0u8; 12];
-    io::read_full(fd, &mut entropy);
+    read_full(file, &mut entropy);
     let mut residuals = [0i32; 16];
-    load_signed(fd, &mut residuals);
+    load_signed(file, &mut residuals);
     let mut out = [0u8; 224];
     let mut answer = [0u32; 7];
     let refusal = pack(&residuals, &entropy, frames as usize, &mut out, &mut answer);
-    (refusal == read_number(fd)) & holds(fd, &answer) & holds_bytes(fd, &out)
+    (refusal == read_number(file)) & holds(file, &answer) & holds_bytes(file, &out)
 }

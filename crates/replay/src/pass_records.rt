@@ -1,4 +1,5 @@
 // Stored pass making, decorrelation and analysis.
+use std::io::Read;
 use test_support::numbers::{holds_signed, load_signed, part_signed, read_number, read_signed};
 
 // The term with this 8-bit pattern.
@@ -11,16 +12,16 @@ fn term(pattern: u8) -> i8 {
 }
 
 // Whether a pass is refused or made as stored.
-pub fn making_agrees(pattern: u32, fd: i32) -> bool {
-    let delta = read_signed(fd);
-    let weight_a = read_signed(fd);
-    let weight_b = read_signed(fd);
-    let count_a = read_number(fd) as usize;
-    let count_b = read_number(fd) as usize;
+pub fn making_agrees<R: Read>(pattern: u32, file: &mut R) -> bool {
+    let delta = read_signed(file);
+    let weight_a = read_signed(file);
+    let weight_b = read_signed(file);
+    let count_a = read_number(file) as usize;
+    let count_b = read_number(file) as usize;
     let mut seed_a = [0i32; 9];
-    load_signed(fd, &mut seed_a);
+    load_signed(file, &mut seed_a);
     let mut seed_b = [0i32; 9];
-    load_signed(fd, &mut seed_b);
+    load_signed(file, &mut seed_b);
     let mut pass = [0i32; 20];
     let refusal = wavpack_stereo::wv_pass(
         term((pattern % 256) as u8),
@@ -31,7 +32,7 @@ pub fn making_agrees(pattern: u32, fd: i32) -> bool {
         part_signed(&seed_b, count_b),
         &mut pass,
     );
-    (refusal == read_number(fd)) & holds_signed(fd, &pass)
+    (refusal == read_number(file)) & holds_signed(file, &pass)
 }
 
 // Analysis, or decorrelation, of a buffer by passes of 20 slots each.
@@ -61,13 +62,13 @@ fn run_parts(
 }
 
 // Whether a list of up to four passes over up to 24 numbers is run as stored.
-pub fn passes_agree(direction: u32, fd: i32) -> bool {
-    let count = 20 * (read_number(fd) as usize);
-    let length = read_number(fd) as usize;
+pub fn passes_agree<R: Read>(direction: u32, file: &mut R) -> bool {
+    let count = 20 * (read_number(file) as usize);
+    let length = read_number(file) as usize;
     let mut passes = [0i32; 80];
-    load_signed(fd, &mut passes);
+    load_signed(file, &mut passes);
     let mut buffer = [0i32; 24];
-    load_signed(fd, &mut buffer);
+    load_signed(file, &mut buffer);
     let refusal = run_parts(direction == 1, &mut passes, count, &mut buffer, length);
-    (refusal == read_number(fd)) & holds_signed(fd, &passes) & holds_signed(fd, &buffer)
+    (refusal == read_number(file)) & holds_signed(file, &passes) & holds_signed(file, &buffer)
 }

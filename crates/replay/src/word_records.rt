@@ -1,18 +1,20 @@
 // Stored words and readings.
+use inputs::read_full;
+use std::io::Read;
 use test_support::numbers::{holds, holds_signed, load, part, read_number, read_signed};
 
 // Whether a word, read from the state that a record holds, is refused or given as stored.
-pub fn word_agrees(length: u32, fd: i32) -> bool {
+pub fn word_agrees<R: Read>(length: u32, file: &mut R) -> bool {
     let mut state = [0u32; 15];
-    load(fd, &mut state);
+    load(file, &mut state);
     let mut payload = [0u8; 16];
-    io::read_full(fd, &mut payload);
+    read_full(file, &mut payload);
     let mut sample = [0i32; 1];
     let mut report = [0u32; 2];
     let read = part(&payload, length as usize);
     let refusal = wavpack_stereo::wv_word(read, &mut state, &mut sample, &mut report);
-    let told = (refusal == read_number(fd)) & (sample[0] == read_signed(fd));
-    told & holds(fd, &state) & holds(fd, &report)
+    let told = (refusal == read_number(file)) & (sample[0] == read_signed(file));
+    told & holds(file, &state) & holds(file, &report)
 }
 
 // Reads into the first two numbers a frame of a list; 0, with nothing read, where it has fewer.
@@ -37,12 +39,12 @@ fn read(
 }
 
 // Whether a reading of up to 16 frames is answered as stored.
-pub fn reading_agrees(length: u32, fd: i32) -> bool {
-    let frames = read_number(fd);
+pub fn reading_agrees<R: Read>(length: u32, file: &mut R) -> bool {
+    let frames = read_number(file);
     let mut entropy = [0u8; 12];
-    io::read_full(fd, &mut entropy);
+    read_full(file, &mut entropy);
     let mut payload = [0u8; 48];
-    io::read_full(fd, &mut payload);
+    read_full(file, &mut payload);
     let mut samples = [0i32; 32];
     let mut answer = [0u32; 10];
     let refusal = read(
@@ -52,5 +54,5 @@ pub fn reading_agrees(length: u32, fd: i32) -> bool {
         &mut samples,
         &mut answer,
     );
-    (refusal == read_number(fd)) & holds(fd, &answer) & holds_signed(fd, &samples)
+    (refusal == read_number(file)) & holds(file, &answer) & holds_signed(file, &samples)
 }

@@ -4,14 +4,15 @@
 
 #![tactic(auto)]
 
-use libc::{STDIN_FILENO, STDOUT_FILENO};
+use inputs::read_full;
+use std::io;
 use wvpair_text::{LARGEST_INPUT, LARGEST_TEXT, wvpair_text};
 
-fn main() {
+fn main(rt: HostRuntime) -> io::Result<()> {
     let mut input = [0u8; LARGEST_INPUT + 1];
-    let n = io::read_full(STDIN_FILENO, &mut input);
+    let n = read_full(&mut rt.reader(), &mut input);
     let mut out = [0u8; LARGEST_TEXT];
     let text = wvpair_text(&input[..n], &mut out);
     let length = text.length;
-    io::write_all(STDOUT_FILENO, &out[..length]);
+    rt.write_all(&out[..length])
 }
