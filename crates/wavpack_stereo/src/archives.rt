@@ -5,8 +5,7 @@ ghost use Rattle.archive_slots.specs.ArchiveSlots.{write_call, read_call};
 
 // The blocks of a recording, its house, start second, issue and payload, into `out` from the first byte
 // on; bytes written into 1 slot of `answer`. Refuses 6 for `answer`; then 5, 11.
-#[unsafe(no_mangle)]
-pub extern "C" fn wv_archive_write(
+pub fn wv_archive_write(
     house: u16,
     start: u32,
     issue: u16,
@@ -25,8 +24,7 @@ pub extern "C" fn wv_archive_write(
 // length; their payloads, one after the other, into `payloads`; recordings in force and payload bytes
 // into 2 slots of `answer`, each kept to its low 32 bits. Refuses 6 for `answer`; then 18, with the bad
 // block, kept to its low 32 bits, and 0 in the 2 slots; then 19, 11.
-#[unsafe(no_mangle)]
-pub extern "C" fn wv_archive_read(
+pub fn wv_archive_read(
     file: &[u8],
     list: &mut [u32],
     payloads: &mut [u8],

@@ -1,4 +1,4 @@
-// The C interface of the decoder and writer, declared for C in include/wavpack_stereo.h. Each
+// The C interface of the decoder and writer as a library, which `wavpack_stereo_c` exports. Each
 // function is one call of a function with the same contract in a crate of slots. It answers a
 // refusal number, 0 for accepted. Values are laid into the first slots of a lent list; one that has
 // fewer slots is refused with 6, and then nothing is written. Only the passes of a list are copied,

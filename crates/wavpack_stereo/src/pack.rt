@@ -6,8 +6,7 @@ ghost use Rattle.pack_slots.specs.PackSlots.{pack_call};
 // The residuals of `frames` frames, left then right, as packed bytes into `out`; bits written, left
 // medians and right medians into 7 slots of `answer`. Refuses 6 for `answer`, with nothing written;
 // then, with `answer` all 0 and `out` as it was, 5, 6, 1, 17, 2, 11, 10.
-#[unsafe(no_mangle)]
-pub extern "C" fn wv_pack(
+pub fn wv_pack(
     residuals: &[i32],
     entropy: &[u8],
     frames: usize,

@@ -11,8 +11,7 @@ use pass_calls::{analyse_call, decorrelate_call};
 
 // A pass made from its parts, into 20 slots. Refuses 6, then 7 and 8 as pass making does, with
 // nothing written.
-#[unsafe(no_mangle)]
-pub extern "C" fn wv_pass(
+pub fn wv_pass(
     term: i8,
     delta: i32,
     weight_a: i32,
@@ -34,8 +33,7 @@ pub extern "C" fn wv_pass(
 // Decorrelation of the buffer by passes of 20 slots each, which then hold the passes after. Refuses
 // 6 for a length that is no multiple of 20, then 5, 9 and 7, also for a term outside 8 bits; both
 // lists are then as they were.
-#[unsafe(no_mangle)]
-pub extern "C" fn wv_decorrelate(passes: &mut [i32], buffer: &mut [i32]) -> u32
+pub fn wv_decorrelate(passes: &mut [i32], buffer: &mut [i32]) -> u32
     ensures { record { refusal = result; passes = passes.new; buffer = buffer.new }
         ≡ passes_call decorrelation passes.old buffer.old }
 {
@@ -43,8 +41,7 @@ pub extern "C" fn wv_decorrelate(passes: &mut [i32], buffer: &mut [i32]) -> u32
 }
 
 // Analysis of the buffer, the last pass first. It refuses as decorrelation does.
-#[unsafe(no_mangle)]
-pub extern "C" fn wv_analyse(passes: &mut [i32], buffer: &mut [i32]) -> u32
+pub fn wv_analyse(passes: &mut [i32], buffer: &mut [i32]) -> u32
     ensures { record { refusal = result; passes = passes.new; buffer = buffer.new }
         ≡ passes_call analysis passes.old buffer.old }
 {

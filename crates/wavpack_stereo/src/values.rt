@@ -6,8 +6,7 @@ ghost use Rattle.value_slots.specs.Values.{log_word_values, log_word_answer, ter
 ghost use Rattle.entropy_slots.specs.EntropySlots.{entropy_values, entropy_answer};
 
 // The value of a log word, into 1 slot. Refuses 6, then 17.
-#[unsafe(no_mangle)]
-pub extern "C" fn wv_log_word(word: i16, value: &mut [i32]) -> u32
+pub fn wv_log_word(word: i16, value: &mut [i32]) -> u32
     ensures answer { result ≡ log_word_answer word value.old }
     ensures value { value.new ≡ leaveValues result (log_word_values word) value.old }
 {
@@ -15,8 +14,7 @@ pub extern "C" fn wv_log_word(word: i16, value: &mut [i32]) -> u32
 }
 
 // The term and the delta of a term byte, into 2 slots. Refuses 6.
-#[unsafe(no_mangle)]
-pub extern "C" fn wv_term_byte(byte: u8, out: &mut [i32]) -> u32
+pub fn wv_term_byte(byte: u8, out: &mut [i32]) -> u32
     ensures answer { result ≡ slotRefusal 2 out.old }
     ensures out { out.new ≡ leaveValues result (term_byte_values byte) out.old }
 {
@@ -24,8 +22,7 @@ pub extern "C" fn wv_term_byte(byte: u8, out: &mut [i32]) -> u32
 }
 
 // The weight of a weight byte, into 1 slot. Refuses 6.
-#[unsafe(no_mangle)]
-pub extern "C" fn wv_weight_byte(byte: u8, out: &mut [i32]) -> u32
+pub fn wv_weight_byte(byte: u8, out: &mut [i32]) -> u32
     ensures answer { result ≡ slotRefusal 1 out.old }
     ensures out { out.new ≡ leaveValues result (weight_byte_values byte) out.old }
 {
@@ -34,8 +31,7 @@ pub extern "C" fn wv_weight_byte(byte: u8, out: &mut [i32]) -> u32
 
 // The signed medians of an entropy payload, left then right, into 6 slots. Refuses 6, then 1, then
 // 17.
-#[unsafe(no_mangle)]
-pub extern "C" fn wv_entropy(entropy: &[u8], medians: &mut [i32]) -> u32
+pub fn wv_entropy(entropy: &[u8], medians: &mut [i32]) -> u32
     ensures answer { result ≡ entropy_answer entropy.now medians.old }
     ensures medians { medians.new
         ≡ leaveValues result (entropy_values entropy.now) medians.old }

@@ -5,8 +5,7 @@ ghost use Rattle.int32_slots.specs.Int32Slots.{reassemble_call, deconstruct_call
 // Completes each of `samples` by the next `sent_bits` bits of `literal` and by redundant bits:
 // zeros, ones or copies of its lowest bit, the first of `zeros`, `ones`, `dups` that is not 0;
 // literal bits read into 1 slot of `answer`. Refuses 6 for `answer`; then 15, 5, 3.
-#[unsafe(no_mangle)]
-pub extern "C" fn wv_reassemble_int32(
+pub fn wv_reassemble_int32(
     sent_bits: u32,
     zeros: u32,
     ones: u32,
@@ -26,8 +25,7 @@ pub extern "C" fn wv_reassemble_int32(
 // The way back: takes the redundant bits out of `samples`, and the literal ones into `literal` from
 // the first bit on; literal bits written into 1 slot of `answer`. Refuses 6 for `answer`; then 15,
 // 5, 11, 16.
-#[unsafe(no_mangle)]
-pub extern "C" fn wv_deconstruct_int32(
+pub fn wv_deconstruct_int32(
     sent_bits: u32,
     zeros: u32,
     ones: u32,

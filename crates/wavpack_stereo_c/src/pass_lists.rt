@@ -1,0 +1,49 @@
+// Pass making, decorrelation and analysis for a caller that holds its passes in lists of slots, 20
+// to a pass.
+ghost use Rattle.std.specs.Prelude.{◌≡◌};
+ghost use Rattle.decorrelation.specs.Lists.{decorrelation, analysis};
+ghost use Rattle.slots.specs.Slots.{leaveValues};
+ghost use Rattle.made_slots.specs.MadeSlots.{pass_answer, pass_values};
+ghost use Rattle.pass_slots.specs.PassSlots.{passes_call};
+
+// A pass made from its parts, into 20 slots. Refuses 6, then 7 and 8 as pass making does, with
+// nothing written.
+#[unsafe(no_mangle)]
+pub extern "C" fn wv_pass(
+    term: i8,
+    delta: i32,
+    weight_a: i32,
+    weight_b: i32,
+    seed_a: &[i32],
+    seed_b: &[i32],
+    pass: &mut [i32],
+) -> u32
+    ensures answer { result
+        ≡ pass_answer term seed_a.now seed_b.now pass.old }
+    ensures pass { pass.new
+        ≡ leaveValues result
+        (pass_values term delta weight_a weight_b seed_a.now seed_b.now)
+        pass.old }
+{
+    wavpack_stereo::wv_pass(term, delta, weight_a, weight_b, seed_a, seed_b, pass)
+}
+
+// Decorrelation of the buffer by passes of 20 slots each, which then hold the passes after. Refuses
+// 6 for a length that is no multiple of 20, then 5, 9 and 7, also for a term outside 8 bits; both
+// lists are then as they were.
+#[unsafe(no_mangle)]
+pub extern "C" fn wv_decorrelate(passes: &mut [i32], buffer: &mut [i32]) -> u32
+    ensures { record { refusal = result; passes = passes.new; buffer = buffer.new }
+        ≡ passes_call decorrelation passes.old buffer.old }
+{
+    wavpack_stereo::wv_decorrelate(passes, buffer)
+}
+
+// Analysis of the buffer, the last pass first. It refuses as decorrelation does.
+#[unsafe(no_mangle)]
+pub extern "C" fn wv_analyse(passes: &mut [i32], buffer: &mut [i32]) -> u32
+    ensures { record { refusal = result; passes = passes.new; buffer = buffer.new }
+        ≡ passes_call analysis passes.old buffer.old }
+{
+    wavpack_stereo::wv_analyse(passes, buffer)
+}
