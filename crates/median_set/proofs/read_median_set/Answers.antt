@@ -6,7 +6,6 @@ use Rattle.median_set.proofs.read_median_set.Goals as goal
 
 pub returns-clause-outcome : goal.returns-clause-outcome
 returns-clause-outcome c =
-    let first = c.expand_log_word-first in
-    let second = c.expand_log_word-second in
-    let third = c.expand_log_word-third in
-    set-refused c.args.set.now c.expand_log_word-first.ensures.outcome c.expand_log_word-second.ensures.outcome c.expand_log_word-third.ensures.outcome c.or_else.ensures c.or_else-2.ensures
+    set-refused c.args.set.now
+    c.expand_log_word-first.ensures.outcome
+    c.expand_log_word-second.ensures.outcome c.expand_log_word-third.ensures.outcome c.or_else.ensures c.or_else-2.ensures
