@@ -7,14 +7,14 @@
 use answers::Outcome;
 
 // The three adaptive medians of one channel.
-#[derive(Drop)]
+#[derive(Clone, Copy)]
 pub struct AdaptiveMedians {
     pub values: [u32; 3],
 }
 
 // The two sets of signed medians of an entropy payload. A mono payload has no right set; its right
 // medians are 0.
-#[derive(Drop)]
+#[derive(Clone, Copy)]
 pub struct EntropyInfo {
     pub medians_left: [i32; 3],
     pub medians_right: [i32; 3],
