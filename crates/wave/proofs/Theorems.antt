@@ -6,16 +6,15 @@ use mathlib.Core.List.{List, ◌++◌}
 use Prim.Native.Nat.{ℕ, ◌+◌, ◌-◌, ◌*◌}
 use native.Mathlib.Omega.{arith}
 use lib.IntN.{ℤ}
-use lib.ListN.{length, take, drop, get_or, length-drop, take-append-drop}
+use lib.ListN.{length, take, drop, length-drop, take-append-drop}
 use lib.Seq.{take_at, drop_at, get_or-drop}
-use Rattle.overlay.specs.Overlay.{overlay}
 use Rattle.overlay.proofs.OverlayLaws.{overlay_take}
 use Rattle.little_endian.specs.LittleEndian.{little_endian}
 use Rattle.little_endian.proofs.LittleEndianLaws.{number-back}
 use Rattle.wave_file.specs.File.{header_bytes, fmt_chunk, wave_header, data_bytes, wave_file}
 use Rattle.wave_data.specs.Data.{Bytes, file_samples}
 use Rattle.wave_export.specs.Export.{export_refusal}
-use Rattle.wave_header.specs.Wave.{alike, file_rate, is_wave}
+use Rattle.wave_header.specs.Wave.{file_rate, is_wave}
 use Rattle.wave_import.specs.Import.{import_refusal}
 use Rattle.wave.specs.SoundFile.{InSpan, ExportThenImport, EveryExport, OnlyExports, NoSecondFile}
 use Rattle.wave.specs.SoundFile.{ExportsInSpan, NoTwoSoundsAlike}
