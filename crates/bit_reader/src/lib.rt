@@ -1,7 +1,7 @@
 // `BitReader` (document 01, "Rust forms that need another", F8): a payload that is lent, and a
 // place in it. Its functions are thin: each takes the reader apart and leaves the work to an entry
-// of `checked_bits` on the slice and the place. A function over a struct that holds a reference is proved
-// by a walk by hand; `field_at`, whose parameters are plain, serves callers that are to need none.
+// of `checked_bits` on the slice and the place. `field_at` has plain parameters, for callers that
+// hold no reader.
 
 #![tactic(auto)]
 
@@ -12,7 +12,7 @@ use bits::BitAnswer;
 use checked_bits::{checked_get_bits, checked_get_unary};
 
 // The payload, and how many of its bits lie before the next one.
-#[derive(Drop)]
+#[derive(Clone, Copy)]
 pub struct BitReader<'a> {
     pub payload: &'a [u8],
     pub place: usize,
