@@ -14,7 +14,7 @@ use wrapping::casts::u32_to_usize;
 
 // The state of the words: the medians of both channels, indexed by channel, and what one word
 // leaves to the next; and the bits read for each channel so far.
-#[derive(Drop)]
+#[derive(Clone, Copy)]
 pub struct StereoDecodeState {
     pub medians: [AdaptiveMedians; 2],
     pub last_zero: bool,

@@ -1,0 +1,34 @@
+-- `word_state::zero_run_eligible` meets its contract, test by test.
+-- Assumes nothing.
+use native.Mathlib.Omega.{arith}
+use mathlib.Core.Bool.{not, ◌&&◌, and-false}
+use borrow.Author.Tests.{le-leb, lt-leb}
+use lib.Dec.{leb}
+use Rattle.entropy.specs.Medians.{medians_of}
+use Rattle.word_state.specs.State.{run_due}
+use Rattle.word_state.proofs.zero_run_eligible.Goals as goal
+
+pub returns-then-one-gt1 : goal.returns-then-one-gt1
+unfolding run_due
+returns-then-one-gt1 c =
+    let a = c.args in
+    rw (lt-leb (medians_of c.args.one_set).m0 1 (omega arith), and-false (not c.args.run_break))
+
+pub returns-then-other-gt1 : goal.returns-then-other-gt1
+unfolding run_due
+returns-then-other-gt1 c =
+    let a = c.args in
+    rw (lt-leb (medians_of c.args.other_set).m0 1 (omega arith), and-false (leb (medians_of c.args.one_set).m0 1), and-false (not c.args.run_break))
+
+pub returns-then-last_zero : goal.returns-then-last_zero
+unfolding run_due
+returns-then-last_zero c =
+    let a = c.args in
+    let low = leb (medians_of c.args.one_set).m0 1 && leb (medians_of c.args.other_set).m0 1 in
+    rw (c.if-last_zero.true, and-false low, and-false (not c.args.run_break))
+
+pub returns : goal.returns
+unfolding run_due
+returns c =
+    let a = c.args in
+    rw (le-leb (medians_of c.args.one_set).m0 1 (omega arith), le-leb (medians_of c.args.other_set).m0 1 (omega arith), c.if-run_break.false, c.if-last_zero.false)
