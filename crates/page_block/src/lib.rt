@@ -16,7 +16,7 @@ const RIGHT: u32 = 65536;
 
 // What is found in a block of frames; `last_loud` has 1 for each stem whose last sample exceeds the
 // threshold, which the next block goes on from.
-#[derive(Drop)]
+#[derive(Clone, Copy)]
 pub struct Block {
     pub left_peak: u32,
     pub right_peak: u32,
