@@ -11,7 +11,7 @@ use block_check::{BLOCK_BYTES, MAX_USED};
 use little_endian::{number, short_number};
 
 // House, start second, issue, and the payload's length.
-#[derive(Drop)]
+#[derive(Clone, Copy)]
 pub struct Head {
     pub house: u32,
     pub start: u32,
