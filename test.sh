@@ -1,6 +1,6 @@
 #!/bin/sh
-# Runs every test: the layout of the files, crates.txt and docs/PROVED.md against what they name, the wording
-# of the refusals, the proofs and programs from nothing, the C programs and the Rust bindings over the proved
+# Runs every test: crates.txt and docs/PROVED.md against what they name, the wording of the refusals, the
+# layout of the files, the proofs, edits and programs, the C programs and the Rust bindings over the proved
 # library, and the comparison with the published Rust. The last line is that of `rt ci` when all pass.
 #
 # The published Rust is looked for in ../shared/docs/src/src, or in the folder that WAVPACK_REFERENCE names.
@@ -14,13 +14,14 @@ fail() {
 }
 
 # What takes seconds comes first.
-rt fmt --check || fail 'the layout of the Rattle files'
 docs/crates.sh || fail 'crates.txt'
 docs/carriers.sh || fail 'docs/PROVED.md'
 docs/refusals.sh || fail 'the wording of the refusals'
 cargo fmt --check --manifest-path bindings/rust/Cargo.toml || fail 'the layout of the bindings'
 cargo fmt --all --check --manifest-path compare/Cargo.toml || fail 'the layout of the comparison'
 
+# The layout of the Rattle files is held by `rt ci` too. An edit that does not fit the text it changes fails
+# nothing there: the line `rt: ok` counts it as bad.
 log=$(mktemp) || exit 2
 trap 'rm -f "$log"' EXIT
 { rt ci 2>&1 || echo 'rt ci FAILED'; } | tee "$log"
@@ -29,8 +30,10 @@ case $verdict in
 *' passed, 0 failed') ;;
 *) fail 'rt ci' ;;
 esac
+grep -q '^rt: ok' "$log" || fail 'rt ci, which does not say that all is well'
+! grep -qE '^rt: ok.*, [1-9][0-9]* bad' "$log" || fail 'must-fail edits that are bad'
 
-rt staticlib wavpack_stereo || fail 'rt staticlib wavpack_stereo'
+tools/staticlib || fail 'the library that C links'
 
 build() { # PROGRAM SOURCE...
     program=$1

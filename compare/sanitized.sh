@@ -7,31 +7,39 @@
 # functions of that module for checking before it compiles them.
 set -eu
 cd "$(dirname "$0")/.."
-kit=${RATTLE_HOME:-$(dirname "$(dirname "$(readlink -f "$(command -v rt)")")")}
-machine=$(uname -m)
+kit=$(dirname "$(dirname "$(readlink -f "$(command -v rt)")")")
 out=$PWD/target/sanitized
-rm -rf "$out"
-mkdir -p "$out/kit/on/$machine/toolchain/bin" "$out/repository/target"
+room=$(mktemp -d)
+trap 'rm -rf "$room"' EXIT
+mkdir -p "$out" "$room/kit/bin" "$room/kit/toolchain/bin" "$room/repository"
 
-link_all_but() { # NAME FROM TO
+link_all_but() { # NAMES FROM TO
     for part in "$2"/*; do
-        [ "${part##*/}" = "$1" ] || ln -s "$part" "$3/"
+        case " $1 " in
+        *" ${part##*/} "*) ;;
+        *) ln -s "$part" "$3/" ;;
+        esac
     done
 }
-link_all_but on "$kit" "$out/kit"
-link_all_but toolchain "$kit/on/$machine" "$out/kit/on/$machine"
-link_all_but bin "$kit/on/$machine/toolchain" "$out/kit/on/$machine/toolchain"
-link_all_but clang "$kit/on/$machine/toolchain/bin" "$out/kit/on/$machine/toolchain/bin"
+link_all_but 'bin toolchain' "$kit" "$room/kit"
+link_all_but 'bin' "$kit/toolchain" "$room/kit/toolchain"
+link_all_but 'clang' "$kit/toolchain/bin" "$room/kit/toolchain/bin"
+# A script of the kit takes the kit that its own file stands in, so those are copied.
+for part in "$kit"/bin/*; do
+    case ${part##*/} in
+    rt | rt-* | *.py) cp "$part" "$room/kit/bin/" ;;
+    *) ln -s "$part" "$room/kit/bin/" ;;
+    esac
+done
 
-cat >"$out/kit/on/$machine/toolchain/bin/clang" <<END
+cat >"$room/kit/toolchain/bin/clang" <<END
 #!/bin/sh
 set -eu
 for word; do
     shift
     case \$word in
     *.bc)
-        "$kit/on/$machine/toolchain/bin/clang" -x ir -S -emit-llvm -Xclang -disable-llvm-passes \
-            "\$word" -o plain.ll
+        "$kit/toolchain/bin/clang" -x ir -S -emit-llvm -Xclang -disable-llvm-passes "\$word" -o plain.ll
         sed 's/^\\(attributes #[0-9]* = {\\)\\(.*"probe-stack"\\)/\\1 sanitize_address\\2/' \
             plain.ll >checked.ll
         word=checked.ll
@@ -39,19 +47,17 @@ for word; do
     esac
     set -- "\$@" "\$word"
 done
-exec "$kit/on/$machine/toolchain/bin/clang" "\$@" -fsanitize=address
+exec "$kit/toolchain/bin/clang" "\$@" -fsanitize=address
 END
-chmod +x "$out/kit/on/$machine/toolchain/bin/clang"
+chmod +x "$room/kit/toolchain/bin/clang"
 
 # In a copy, so that the archive that is linked otherwise is not written over; what was proved is not proved
 # again.
-cp -R crates crates.txt "$out/repository/"
-cp -R target/rlib target/stamp "$out/repository/target/"
-(cd "$out/repository" && RATTLE_HOME="$out/kit" rt staticlib wavpack_stereo)
-cp "$out/repository/target/staticlib/libwavpack_stereo.a" "$out/"
+cp -R crates crates.txt "$room/repository/"
+(cd "$room/repository/crates/wavpack_stereo_c" && "$room/kit/bin/rt" lib)
+cp "$room/repository/crates/wavpack_stereo_c/out/libwavpack_stereo_c.a" "$out/libwavpack_stereo.a"
 if ! nm "$out/libwavpack_stereo.a" | grep -q __asan_report; then
     echo 'sanitized.sh: FAILED: the archive checks nothing'
     exit 1
 fi
-rm -r "$out/repository" "$out/kit"
 echo "$out/libwavpack_stereo.a checks its addresses"

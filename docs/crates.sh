@@ -5,12 +5,16 @@ set -u
 cd "$(dirname "$0")/.." || exit 2
 
 # crate, dependency: what crates.txt lists.
-listed() { sed 's/#.*//' crates.txt | awk -F : 'NF == 2 { n = split($2, d, " "); for (i = 1; i <= n; i++) print $1, d[i] }'; }
+listed() {
+    sed 's/#.*//; s/ staticlib:/:/' crates.txt |
+        awk -F : 'NF == 2 { n = split($2, d, " "); for (i = 1; i <= n; i++) print $1, d[i] }'
+}
 
 # crate, dependency: the same where a file of the crate names the dependency.
 named() {
     listed | while read -r crate dep; do
-        grep -rqE --include='*.rt' --include='*.antt' "Rattle[.]$dep[.]|(^|[^A-Za-z0-9_:])$dep::" "crates/$crate" &&
+        grep -rqE --exclude-dir=out --include='*.rt' --include='*.antt' \
+            "Rattle[.]$dep[.]|(^|[^A-Za-z0-9_:])$dep::" "crates/$crate" &&
             echo "$crate $dep"
     done
 }

@@ -1,5 +1,5 @@
 //! Links the proved library, `libwavpack_stereo.a`, from the folder that WAVPACK_STEREO_FOLDER names by an
-//! absolute path, or from where `rt staticlib` puts it.
+//! absolute path, or from where `tools/staticlib` puts it.
 use std::env;
 use std::path::PathBuf;
 
@@ -13,7 +13,7 @@ fn main() {
     let archive = folder.join("libwavpack_stereo.a");
     if !archive.exists() {
         println!(
-            "cargo::warning={} is missing: `rt staticlib wavpack_stereo` writes it into target/staticlib of \
+            "cargo::warning={} is missing: `tools/staticlib` writes it into target/staticlib of \
              the repository; set WAVPACK_STEREO_FOLDER to the absolute path of another folder that holds it",
             archive.display()
         );
