@@ -18,7 +18,7 @@ use lib.Seq.{take_all, drop-cons, take_at, drop_at, length-take-le, drop-drop}
 use Rattle.overlay.specs.Overlay.{overlay}
 use Rattle.overlay.proofs.OverlayLaws.{overlay_first}
 use Rattle.little_endian.specs.LittleEndian.{little_endian}
-use Rattle.bits.specs.Bits.{low, num, bits_of}
+use Rattle.bits.specs.Bits.{low, bits_of}
 use Rattle.bits.specs.Laid.{bytes_holding, put}
 use Rattle.bits.proofs.BitLaws.{low-add, low_mod}
 use Rattle.bits.proofs.LaidLaws.{Bytes, bytes_take, low-none, bits_append, holding_bytes, put_nil, put-start}
