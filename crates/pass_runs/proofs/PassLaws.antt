@@ -1,7 +1,6 @@
 -- From the runs by term to a pass: the term that its number stands for, and a term that is not
 -- valid. Assumes nothing.
 use mathlib.Core.Path.{◌≡◌, refl, sym, ap, ◌∙◌}
-use mathlib.Core.Bool.{Bool, true, false}
 use mathlib.Core.List.{List, [], ◌∷◌}
 use Prim.Native.Nat.{ℕ, suc}
 use lib.IntN.{ℤ}
