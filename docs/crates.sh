@@ -14,7 +14,7 @@ listed() {
 named() {
     listed | while read -r crate dep; do
         grep -rqE --exclude-dir=out --include='*.rt' --include='*.antt' \
-            "Rattle[.]$dep[.]|(^|[^A-Za-z0-9_:])$dep::" "crates/$crate" &&
+            "Rattle[.]${dep}[.]|(^|[^A-Za-z0-9_:])${dep}::" "crates/$crate" &&
             echo "$crate $dep"
     done
 }
