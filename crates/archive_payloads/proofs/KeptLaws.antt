@@ -1,18 +1,18 @@
 -- The recordings in force, one recording further.
 -- Assumes nothing.
-use mathlib.Core.Path.{◌≡◌, refl, sym, ap, ap₂, ◌∙◌}
+use mathlib.Core.Path.{◌≡◌, refl, sym, ap, ◌∙◌}
 use mathlib.Core.Bool.{Bool, true, false, cond}
-use mathlib.Core.List.{List, [], ◌∷◌, ◌++◌, append-nil}
-use Prim.Native.Nat.{ℕ, ◌+◌, ◌-◌, ◌*◌, ◌/◌, ◌≤◌, ◌<◌}
+use mathlib.Core.List.{List, [], ◌∷◌, append-nil}
+use Prim.Native.Nat.{ℕ, ◌+◌, ◌*◌, ◌≤◌, ◌<◌}
 use native.Mathlib.Omega.{arith}
-use lib.ListN.{length, take, drop, length-append}
+use lib.ListN.{length, length-append}
 use Rattle.overlay.specs.Overlay.{overlay}
 use Rattle.overlay.proofs.OverlayLaws.{overlay_none}
 use Rattle.archive.specs.Recording.{Recording, blocks_for}
-use Rattle.archive.specs.Listing.{recordings_of, superseded, not_superseded, in_force, listed, payloads}
-use Rattle.archive.specs.Places.{At, HeadOf, recording_at, no_recording}
-use Rattle.archive.proofs.ListingLaws.{force-one, one_of, kept_on, kept-few, kept_small, listed_append}
-use Rattle.archive.proofs.ListingLaws.{listed-length, payloads_append}
+use Rattle.archive.specs.Listing.{recordings_of, not_superseded, in_force, listed, payloads}
+use Rattle.archive.specs.Places.{HeadOf, recording_at, no_recording}
+use Rattle.archive.proofs.ListingLaws.{force-one, one_of, kept_on, kept-few, kept_small}
+use Rattle.archive.proofs.ListingLaws.{payloads_append}
 use Rattle.archive.proofs.PlaceLaws.{at_next}
 use Rattle.archive_payloads.specs.Kept.{kept, between, superseded_at, DoneIs, CountedIs}
 use Rattle.archive_payloads.specs.declared.Done.{Done}

@@ -1,10 +1,9 @@
 -- The recordings in force up to one of a file, and between two of them.
 -- Assumes nothing.
 -- ---- for the code alone
-use Rattle.std.specs.Prelude.{◌≡◌, Bool, false, cond, List, [], ℕ, ◌+◌, ◌-◌, ◌*◌, ◌/◌, ◌%◌, ◌≤◌, ◌<◌, length, take, drop, get_or}
-use Rattle.overlay.specs.Overlay.{overlay}
+use Rattle.std.specs.Prelude.{◌≡◌, Bool, false, cond, List, ℕ, ◌+◌, ◌*◌, ◌/◌, ◌%◌, ◌≤◌, ◌<◌, length, take, drop, get_or}
 use Rattle.archive.specs.Recording.{Recording, blocks_for}
-use Rattle.archive.specs.Listing.{recordings_of, superseded, not_superseded, listed, payloads}
+use Rattle.archive.specs.Listing.{recordings_of, superseded, not_superseded, payloads}
 use Rattle.archive.specs.Places.{At, recording_at}
 use Rattle.archive_payloads.specs.declared.Done.{Done}
 
