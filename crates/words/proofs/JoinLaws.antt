@@ -1,12 +1,10 @@
 -- The parts of a word joined: a run length, a count and a value, each right by itself, are a word.
 -- Assumes nothing.
-use mathlib.Core.Path.{◌∙◌}
+use mathlib.Core.Path.{◌≡◌, refl, ◌∙◌}
 use mathlib.Core.Bool.{Bool}
-use mathlib.Core.List.{List, [], ◌∷◌}
+use mathlib.Core.List.{List}
 use Prim.Native.Nat.{ℕ}
-use denote.Enum.Declared.{tag_of}
 use lib.IntN.{ℤ}
-use types.Run.{OneOf, miss}
 use Rattle.entropy.specs.Medians.{Medians}
 use Rattle.word_state.specs.State.{with_flags, unbroken}
 use Rattle.words.specs.Parts.{ValueIs, CountIs, not_coded, PlainIs, ZeroRunIs, CodedIs}
@@ -14,13 +12,13 @@ use Rattle.words.specs.declared.coded.OnesCount.{OnesCount}
 use Rattle.words.specs.declared.coded.SignedValue.{SignedValue}
 use Rattle.words.specs.declared.coded.ZeroRun.{ZeroRun}
 use Rattle.words.specs.declared.coded.Coded.{Coded}
-use Rattle.words.specs.contracts.coded.OnesCount.{the_type}
 
 module _ (bits : List Bool) (p : ℕ) (m : Medians) (z o : Bool) where
   -- a count that has no value
-  pub plain-none : (x : OnesCount) → CountIs bits p z o x → OneOf (1 ∷ 2 ∷ []) (tag_of the_type x) → PlainIs bits p m z o (not_coded x)
+  pub plain-none : (x : OnesCount) → CountIs bits p z o x → ((k q : ℕ) (a b : Bool) → x ≡ OnesCount.Count k q a b → ⊥)
+      → PlainIs bits p m z o (not_coded x)
   unfolding unbroken
-  plain-none (OnesCount.Count k q a b) h t = absurd (miss (1 ∷ 2 ∷ []) 0 tt t)
+  plain-none (OnesCount.Count k q a b) h t = absurd (t k q a b refl)
   plain-none OnesCount.EndOfStream h t = record { is = λ s d e f. h.is (unbroken s) e f }
   plain-none OnesCount.Truncated h t = record { is = λ s d e f. h.is (unbroken s) e f }
 

@@ -3,12 +3,10 @@
 -- Assumes nothing.
 use mathlib.Core.Path.{◌≡◌, refl, sym, ap}
 use mathlib.Core.Bool.{Bool, true, false, not, cond, ◌&&◌}
-use mathlib.Core.List.{List, [], ◌∷◌}
+use mathlib.Core.List.{List}
 use Prim.Native.Nat.{ℕ, ◌+◌, ◌-◌, ◌/◌, ◌%◌, ◌^◌, ◌<◌}
 use native.Mathlib.Omega.{arith}
-use denote.Enum.Declared.{tag_of}
 use lib.IntN.{pos}
-use types.Run.{OneOf, miss}
 use Rattle.answers.specs.Limits.{max_width}
 use Rattle.bits.specs.Bits.{val, bit_of}
 use Rattle.bits.specs.Fields.{get_bits}
@@ -19,7 +17,6 @@ use Rattle.bits.proofs.Window.{window-bits}
 use Rattle.fields.specs.Code.{truncated_binary, CodeIn}
 use Rattle.fields.specs.Counts.{run_length, prefix}
 use Rattle.fields.specs.declared.Prefix.{Prefix}
-use Rattle.fields.specs.contracts.Prefix.{the_type}
 use Rattle.medians.specs.Interval.{low_of, high_of}
 use Rattle.word_state.specs.State.{State, in_run, unbroken, cleared, flagged, run_due, run_here, on_zeros}
 use Rattle.answers.proofs.TestLaws.{clash}
@@ -79,9 +76,10 @@ unfolding plain flagged
 count-read bits p o r q h = record { is = λ s z e. rw (z, h, e) }
 
 -- a prefix that has no value
-pub count_none : (bits : List Bool) (p : ℕ) (o : Bool) (x : Prefix) → prefix bits p ≡ x → OneOf (1 ∷ 2 ∷ []) (tag_of the_type x) → CountIs bits p false o (not_counted x)
+pub count_none : (bits : List Bool) (p : ℕ) (o : Bool) (x : Prefix) → prefix bits p ≡ x → ((r q : ℕ) → x ≡ Prefix.Value r q → ⊥)
+    → CountIs bits p false o (not_counted x)
 unfolding plain
-count_none bits p o (Prefix.Value r q) h t = absurd (miss (1 ∷ 2 ∷ []) 0 tt t)
+count_none bits p o (Prefix.Value r q) h t = absurd (t r q refl)
 count_none bits p o Prefix.EndOfStream h t = record { is = λ s z e. rw (z, h) }
 count_none bits p o Prefix.Truncated h t = record { is = λ s z e. rw (z, h) }
 

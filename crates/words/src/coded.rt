@@ -49,7 +49,7 @@ pub enum ZeroRun {
 }
 
 // A run as above; or a sample, its count, the place after it, and last_zero and last_one after it.
-#[derive(Drop)]
+#[derive(Clone, Copy)]
 pub enum Coded {
     Run(u32, usize),
     Sample(i32, u32, usize, bool, bool),
