@@ -1,3 +1,2 @@
--- What the proofs of the functions and other crates cite.
+-- What the proofs of the functions cite.
 pub mod Turns
-pub mod TurnCalls
