@@ -20,7 +20,7 @@ use Rattle.passes.specs.declared.Direction.{Direction}
 use Rattle.passes.specs.declared.Direction.TheVariants.{Decorrelation, Analysis}
 use Rattle.list_tests.specs.Tests.{all_valid, list_number, accepted_by}
 use Rattle.list_runs.specs.Chained.{chained}
-use Rattle.decorrelation.specs.Lists.{number_by, Answer, done, refuse_list, listed, followed, array_answer}
+use Rattle.decorrelation.specs.Lists.{number_by, done, refuse_list, listed, followed, array_answer}
 
 -- both directions refuse the same lists
 pub number_by_lem : (dir : Direction) (v : Bool) (n m : ℕ) → number_by dir v n m ≡ list_number v n m
