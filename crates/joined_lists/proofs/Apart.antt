@@ -12,7 +12,7 @@ use Rattle.passes.specs.declared.DecorrPass.{DecorrPass}
 use Rattle.passes.specs.declared.Direction.TheVariants.{Decorrelation, Analysis}
 use Rattle.decorrelation.specs.Lists.{Answer, refuse_list, decorrelation, analysis}
 use Rattle.decorrelation.proofs.Theorems.{Accepted, listed-accepts, zero-accepts}
-use Rattle.joined_lists.specs.Joined.{TwoCalls, OverSixteen, OnlyApart, Exactly, DecorrelationApart, AnalysisApart, DecorrelationAccepted, AnalysisAccepted}
+use Rattle.joined_lists.specs.Joined.{TwoCalls, OverSixteen, OnlyApart, DecorrelationApart, AnalysisApart, DecorrelationAccepted, AnalysisAccepted}
 use Rattle.joined_lists.proofs.AcceptLaws.{joined-accepts, parts_accept, nine_together}
 use Rattle.joined_lists.proofs.Together.{refusal_of, Runs, decorrelation-runs, analysis-runs}
 
