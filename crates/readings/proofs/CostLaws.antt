@@ -10,7 +10,7 @@ use Rattle.word_state.specs.State.{State, side}
 use Rattle.words.specs.Word.{Word, given, refused, word}
 use Rattle.zones.specs.Report.{Report}
 use Rattle.readings.specs.Reading.{on_word, more, reading}
-use Rattle.readings.specs.Costs.{Cost, cost_at, left_cost, right_cost, costs}
+use Rattle.readings.specs.Costs.{cost_at, left_cost, right_cost, costs}
 use Rattle.readings.proofs.LocalLaws.{word_on}
 
 -- an accepted word, and those after it

@@ -11,7 +11,7 @@ use lib.IntN.{pos}
 use Rattle.bits.specs.Bits.{val, bit_of}
 use Rattle.bits.specs.Fields.{get_bits}
 use Rattle.bits.specs.declared.Field.{Field}
-use Rattle.bits.specs.declared.Field.TheVariants.{Value, Truncated}
+use Rattle.bits.specs.declared.Field.TheVariants.{Value}
 use Rattle.fields.specs.Code.{truncated_binary}
 use Rattle.fields.specs.Counts.{run_length, prefix}
 use Rattle.fields.specs.declared.Prefix.{Prefix}

@@ -6,7 +6,7 @@ use mathlib.Core.Bool.{Bool, true, false, cond}
 use mathlib.Core.List.{List}
 use Prim.Native.Nat.{ℕ, zero, suc, ◌+◌, ◌-◌, ◌/◌, ◌%◌, ◌≤◌}
 use native.Mathlib.Omega.{arith}
-use lib.IntN.{ℤ, pos}
+use lib.IntN.{ℤ}
 use Rattle.bits.specs.Bits.{val, bit_of}
 use Rattle.bits.specs.Fields.{get_bits}
 use Rattle.bits.specs.declared.Field.{Field}
@@ -17,8 +17,8 @@ use Rattle.fields.specs.declared.Prefix.{Prefix}
 use Rattle.medians.specs.Interval.{low_of, high_of}
 use Rattle.word_state.specs.State.{BitsRead, State, flip, due, with_bits, run_due, on_zeros}
 use Rattle.word_state.specs.State.{paid, in_run, unbroken, cleared, flagged, after}
-use Rattle.words.specs.Word.{Word, given, refused, signed, on_field, on_prefix, value, plain, fresh, word}
-use Rattle.zones.specs.Report.{Report, none, zone_of}
+use Rattle.words.specs.Word.{Word, given, refused, on_field, on_prefix, value, plain, fresh, word}
+use Rattle.zones.specs.Report.{Report}
 use Rattle.readings.proofs.EveryLaws.{Every, every_field, every_prefix, every_cond, every_zeros}
 
 -- ---- a word does not look at the totals

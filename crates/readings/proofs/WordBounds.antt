@@ -2,7 +2,7 @@
 -- more samples than words.
 -- Assumes nothing.
 use mathlib.Core.Path.{◌≡◌, refl}
-use mathlib.Core.Bool.{Bool, true, false, cond}
+use mathlib.Core.Bool.{Bool, cond}
 use mathlib.Core.List.{List, [], ◌∷◌}
 use Prim.Native.Nat.{ℕ, zero, suc, ◌+◌, ◌-◌, ◌/◌, ◌%◌, ◌≤◌, ◌<◌}
 use native.Mathlib.Omega.{arith}
@@ -12,7 +12,7 @@ use lib.Signed.{mag}
 use Rattle.bits.specs.Bits.{val, bit_of}
 use Rattle.bits.specs.Fields.{get_bits}
 use Rattle.bits.specs.declared.Field.{Field}
-use Rattle.bits.specs.declared.Field.TheVariants.{Value, Truncated}
+use Rattle.bits.specs.declared.Field.TheVariants.{Value}
 use Rattle.fields.specs.Counts.{run_length, prefix}
 use Rattle.fields.specs.Code.{truncated_binary}
 use Rattle.fields.specs.declared.Prefix.{Prefix}
