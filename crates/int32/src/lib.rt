@@ -16,7 +16,7 @@ const MAX_BITS: u32 = 31;
 
 // Literal bits for each sample; redundant bits: zeros, ones or copies of the lowest bit, the first
 // that is not 0.
-#[derive(Drop)]
+#[derive(Clone, Copy)]
 pub struct Int32Info {
     pub sent_bits: u32,
     pub zeros: u32,
@@ -25,7 +25,7 @@ pub struct Int32Info {
 }
 
 // What both entries answer: the literal bits read or written, 0 on refusal.
-#[derive(Drop)]
+#[derive(Clone, Copy)]
 pub struct Int32Answer {
     pub outcome: Outcome,
     pub bits: u32,
