@@ -1,40 +1,23 @@
 -- Passes and their slots: the term of a slot, one pass, lists of passes pass by pass. Assumes nothing.
 use mathlib.Core.Path.{◌≡◌, refl, sym, ap, ◌∙◌}
-use mathlib.Core.Bool.{true, false}
 use mathlib.Core.List.{List, [], ◌∷◌, ◌++◌, append_assoc, append-nil}
 use Prim.Native.Nat.{ℕ, zero, suc, ◌+◌, ◌-◌, ◌*◌, ◌≤◌, ◌<◌}
 use native.Mathlib.Omega.{arith}
 use lib.IntN.{ℤ, pos, negsuc}
 use lib.ListN.{length, get_or, set, take, drop, length-append, length-drop, get_or-append}
 use lib.Seq.{take_at, drop_at, take-suc, take-suc-set, take-length, drop-drop, length-take-le, take-append-le, drop-append-le}
-use lib.Signed.{lt_z}
 use mir.Syntax.{w8}
 use mir.Val.{SFits}
-use borrow.Author.Tests.{ltb-true, ltb-false, le-leb, lt-leb}
+use borrow.Author.Tests.{le-leb}
 use Rattle.passes.specs.declared.DecorrPass.{DecorrPass}
 use Rattle.overlay.specs.Overlay.{overlay}
-use Rattle.overlay.proofs.OverlayLaws.{overlay_none, overlay_length, overlay_on, overlay_whole}
+use Rattle.overlay.proofs.OverlayLaws.{overlay_none, overlay_on, overlay_whole}
 use Rattle.made_slots.specs.MadeSlots.{pass_slots, slots_of}
 use Rattle.pass_slots.specs.PassSlots.{slot_term, pass_of, passes_of, list_slots}
 
 -- ---- the term of a slot
 
--- a number below 8 bits
-pub term-low : (z : ℤ) → lt_z z (negsuc 127) ≡ true → pos 0 ≡ slot_term z
-term-low (pos n) t = cc
-term-low (negsuc n) t = rw (lt-leb n 127 (ltb-true 127 n t))
-
--- a number above 8 bits
-pub term-high : (z : ℤ) → lt_z (pos 127) z ≡ true → pos 0 ≡ slot_term z
-term-high (pos n) t = rw (lt-leb n 127 (ltb-true 127 n t))
-term-high (negsuc n) t = cc
-
--- a number of 8 bits
-pub term_fits : (z : ℤ) → lt_z z (negsuc 127) ≡ false → lt_z (pos 127) z ≡ false → SFits w8 z
-term_fits (pos n) a b = record { sfits = omega (arith, ltb-false 127 n b) }
-term_fits (negsuc n) a b = record { sfits = omega (arith, ltb-false 127 n a) }
-
--- it is kept
+-- a number of 8 bits is kept
 pub term-kept : (z : ℤ) → SFits w8 z → z ≡ slot_term z
 term-kept (pos n) h = rw (le-leb n 127 (omega (arith, h.sfits)))
 term-kept (negsuc n) h = rw (le-leb n 127 (omega (arith, h.sfits)))
