@@ -2,19 +2,18 @@
 -- Assumes nothing.
 use mathlib.Core.Path.{◌≡◌, refl, sym, ap, ◌∙◌}
 use mathlib.Core.Bool.{Bool, true, false, ◌||◌}
-use mathlib.Core.List.{List, [], ◌++◌}
-use Prim.Native.Nat.{ℕ, zero, ◌+◌, ◌-◌, ◌*◌, ◌≤◌, ◌<◌}
+use mathlib.Core.List.{List}
+use Prim.Native.Nat.{ℕ, ◌+◌, ◌-◌, ◌*◌, ◌≤◌, ◌<◌}
 use native.Mathlib.Omega.{arith}
 use borrow.Author.Tests.{ltb-true, ltb-false}
 use lib.Dec.{ltb}
-use lib.ListN.{length, take, length-append}
+use lib.ListN.{length, length-append}
 use lib.ListN.{get_or}
 use lib.Seq.{take_all}
 use Rattle.answers.proofs.TestLaws.{neither, clash}
 use Rattle.overlay.specs.Overlay.{overlay}
 use Rattle.archive.specs.Recording.{Recording}
 use Rattle.archive.specs.Listing.{recordings_of, not_superseded, in_force, twice, listed, payloads, Sound}
-use Rattle.archive.specs.Places.{At}
 use Rattle.archive.proofs.ListingLaws.{kept_on, kept-few, kept_small, listed_append, listed-length}
 use Rattle.archive.proofs.ListingLaws.{payloads_append}
 use Rattle.archive.proofs.PlaceLaws.{at-start, at-end}

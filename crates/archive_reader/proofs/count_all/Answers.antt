@@ -1,0 +1,23 @@
+-- `archive_reader::count_all` meets its contract.
+-- Assumes nothing.
+use native.Mathlib.Omega.{arith}
+use Rattle.archive.proofs.PlaceLaws.{recordings-few}
+use Rattle.archive_reader.proofs.ReaderLaws.{apart_none, apart_more, done_none, counts_all}
+use Rattle.archive_reader.proofs.count_all.Goals as goal
+
+pub loop-done-init : goal.loop-done-init
+loop-done-init c = (done_none _ c.requires, apart_none _)
+
+pub overflow_add-first : goal.overflow_add-first
+overflow_add-first c =
+    omega (arith, recordings-few c.args.file.now c.requires, c.chunk_at-chunk.ensures.place.within)
+
+pub loop-done-preserved : goal.loop-done-preserved
+loop-done-preserved c = (
+  c.count_chunk-done.ensures,
+  apart_more _ c.chunk_at-chunk.ensures _ _ c.loop-done.invariant.1 c.either-twice.ensures,
+)
+
+pub returns : goal.returns
+returns c =
+    counts_all _ c.requires c.loop-done.invariant.0 c.loop-done.invariant.1 c.loop-done-test.false
