@@ -21,7 +21,8 @@ pub loop-buffer-preserved : goal.loop-buffer-preserved
 loop-buffer-preserved c =
     cross_turn c.args.direction c.args.second c.args.start c.args.buffer.now
     _ _ _ c.turn_clip-one.result c.turn_clip-two.result
-    c.loop-buffer.invariant (omega arith) c.frame_at-frame.ensures c.either-in_one.ensures c.either-in_two.ensures
+    c.loop-buffer.invariant (omega arith) c.frame_at-frame.ensures
+    c.either-in_one.ensures c.either-in_two.ensures
     c.turn_clip-one.ensures c.turn_clip-two.ensures c.either-out_a.ensures c.either-out_b.ensures
     c.store_frame.ensures (frame-fits _ _ c.frame_at-frame.type_inv)
     (search rules) (search rules)

@@ -18,9 +18,11 @@ loop-buffer-init c =
 pub loop-buffer-preserved : goal.loop-buffer-preserved
 loop-buffer-preserved c =
     swap_turn c.args.direction c.args.start c.args.buffer.now c.turn_clip-a.result c.turn_clip-b.result
-    c.loop-buffer.invariant (omega arith) c.frame_at-frame.ensures c.turn_clip-a.ensures c.turn_clip-b.ensures
+    c.loop-buffer.invariant (omega arith) c.frame_at-frame.ensures
+    c.turn_clip-a.ensures c.turn_clip-b.ensures
     c.store_frame.ensures
-    (frame-fits _ _ c.frame_at-frame.type_inv) (turned-fits _ _ c.turn_clip-a.type_inv) (turned-fits _ _ c.turn_clip-b.type_inv)
+    (frame-fits _ _ c.frame_at-frame.type_inv) (turned-fits _ _ c.turn_clip-a.type_inv)
+    (turned-fits _ _ c.turn_clip-b.type_inv)
 
 pub returns : goal.returns
 returns c =

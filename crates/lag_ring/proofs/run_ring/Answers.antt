@@ -11,10 +11,12 @@ pub loop-buffer-preserved : goal.loop-buffer-preserved
 loop-buffer-preserved c =
     lag_turn c.args.direction c.args.lag c.args.start c.args.buffer.now c.turn_plain-a.result
     c.turn_plain-b.result
-    c.loop-buffer.invariant (omega arith) c.frame_at-frame.ensures c.turn_plain-a.ensures c.turn_plain-b.ensures
+    c.loop-buffer.invariant (omega arith) c.frame_at-frame.ensures
+    c.turn_plain-a.ensures c.turn_plain-b.ensures
     c.store_frame.ensures
     (search rules) (search rules)
-    (frame-fits _ _ c.frame_at-frame.type_inv) (turned-fits _ _ c.turn_plain-a.type_inv) (turned-fits _ _ c.turn_plain-b.type_inv)
+    (frame-fits _ _ c.frame_at-frame.type_inv) (turned-fits _ _ c.turn_plain-a.type_inv)
+    (turned-fits _ _ c.turn_plain-b.type_inv)
 
 pub returns : goal.returns
 returns c =

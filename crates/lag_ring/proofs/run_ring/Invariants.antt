@@ -9,7 +9,8 @@ use Rattle.pass_turns.proofs.FrameLaws.{Done}
 use Rattle.lag_ring.proofs.run_ring.Given as goal
 
 abbrev pub invariant-loop-buffer : goal.invariant-loop-buffer
-invariant-loop-buffer l = Done (turn l.direction (Lag l.lag)) l.start l.initial.buffer (lag_at l.start l.weight_a l.weight_b l.history_a l.history_b) l.buffer l.index l.i
+invariant-loop-buffer l = Done (turn l.direction (Lag l.lag)) l.start l.initial.buffer
+    (lag_at l.start l.weight_a l.weight_b l.history_a l.history_b) l.buffer l.index l.i
 
 abbrev pub decreases-loop-buffer : goal.decreases-loop-buffer
 decreases-loop-buffer l = length l.buffer - l.i

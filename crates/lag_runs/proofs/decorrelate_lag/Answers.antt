@@ -6,4 +6,5 @@ use Rattle.lag_runs.proofs.decorrelate_lag.Goals as goal
 
 pub returns : goal.returns
 returns c =
-    looked_whole c.args.lag c.args.start c.args.buffer.now _ _ _ c.run_back-weights.ensures c.ring_behind.ensures (omega (arith, c.run_back-weights.ensures.same))
+    looked_whole c.args.lag c.args.start c.args.buffer.now _ _ _
+    c.run_back-weights.ensures c.ring_behind.ensures (omega (arith, c.run_back-weights.ensures.same))

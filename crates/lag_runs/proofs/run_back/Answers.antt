@@ -7,12 +7,15 @@ use Rattle.lag_runs.proofs.run_back.Goals as goal
 
 pub loop-buffer-preserved : goal.loop-buffer-preserved
 loop-buffer-preserved c =
-    look-turn c.args.lag c.requires.some c.requires.most c.args.start c.args.buffer.now c.loop-buffer.invariant
+    look-turn c.args.lag c.requires.some c.requires.most c.args.start c.args.buffer.now
+    c.loop-buffer.invariant
     c.turn_plain-a.result c.turn_plain-b.result (omega arith)
-    c.frame_at-frame.ensures c.looked_back-source.ensures c.turn_plain-a.ensures c.turn_plain-b.ensures c.store_frame.ensures
+    c.frame_at-frame.ensures c.looked_back-source.ensures c.turn_plain-a.ensures c.turn_plain-b.ensures
+    c.store_frame.ensures
     (frame-fits _ _ c.looked_back-source.type_inv) (frame-fits _ _ c.frame_at-frame.type_inv)
     (turned-fits _ _ c.turn_plain-a.type_inv) (turned-fits _ _ c.turn_plain-b.type_inv)
 
 pub returns : goal.returns
 returns c =
-    looked_all c.args.lag c.requires.some c.requires.most c.args.start c.args.buffer.now c.loop-buffer.invariant (omega arith) refl refl
+    looked_all c.args.lag c.requires.some c.requires.most c.args.start c.args.buffer.now
+    c.loop-buffer.invariant (omega arith) refl refl

@@ -24,7 +24,8 @@ loop-buffer-preserved c =
     c.two_source-source_b.ensures
     c.turn_plain-a.ensures c.turn_plain-b.ensures c.store_frame.ensures
     (search rules) (search rules)
-    (frame-fits _ _ c.frame_at-frame.type_inv) (turned-fits _ _ c.turn_plain-a.type_inv) (turned-fits _ _ c.turn_plain-b.type_inv)
+    (frame-fits _ _ c.frame_at-frame.type_inv) (turned-fits _ _ c.turn_plain-a.type_inv)
+    (turned-fits _ _ c.turn_plain-b.type_inv)
 
 pub returns : goal.returns
 returns c =
