@@ -2,14 +2,13 @@
 -- Assumes nothing.
 use mathlib.Core.Path.{◌≡◌, refl}
 use mathlib.Core.Bool.{true, false}
-use mathlib.Core.List.{List, [], ◌∷◌}
-use Prim.Native.Nat.{ℕ}
+use mathlib.Core.List.{[], ◌∷◌}
 use lib.ListN.{length, set}
 use Rattle.little_endian.specs.LittleEndian.{little_endian, from_little_endian}
 use Rattle.archive.specs.Block.{weighted_from, check_of, block_body, block, passes}
 use Rattle.archive.specs.Recording.{Recording, head, stream, numbered, recording_bytes, joined}
 use Rattle.archive.specs.Faults.{cut, announced_by, used_asked, finished, all_zero, wrong, good, good_blocks}
-use Rattle.archive.specs.Listing.{recordings_of, supersedes, superseded, not_superseded, in_force, agree}
+use Rattle.archive.specs.Listing.{supersedes, superseded, not_superseded, in_force, agree}
 use Rattle.archive.specs.Listing.{holds, twice}
 
 -- number 0, two used bytes 1 and 0: 3 x 2 + 5 x 1

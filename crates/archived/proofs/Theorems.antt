@@ -1,20 +1,19 @@
 -- The archive's promises (specs/Archived.antt).
 -- Assumes nothing.
 use mathlib.Core.Path.{◌≡◌, refl, sym, ap, ap₂, subst, ◌∙◌}
-use mathlib.Core.Bool.{Bool, true, false, ◌||◌, cond}
-use mathlib.Core.List.{List, [], ◌∷◌, ◌++◌, append-nil}
-use Prim.Native.Nat.{ℕ, suc, ◌+◌, ◌*◌, ◌/◌, ◌≤◌, ◌<◌}
+use mathlib.Core.Bool.{Bool, true, false, cond}
+use mathlib.Core.List.{List, [], ◌++◌}
+use Prim.Native.Nat.{ℕ, ◌/◌, ◌≤◌}
 use native.Mathlib.Omega.{arith}
-use borrow.Author.Tests.{lt-ltb, le-ltb, ltb-true, ltb-false}
+use borrow.Author.Tests.{ltb-true, ltb-false}
 use lib.Dec.{ltb}
-use lib.ListN.{length, take, get_or, set, length-append, length-set}
+use lib.ListN.{length, set, length-append, length-set}
 use Rattle.answers.specs.Limits.{max_payload_bytes}
 use Rattle.overlay.proofs.OverlayLaws.{overlay_take}
-use Rattle.archive.specs.Block.{Bytes}
-use Rattle.archive.specs.Recording.{Recording, InSpan, AllInSpan, recording_bytes, joined, archive_blocks}
+use Rattle.archive.specs.Recording.{Recording, AllInSpan, recording_bytes, joined, archive_blocks}
 use Rattle.archive.specs.Recording.{archive}
 use Rattle.archive.specs.Faults.{blocks_in, file_blocks, good_blocks, has_bad}
-use Rattle.archive.specs.Listing.{recordings_of, in_force, twice, payloads}
+use Rattle.archive.specs.Listing.{recordings_of, in_force, twice}
 use Rattle.archive.proofs.AlteredLaws.{altered_file, cut-count}
 use Rattle.archive.proofs.ArchivedLaws.{archived_good, archived_recordings}
 use Rattle.archive.proofs.CheckLaws.{altered_fails}
@@ -26,7 +25,7 @@ use Rattle.archive_writer.proofs.WriteLaws.{bytes-asked, write_long, write_short
 use Rattle.archive_reader.specs.Read.{read_entry, short_storage, refuse_read, tell_read}
 use Rattle.archive_reader.proofs.AnswerLaws.{read_bad, read_told, no_bad}
 use Rattle.archived.specs.Archived.{OneByteNeverPasses, AlteredFileRefused, written, Written, ReadBack}
-use Rattle.archived.specs.Archived.{WritesInSpan, IsArchive, OnlyArchives}
+use Rattle.archived.specs.Archived.{WritesInSpan, OnlyArchives}
 
 -- Q9.7, a block
 pub one_byte-never-passes : OneByteNeverPasses

@@ -1,12 +1,12 @@
 -- Document 02 §9: the archive's promises, as statements over the definitions of its two entries (Q9.7 to
 -- Q9.9).
 -- Assumes nothing.
-use Rattle.std.specs.Prelude.{◌≡◌, true, false, List, [], ◌∷◌, ◌++◌, ℕ, ◌+◌, ◌*◌, ◌/◌, ◌≤◌, ◌<◌, length, take, get_or, set}
+use Rattle.std.specs.Prelude.{◌≡◌, true, false, List, [], ◌∷◌, ◌++◌, ℕ, ◌*◌, ◌/◌, ◌≤◌, ◌<◌, length, take, get_or, set}
 use Rattle.archive.specs.Block.{block_bytes, Bytes, passes}
 use Rattle.archive.specs.Recording.{Recording, InSpan, AllInSpan, archive}
-use Rattle.archive.specs.Listing.{recordings_of, in_force, twice, payloads}
+use Rattle.archive.specs.Listing.{in_force, twice, payloads}
 use Rattle.archive_writer.specs.Write.{WriteTold, write_entry}
-use Rattle.archive_reader.specs.Read.{ReadTold, refuse_read, tell_read, read_entry}
+use Rattle.archive_reader.specs.Read.{refuse_read, tell_read, read_entry}
 
 -- "A block with one byte altered must never pass" (Q9.7): every place 0 to 511, every other byte
 abbrev pub OneByteNeverPasses : Type 0
