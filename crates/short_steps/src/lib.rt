@@ -15,7 +15,7 @@ use short_words::{ShortWord, left_word, right_word};
 
 // Where a reading stands between two words. Of the bits before its place `left_bits` were left's; the
 // others are right's, so that one number more is all that the loop holds.
-#[derive(Drop)]
+#[derive(Clone, Copy)]
 pub struct Standing {
     pub place: usize,
     pub left_bits: usize,
