@@ -22,7 +22,7 @@ use Rattle.cut_buffers.proofs.Parts.{chained-cut, short-parts}
 use Rattle.made_slots.specs.MadeSlots.{pass_slots}
 use Rattle.pass_slots.specs.PassSlots.{passes_in, list_slots, passes_call}
 use Rattle.pass_slots.proofs.AcceptedCalls.{in_slots, call-leaves, call-accepts}
-use Rattle.cut_slots.specs.CutSlots.{calls_in_two, SameSlots, SlotsCutInTwo, DecorrelateCut, AnalyseCut}
+use Rattle.cut_slots.specs.CutSlots.{calls_in_two, SlotsCutInTwo, DecorrelateCut, AnalyseCut}
 use Rattle.cut_slots.specs.CutSlots.{PartsLeft, calls_in_parts, SlotsCutInMany, DecorrelateInParts, AnalyseInParts}
 use Rattle.cut_slots.specs.CutSlots.{LongDecorrelate, LongAnalyse}
 use Rattle.cut_slots.proofs.ShapeLaws.{AllShaped, chained-shaped, passes-shaped, slots_length, held-again}

@@ -1,6 +1,6 @@
 -- Lists of slots joined (statements in specs/JoinedSlots.antt), from the theorems about lists of
 -- passes. Assumes nothing.
-use mathlib.Core.Path.{◌≡◌, refl, sym, ap, ap₂, ◌∙◌}
+use mathlib.Core.Path.{◌≡◌, sym, ap, ap₂, ◌∙◌}
 use mathlib.Core.List.{List, ◌++◌}
 use Prim.Native.Nat.{◌+◌, ◌*◌, ◌/◌, ◌%◌, ◌≤◌}
 use native.Mathlib.Omega.{arith}
@@ -17,7 +17,7 @@ use Rattle.made_slots.specs.MadeSlots.{pass_slots}
 use Rattle.pass_slots.specs.PassSlots.{passes_in, list_slots, PassesLeft, passes_call}
 use Rattle.pass_slots.proofs.PassSlotLaws.{passes-length, slots_append}
 use Rattle.pass_slots.proofs.AcceptedCalls.{in_slots, AcceptedCall, call-leaves, call-accepts}
-use Rattle.joined_slots.specs.JoinedSlots.{SlotCalls, decorrelate_apart, analyse_apart, JoinableSlots, SameSlots, DecorrelateJoined, AnalyseJoined}
+use Rattle.joined_slots.specs.JoinedSlots.{SlotCalls, decorrelate_apart, analyse_apart, SameSlots, DecorrelateJoined, AnalyseJoined}
 use Rattle.joined_slots.proofs.SlotLaws.{passes_in-joined}
 
 -- ---- what calls leave
