@@ -16,11 +16,13 @@ loop-i-preserved c =
     let few : t.i < length a.passes = search (rules, arith) in
     record {
       count = omega arith;
-      laid = rw (add-one t.i) (laying_more t.i a.passes _ a.slots.now t.slots x.result _ few n x.ensures c.lay.ensures t.invariant.laid);
+      laid = rw (add-one t.i) (laying_more t.i a.passes _ a.slots.now t.slots x.result _ few n x.ensures
+          c.lay.ensures t.invariant.laid);
     }
 
 pub returns : goal.returns
 returns c =
     let a = c.args in
     let t = c.loop-i in
-    laying_all a.count t.i a.passes a.slots.now t.slots (omega arith) (omega arith) c.requires.1 t.invariant.laid
+    laying_all a.count t.i a.passes a.slots.now t.slots (omega arith) (omega arith) c.requires.1
+    t.invariant.laid
