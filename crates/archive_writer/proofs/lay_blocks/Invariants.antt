@@ -1,5 +1,5 @@
--- `archive_writer::lay_blocks`: the loop's invariant is that the first i blocks are laid, and the measure what
--- is left of them.
+-- `archive_writer::lay_blocks`: the loop's invariant is that the first i blocks are laid, and the measure
+-- what is left of them.
 -- Assumes nothing.
 use mathlib.Core.List.{◌++◌}
 use Prim.Native.Nat.{◌-◌, ◌≤◌}
