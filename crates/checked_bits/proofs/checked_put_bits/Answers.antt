@@ -20,17 +20,20 @@ returns-then-count-gt32 c =
 
 pub returns-then-at-end : goal.returns-then-at-end
 returns-then-at-end c =
-    let e = written-short c.args.out.now c.args.at c.args.v c.args.count (omega arith) (omega arith) (omega arith) in
+    let e =
+    written-short c.args.out.now c.args.at c.args.v c.args.count (omega arith) (omega arith) (omega arith) in
     record { answer = rw e; buffer = rw e }
 
 pub returns-then-count-end : goal.returns-then-count-end
 returns-then-count-end c =
-    let e = written-short c.args.out.now c.args.at c.args.v c.args.count (omega arith) (omega arith) (omega arith) in
+    let e =
+    written-short c.args.out.now c.args.at c.args.v c.args.count (omega arith) (omega arith) (omega arith) in
     record { answer = rw e; buffer = rw e }
 
 pub returns : goal.returns
 returns c =
-    let e = written-accepted c.args.out.now c.args.at c.args.v c.args.count (omega arith) (omega arith) (omega arith) in
+    let e =
+    written-accepted c.args.out.now c.args.at c.args.v c.args.count (omega arith) (omega arith) (omega arith) in
     record {
       answer = rw e (ap (λ (n : ℕ). 0 ∷ n ∷ []) c.lay_bits.ensures.next);
       buffer = rw e c.lay_bits.ensures.buffer;

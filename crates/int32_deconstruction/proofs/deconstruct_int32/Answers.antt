@@ -58,7 +58,8 @@ overflow_cast-result c =
     let ready = divisible _ _ _ none in
     -- the samples are as many as before
     let as_many : length c.shorten.new.samples ≡ length c.args.samples.now =
-    ap length c.shorten.ensures ∙ length-map (map (above c.redundancy_of-put.result.count) c.args.samples.now) _
+    ap length c.shorten.ensures
+    ∙ length-map (map (above c.redundancy_of-put.result.count) c.args.samples.now) _
     ∙ length-map c.args.samples.now _ in
     rw as_many (record { fits = omega (arith, ready.few) })
 
@@ -69,7 +70,8 @@ overflow_mul-result c =
     let ready = divisible _ _ _ none in
     -- the samples are as many as before
     let as_many : length c.shorten.new.samples ≡ length c.args.samples.now =
-    ap length c.shorten.ensures ∙ length-map (map (above c.redundancy_of-put.result.count) c.args.samples.now) _
+    ap length c.shorten.ensures
+    ∙ length-map (map (above c.redundancy_of-put.result.count) c.args.samples.now) _
     ∙ length-map c.args.samples.now _ in
     rw as_many (record { fits = omega (arith, few_bits _ _ ready.fields ready.few) })
 
@@ -81,7 +83,8 @@ returns c =
     ap (λ (r : Redundancy). r.count) c.redundancy_of-put.ensures in
     -- the samples are as many as before
     let as_many : length c.shorten.new.samples ≡ length c.args.samples.now =
-    ap length c.shorten.ensures ∙ length-map (map (above c.redundancy_of-put.result.count) c.args.samples.now) _
+    ap length c.shorten.ensures
+    ∙ length-map (map (above c.redundancy_of-put.result.count) c.args.samples.now) _
     ∙ length-map c.args.samples.now _ in
     deconstruct_told c.args.info c.args.samples.now c.args.literal.now c.redundancy_of-put.result.count _ _
     none count as_many c.shorten.ensures c.lay_literals.ensures

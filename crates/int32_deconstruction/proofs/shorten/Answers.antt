@@ -32,4 +32,5 @@ loop-i-preserved c =
 pub returns : goal.returns
 returns c =
     replaced-all _ _ c.loop-i.samples c.loop-i.i (omega arith) c.loop-i.invariant
-    ∙ sym (map-map (above c.args.count) (above c.args.shift) c.args.samples.now ∙ map_from_lem _ 0 c.args.samples.now)
+    ∙ sym (map-map (above c.args.count) (above c.args.shift) c.args.samples.now
+    ∙ map_from_lem _ 0 c.args.samples.now)

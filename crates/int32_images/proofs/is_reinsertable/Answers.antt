@@ -39,15 +39,17 @@ looked s put y rest low fill w f e l r n =
 pub loop-i-preserved-then-low_bits-bits_below : goal.loop-i-preserved-then-low_bits-bits_below
 loop-i-preserved-then-low_bits-bits_below c =
     let inside : c.loop-i.i < length c.args.samples.now = c.loop-i-test.true in
-    let seen = looked _ _ _ _ _ _ (width_le c.args.zeros c.args.ones c.args.dups c.requires.0 c.requires.1 c.requires.2)
-    (search rules) c.redundancy_of-put.ensures c.low_bits.ensures c.shifted.ensures c.bits_below.ensures in
+    let few = width_le c.args.zeros c.args.ones c.args.dups c.requires.0 c.requires.1 c.requires.2 in
+    let seen = looked _ _ _ _ _ _ few (search rules)
+    c.redundancy_of-put.ensures c.low_bits.ensures c.shifted.ensures c.bits_below.ensures in
     tested_failed _ _ _ c.loop-i.i inside (seen.1 c.if-low_bits-bits_below.true) c.loop-i.invariant
 
 pub loop-i-preserved : goal.loop-i-preserved
 loop-i-preserved c =
     let inside : c.loop-i.i < length c.args.samples.now = c.loop-i-test.true in
-    let seen = looked _ _ _ _ _ _ (width_le c.args.zeros c.args.ones c.args.dups c.requires.0 c.requires.1 c.requires.2)
-    (search rules) c.redundancy_of-put.ensures c.low_bits.ensures c.shifted.ensures c.bits_below.ensures in
+    let few = width_le c.args.zeros c.args.ones c.args.dups c.requires.0 c.requires.1 c.requires.2 in
+    let seen = looked _ _ _ _ _ _ few (search rules)
+    c.redundancy_of-put.ensures c.low_bits.ensures c.shifted.ensures c.bits_below.ensures in
     tested-passed _ _ _ c.loop-i.i inside (seen.0 c.if-low_bits-bits_below.false) c.loop-i.invariant
 
 pub returns : goal.returns

@@ -30,7 +30,8 @@ overflow_cast-result c =
     sym c.reassemble_refusal-outcome.ensures ∙ ap outcome_number c.in-Accepted.is in
     -- the samples are as many as before
     let as_many : length c.put_in.new.samples ≡ length c.args.samples.now =
-    ap length c.put_in.ensures ∙ reassemble_length c.args.info (bits_of c.args.literal.now) c.args.samples.now in
+    ap length c.put_in.ensures
+    ∙ reassemble_length c.args.info (bits_of c.args.literal.now) c.args.samples.now in
     let r = readable _ _ _ fine in
     rw as_many (record { fits = omega (arith, r.few) })
 
@@ -40,7 +41,8 @@ overflow_mul-result c =
     sym c.reassemble_refusal-outcome.ensures ∙ ap outcome_number c.in-Accepted.is in
     -- the samples are as many as before
     let as_many : length c.put_in.new.samples ≡ length c.args.samples.now =
-    ap length c.put_in.ensures ∙ reassemble_length c.args.info (bits_of c.args.literal.now) c.args.samples.now in
+    ap length c.put_in.ensures
+    ∙ reassemble_length c.args.info (bits_of c.args.literal.now) c.args.samples.now in
     let r = readable _ _ _ fine in
     rw as_many (record { fits = omega (arith, few_bits _ _ r.fields r.few) })
 
@@ -50,7 +52,8 @@ returns c =
     sym c.reassemble_refusal-outcome.ensures ∙ ap outcome_number c.in-Accepted.is in
     -- the samples are as many as before
     let as_many : length c.put_in.new.samples ≡ length c.args.samples.now =
-    ap length c.put_in.ensures ∙ reassemble_length c.args.info (bits_of c.args.literal.now) c.args.samples.now in
+    ap length c.put_in.ensures
+    ∙ reassemble_length c.args.info (bits_of c.args.literal.now) c.args.samples.now in
     ap₂ (λ (m : ℕ) (l : List ℤ). record { refusal = 0; bits = m * c.args.info.sent_bits; samples = l })
     as_many c.put_in.ensures
     ∙ sym (reassemble_accepted c.args.info c.args.samples.now c.args.literal.now fine)
