@@ -3,7 +3,7 @@
 use mathlib.Core.Path.{◌≡◌, refl, sym, ap, ◌∙◌}
 use mathlib.Core.Bool.{Bool, true, false, ◌&&◌, and_assoc}
 use mathlib.Core.List.{List, [], ◌∷◌, ◌++◌, append-nil}
-use Prim.Native.Nat.{ℕ, ◌+◌, ◌-◌, ◌*◌, ◌≤◌, ◌<◌, min}
+use Prim.Native.Nat.{ℕ, ◌+◌, ◌-◌, ◌≤◌, ◌<◌, min}
 use native.Mathlib.Decide.{dec_lt}
 use native.Mathlib.Omega.{arith}
 use lib.Dec.{ltb}
@@ -16,31 +16,14 @@ use Rattle.spans.specs.Spans.{within}
 use Rattle.passes.specs.Run.{Chain, analysed}
 use Rattle.passes.specs.declared.DecorrPass.{DecorrPass}
 use Rattle.passes.specs.declared.Direction.TheVariants.{Analysis}
-use Rattle.list_tests.specs.Tests.{all_valid}
 use Rattle.decorrelation.specs.Lists.{Answer, done, followed, array_answer}
 use Rattle.decorrelation.proofs.Theorems.{array_runs}
 use Rattle.cut_buffers.specs.Cut.{MayCut}
 use Rattle.cut_buffers.proofs.KeptLaws.{chained_terms, same-valid, same_count}
 use Rattle.cut_buffers.proofs.Parts.{chained-nothing, chained-cut}
 use Rattle.word_bits.specs.Residuals.{spanned}
-use Rattle.trip_lists.specs.Same.{CopyIs}
 use Rattle.residuals.specs.declared.PartAnswer.{PartAnswer}
-use Rattle.residuals.specs.Residuals.{part_frames, part_elements, Analysable, FoundIs, PartIs}
-
--- ---- residuals in a lent list
-
--- a copy, analysed
-pub found-is : (ps : List DecorrPass) (n : ℕ) (x copied v : List ℤ) (m : ℕ) (after : List DecorrPass)
-    → CopyIs x copied → record { refusal = m; passes = after; buffer = v } ≡ array_answer Analysis ps n copied
-    → FoundIs ps n x v after
-found-is ps n x copied v m after c e =
-    let g = e ∙ ap (array_answer Analysis ps n) c.copied in
-    record { fit = c.fit; found = ap (λ (a : Answer). a.buffer) g; passes-after = ap (λ (a : Answer). a.passes) g }
-
--- the residuals of a part, looked at
-pub part-is : (ps : List DecorrPass) (n : ℕ) (x v : List ℤ) (after : List DecorrPass) (b : Bool) → FoundIs ps n x v after
-    → b ≡ within residual_span v → PartIs ps n x (record { within = b; passes = after })
-part-is ps n x v after b f e = record { within-is = e ∙ ap spanned f.found; passes-after = f.passes-after }
+use Rattle.residuals.specs.Residuals.{part_frames, part_elements, Analysable, PartIs}
 
 -- ---- parts of a list
 
