@@ -1,2 +1,3 @@
 -- What other crates cite.
 pub mod ZeroLaws
+pub mod Zeroing

@@ -20,7 +20,7 @@ use words::coded::{Coded, read_word};
 
 // Where the reading loop stands between two turns, and the state of the words there. Of the bits read
 // `left_bits` were left's, the others right's.
-#[derive(Drop)]
+#[derive(Clone, Copy)]
 pub struct Turn {
     pub bits: usize,
     pub left_bits: usize,
