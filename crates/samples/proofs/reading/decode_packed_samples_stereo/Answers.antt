@@ -1,0 +1,56 @@
+-- `samples::reading::decode_packed_samples_stereo` meets its contract. The loop's invariant is
+-- `Loop`; a turn is a run or a sample.
+-- Assumes nothing.
+use borrow.Author.Rules.{rules}
+use native.Mathlib.Omega.{arith}
+use mathlib.Core.Path.{◌≡◌, ap}
+use lib.ListN.{length}
+use mir.Facts.{to_z-of_z}
+use mir.Syntax.{w32}
+use mir.Val.{SFits}
+use Rattle.word_state.proofs.StateLaws.{length_mapped}
+use Rattle.words.specs.Parts.{coded_word}
+use Rattle.samples.proofs.LoopLaws.{loop_start, loop_end, loop_on, loop_run, loop_sample, loop_stop}
+use Rattle.samples.proofs.reading.decode_packed_samples_stereo.Goals as goal
+
+pub loop-at-init : goal.loop-at-init
+loop-at-init c =
+    let l : length c.args.seeds ≡ 2 = search (rules, length_mapped) in
+    loop_start c.args.payload.now c.args.out.now c.args.seeds l
+
+pub after_run-at-requires-clause-on : goal.after_run-at-requires-clause-on
+after_run-at-requires-clause-on c =
+    let l = c.loop-at.invariant in
+    loop_on _ _ _ _ _ l _ c.loop-at-test.true c.word_at.ensures _ _ _ _ (ap (coded_word l.words.state) c.in-Run.is)
+
+pub after_sample-at-requires-clause-on : goal.after_sample-at-requires-clause-on
+after_sample-at-requires-clause-on c =
+    let l = c.loop-at.invariant in
+    loop_on _ _ _ _ _ l _ c.loop-at-test.true c.word_at.ensures _ _ _ _ (ap (coded_word l.words.state) c.in-Sample.is)
+
+pub loop-at-preserved-in-Run : goal.loop-at-preserved-in-Run
+loop-at-preserved-in-Run c =
+    loop_run _ _ _ _ _ c.loop-at.invariant _ c.loop-at-test.true c.word_at.ensures
+    _ _ _ _ c.in-Run.is c.after_run-at.ensures
+
+pub loop-at-preserved : goal.loop-at-preserved
+loop-at-preserved c =
+    let v = c.in-Sample.value in
+    let f : SFits w32 v = search rules in
+    let a = rw (to_z-of_z f) at c.after_sample-at.ensures in
+    loop_sample _ _ _ _ _ c.loop-at.invariant _ c.loop-at-test.true c.word_at.ensures
+    v _ _ _ _ _ _ c.in-Sample.is a
+
+pub returns-in-EndOfStream : goal.returns-in-EndOfStream
+returns-in-EndOfStream c =
+    let s = loop_stop _ _ _ _ _ c.loop-at.invariant _ c.loop-at-test.true c.word_at.ensures 4 in
+    rw c.answer.ensures (s (λ s. ap (coded_word s) c.in-EndOfStream.is))
+
+pub returns-in-Truncated : goal.returns-in-Truncated
+returns-in-Truncated c =
+    let s = loop_stop _ _ _ _ _ c.loop-at.invariant _ c.loop-at-test.true c.word_at.ensures 3 in
+    rw c.answer-in-Truncated.ensures (s (λ s. ap (coded_word s) c.in-Truncated.is))
+
+pub returns : goal.returns
+returns c =
+    rw c.answer-2.ensures (loop_end _ _ _ _ _ c.loop-at.invariant (omega arith))
