@@ -1,7 +1,7 @@
 -- Worked cases of the totals, from a fresh state whose medians are all 1.
 -- Assumes nothing.
 use mathlib.Core.Path.{◌≡◌, refl}
-use mathlib.Core.List.{List, [], ◌∷◌}
+use mathlib.Core.List.{[], ◌∷◌}
 use Prim.Native.Nat.{ℕ}
 use lib.Count.{count_leading_zeros}
 use Rattle.bits.specs.Bits.{low, num, bits_of, ones}

@@ -1,6 +1,6 @@
 -- Document 02, §8: the totals of a reading are those of the one-word entry after as many words.
 -- Assumes nothing.
-use mathlib.Core.Path.{◌≡◌, refl, sym, ap, ap₂, subst, ◌∙◌}
+use mathlib.Core.Path.{◌≡◌, refl, sym, ap, ap₂, ◌∙◌}
 use mathlib.Core.List.{List, [], ◌∷◌}
 use Prim.Native.Nat.{ℕ, zero, suc, ◌+◌, ◌*◌, ◌-◌, ◌≤◌}
 use native.Mathlib.Omega.{arith}
@@ -10,7 +10,7 @@ use Rattle.answers.specs.Limits.{max_payload_bytes}
 use Rattle.bits.specs.Bits.{bits_of}
 use Rattle.entropy.specs.Medians.{Medians}
 use Rattle.entropy.specs.Seed.{seed_medians}
-use Rattle.word_state.specs.State.{BitsRead, State, start, flip, side, with_bits, plus_bits, charged}
+use Rattle.word_state.specs.State.{BitsRead, State, start, flip, with_bits, plus_bits, charged}
 use Rattle.word_state.proofs.BitsLaws.{sum_added, within-place}
 use Rattle.words.specs.Word.{Word, given, refused, word}
 use Rattle.zones.specs.Report.{Report}
@@ -22,8 +22,8 @@ use Rattle.samples.specs.View.{ReadTold}
 use Rattle.samples.proofs.ToldBounds.{read_small, read_limits, read_words_lem}
 use Rattle.one_word.specs.View.{WordTold, one_word}
 use Rattle.one_word.proofs.OneLaws.{one_word_lem}
-use Rattle.stem_bits.specs.History.{History, fresh, further, Stand, after_words}
-use Rattle.stem_bits.specs.Stems.{SameTotals, ReadingTotals, ReadingAddsUp}
+use Rattle.stem_bits.specs.History.{History, fresh, further, after_words}
+use Rattle.stem_bits.specs.Stems.{ReadingTotals, ReadingAddsUp}
 
 -- both totals, each with what more words cost
 abbrev plus : BitsRead → List Cost → BitsRead

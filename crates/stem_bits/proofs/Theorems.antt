@@ -1,25 +1,22 @@
 -- Document 02, §8: the theorems of one word.
 -- Assumes nothing.
 use mathlib.Core.Path.{◌≡◌, refl, sym, ap, ap₂, subst, ◌∙◌}
-use mathlib.Core.Bool.{Bool}
-use mathlib.Core.List.{List, [], ◌∷◌}
+use mathlib.Core.List.{List, ◌∷◌}
 use Prim.Native.Nat.{ℕ, zero, suc, ◌+◌, ◌*◌, ◌-◌, ◌≤◌}
 use native.Mathlib.Omega.{arith}
 use lib.ListN.{length}
 use Rattle.answers.specs.Limits.{max_payload_bytes}
 use Rattle.bits.specs.Bits.{bits_of}
-use Rattle.entropy.specs.Medians.{Medians}
-use Rattle.word_state.specs.State.{BitsRead, SmallBits, State, side, plus_bits, charged}
+use Rattle.word_state.specs.State.{BitsRead, SmallBits, State, plus_bits, charged}
 use Rattle.word_state.proofs.BitsLaws.{sum_added}
-use Rattle.words.specs.Word.{given, word}
-use Rattle.readings.specs.Costs.{Cost, cost_at, left_cost, right_cost, by_stem}
+use Rattle.readings.specs.Costs.{Cost, left_cost, right_cost, by_stem}
 use Rattle.readings.proofs.LocalLaws.{word_on}
 use Rattle.readings.proofs.TotalLaws.{word_keeps}
 use Rattle.one_word.specs.View.{WordTold, one_word}
 use Rattle.one_word.proofs.OneLaws.{Accepted, one-accepted, refused_keeps}
 use Rattle.one_word.proofs.PlaceLaws.{Ends, inside, still, word-ends, few_bits, total_fits}
-use Rattle.stem_bits.specs.History.{History, fresh, further}
-use Rattle.stem_bits.specs.Stems.{TotalsStaySmall, AfterHistory, BitsByStem, RefusedKeeps}
+use Rattle.stem_bits.specs.History.{fresh, further}
+use Rattle.stem_bits.specs.Stems.{TotalsStaySmall, BitsByStem, RefusedKeeps}
 
 -- ---- an accepted word
 
