@@ -10,7 +10,8 @@ use Rattle.field_writing.proofs.code_value.Goals as goal
 
 -- so the odd bit stays within the word
 parity : (c : goal.Else-code-extras) →
-    (c.args.code + c.args.extras) % 2 * 2 ^ c.args.digits % 2 ^ 32 ≡ (c.args.code + c.args.extras) % 2 * 2 ^ c.args.digits
+    (c.args.code + c.args.extras) % 2 * 2 ^ c.args.digits % 2 ^ 32 ≡
+    (c.args.code + c.args.extras) % 2 * 2 ^ c.args.digits
 parity c = shl_exact 1 c.args.digits 32 (omega arith) (omega arith)
 
 pub returns-then-code-extras : goal.returns-then-code-extras
@@ -19,4 +20,5 @@ returns-then-code-extras c =
 
 pub returns-else-code-extras : goal.returns-else-code-extras
 returns-else-code-extras c =
-    rw (parity (search rules)) (long-num c.args.digits c.args.extras c.args.code c.if-code-extras.false c.requires.code)
+    rw (parity (search rules)) (long-num c.args.digits c.args.extras c.args.code c.if-code-extras.false
+    c.requires.code)

@@ -43,7 +43,8 @@ code_count-count-requires c = let u = parts (search rules) in omega arith
 -- the code's bits are those of the definition
 is_code : (c : goal.After-u32_to_u64-2) →
     let b = c.bit_length.result in
-    code_bits (b - 1 + 1) (2 * 2 ^ (b - 1) % 2 ^ 32 - c.args.last - 1) c.args.code ≡ code_field c.args.last c.args.code
+    code_bits (b - 1 + 1) (2 * 2 ^ (b - 1) % 2 ^ 32 - c.args.last - 1) c.args.code ≡ code_field c.args.last
+    c.args.code
 is_code c =
     let after-bit-length : goal.After-bit_length = search rules in
     let b = c.bit_length.result in
@@ -60,7 +61,8 @@ few c =
       code-long c.args.last c.args.code 28 (omega arith) (omega arith),
     )
 
-whole : (c : goal.After-u32_to_u64-2) → Joined (code_field c.args.last c.args.code) (low 1 c.args.sign) c.u32_to_u64.result
+whole : (c : goal.After-u32_to_u64-2) → Joined (code_field c.args.last c.args.code)
+    (low 1 c.args.sign) c.u32_to_u64.result
     c.code_count-count.result c.u32_to_u64-2.result
 whole c =
     let l : c.args.sign < 2 ^ 1 = omega arith in
@@ -69,7 +71,12 @@ whole c =
     (c.u32_to_u64.ensures ∙ c.code_value-value.ensures ∙ ap num (is_code (search rules)))
     (c.code_count-count.ensures ∙ ap length (is_code (search rules)))
     (c.u32_to_u64-2.ensures ∙ sym (num-low 1 c.args.sign ∙ mod-eq_of_lt l))
-    (omega (arith, length-low 1 c.args.sign, code-long c.args.last c.args.code 28 (omega arith) (omega arith)))
+    (omega (
+      arith,
+      length-low 1 c.args.sign,
+      code-long c.args.last c.args.code 28 (omega arith)
+          (omega arith),
+    ))
 
 pub overflow_shl-result : goal.overflow_shl-result
 overflow_shl-result c = let j = whole (search rules) in omega (arith, few (search rules))
@@ -93,7 +100,8 @@ pub code_value-value-requires-clause-digits : goal.code_value-value-requires-cla
 code_value-value-requires-clause-digits c = let u = parts (search rules) in omega arith
 
 pub code_value-value-requires-clause-extras : goal.code_value-value-requires-clause-extras
-code_value-value-requires-clause-extras c = let u = parts (search rules) in rw (shifted (search rules)) u.extras
+code_value-value-requires-clause-extras c = let u = parts (search rules) in rw
+    (shifted (search rules)) u.extras
 
 pub code_value-value-requires-clause-code : goal.code_value-value-requires-clause-code
 code_value-value-requires-clause-code c = let u = parts (search rules) in rw (shifted (search rules)) u.sum

@@ -17,10 +17,12 @@ one : (n : ℕ) → n < 16 → 1 * 2 ^ n % 2 ^ 64 ≡ 2 ^ n
 one n h = shl_one n 64 (omega arith)
 
 -- ones and a zero below, the word's other bits above
-whole : (c : Start) → Joined (unary_field c.args.ones) (low c.args.rest.count c.args.rest.value) (1 * 2 ^ c.args.ones % 2 ^ 64 - 1)
+whole : (c : Start) → Joined (unary_field c.args.ones) (low c.args.rest.count c.args.rest.value)
+    (1 * 2 ^ c.args.ones % 2 ^ 64 - 1)
     (c.args.ones + 1) c.args.rest.value
 whole c =
-    joined (unary_field c.args.ones) (low c.args.rest.count c.args.rest.value) (1 * 2 ^ c.args.ones % 2 ^ 64 - 1)
+    joined (unary_field c.args.ones) (low c.args.rest.count c.args.rest.value)
+    (1 * 2 ^ c.args.ones % 2 ^ 64 - 1)
     (c.args.ones + 1) c.args.rest.value
     (rw (one c.args.ones (omega arith)) (unary-num c.args.ones))
     (sym (length-unary c.args.ones))

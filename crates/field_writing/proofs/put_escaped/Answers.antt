@@ -41,10 +41,18 @@ put_run-requires-clause-place c =
 pub returns-clause-buffer : goal.returns-clause-buffer
 returns-clause-buffer c =
     let e = prefix-escaped c.args.prefix (omega arith) in
-    c.put_run.ensures.buffer ∙ put_two c.args.out.now _ c.args.at _ (unary_field 16) (run_field (c.args.prefix - 16))
-    c.put_unary-next.ensures.buffer c.put_unary-next.ensures.next (omega arith) ∙ ap (put c.args.out.now c.args.at) (sym e)
+    c.put_run.ensures.buffer ∙ put_two c.args.out.now _ c.args.at _ (unary_field 16)
+    (run_field (c.args.prefix - 16))
+    c.put_unary-next.ensures.buffer c.put_unary-next.ensures.next (omega arith) ∙ ap
+    (put c.args.out.now c.args.at) (sym e)
 
 pub returns-clause-place : goal.returns-clause-place
 returns-clause-place c =
     let e = prefix-escaped c.args.prefix (omega arith) in
-    omega (arith, c.put_unary-next.ensures.next, c.put_run.ensures.place, length_two (unary_field 16) (run_field (c.args.prefix - 16)) _ e)
+    omega (
+      arith,
+      c.put_unary-next.ensures.next,
+      c.put_run.ensures.place,
+      length_two (unary_field 16)
+          (run_field (c.args.prefix - 16)) _ e,
+    )

@@ -38,7 +38,8 @@ returns-then-run-lt2-clause-place c = rw (run_short c.args.run (omega arith)) c.
 pub put_unary-next-requires-clause-room : goal.put_unary-next-requires-clause-room
 put_unary-next-requires-clause-room c =
     let r : RunParts c.args.run c.bit_length-length.result =
-    run_parts _ _ c.if-run-lt2.false (omega arith) c.bit_length-length.ensures in omega (arith, length-unary c.bit_length-length.result)
+    run_parts _ _ c.if-run-lt2.false (omega arith) c.bit_length-length.ensures in omega
+    (arith, length-unary c.bit_length-length.result)
 
 pub put_unary-next-requires-clause-count : goal.put_unary-next-requires-clause-count
 put_unary-next-requires-clause-count c = let r : RunParts c.args.run c.bit_length-length.result =
@@ -71,10 +72,12 @@ returns-clause-buffer c =
     let r : RunParts c.args.run c.bit_length-length.result =
     run_parts _ _ c.if-run-lt2.false (omega arith) c.bit_length-length.ensures in
     c.put_bits.ensures
-    ∙ put_two c.args.out.now _ c.args.at _ (unary_field b) (low (b - 1) c.args.run) c.put_unary-next.ensures.buffer
+    ∙ put_two c.args.out.now _ c.args.at _ (unary_field b)
+    (low (b - 1) c.args.run) c.put_unary-next.ensures.buffer
     c.put_unary-next.ensures.next (omega arith)
     ∙ ap (put c.args.out.now c.args.at) (sym r.parts)
 
 pub returns-clause-place : goal.returns-clause-place
 returns-clause-place c = let r : RunParts c.args.run c.bit_length-length.result =
-    run_parts _ _ c.if-run-lt2.false (omega arith) c.bit_length-length.ensures in omega (arith, c.put_unary-next.ensures.next)
+    run_parts _ _ c.if-run-lt2.false (omega arith) c.bit_length-length.ensures in omega
+    (arith, c.put_unary-next.ensures.next)

@@ -9,6 +9,7 @@ use Rattle.median_slots.proofs.lay_counts.Goals as goal
 
 pub returns : goal.returns
 returns c =
-    overlay_two c.args.slots.now _ _ 0 1 (c.args.bits ∷ []) (pair_slots (pair_of c.args.medians)) (omega arith)
+    overlay_two c.args.slots.now _ _ 0 1 (c.args.bits ∷ []) (pair_slots (pair_of c.args.medians))
+    (omega arith)
     (omega arith) c.lay_words.ensures
     c.lay_medians.ensures

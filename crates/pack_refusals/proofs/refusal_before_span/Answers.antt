@@ -17,16 +17,19 @@ returns-then-elements-frames c = before-list _ _ _ _ c.if-frames-gt-MAX_FRAMES.f
 
 pub returns-in_default : goal.returns-in_default
 returns-in_default c =
-    before-seeds _ _ _ _ c.if-frames-gt-MAX_FRAMES.false c.if-elements-frames.false _ _ c.in_default.is c.stereo_pair_from_entropy-seed.ensures.outcome
+    before-seeds _ _ _ _ c.if-frames-gt-MAX_FRAMES.false c.if-elements-frames.false _ _ c.in_default.is
+    c.stereo_pair_from_entropy-seed.ensures.outcome
 
 -- the entropy payload is accepted
-seeded : {o : Outcome} (entropy : List ℕ) → o ≡ Outcome.Accepted → outcome_number o ≡ seed_refusal entropy → 0 ≡ seed_refusal entropy
+seeded : {o : Outcome} (entropy : List ℕ) → o ≡ Outcome.Accepted → outcome_number o ≡ seed_refusal entropy
+    → 0 ≡ seed_refusal entropy
 seeded entropy a e = sym (ap outcome_number a) ∙ e
 
 pub returns-then-room-frames : goal.returns-then-room-frames
 returns-then-room-frames c =
     before-room _ _ _ _ c.if-frames-gt-MAX_FRAMES.false c.if-elements-frames.false
-    (seeded c.args.entropy.now c.in-Accepted.is c.stereo_pair_from_entropy-seed.ensures.outcome) c.if-room-frames.true
+    (seeded c.args.entropy.now c.in-Accepted.is c.stereo_pair_from_entropy-seed.ensures.outcome)
+    c.if-room-frames.true
 
 pub returns : goal.returns
 returns c =

@@ -13,8 +13,16 @@ returns-then-answer-lt7 c =
 
 pub returns : goal.returns
 returns c =
-    pack-laid c.args.residuals.now c.args.entropy.now c.args.frames c.args.out.now c.args.answer.now c.encode_packed_samples_stereo_from_entropy-packed.result _ _ _ c.encode_packed_samples_stereo_from_entropy-packed.ensures c.if-answer-lt7.false c.outcome_number.ensures c.lay_counts.ensures
+    pack-laid c.args.residuals.now c.args.entropy.now c.args.frames c.args.out.now c.args.answer.now
+    c.encode_packed_samples_stereo_from_entropy-packed.result _ _ _
+    c.encode_packed_samples_stereo_from_entropy-packed.ensures c.if-answer-lt7.false
+    c.outcome_number.ensures c.lay_counts.ensures
 
 pub lay_counts-requires-clause-bits : goal.lay_counts-requires-clause-bits
 lay_counts-requires-clause-bits c =
-    omega (arith, pack-fits c.args.residuals.now c.args.entropy.now c.args.frames c.args.out.now c.encode_packed_samples_stereo_from_entropy-packed.result _ c.encode_packed_samples_stereo_from_entropy-packed.ensures)
+    omega (
+      arith,
+      pack-fits c.args.residuals.now c.args.entropy.now c.args.frames c.args.out.now
+          c.encode_packed_samples_stereo_from_entropy-packed.result _
+          c.encode_packed_samples_stereo_from_entropy-packed.ensures,
+    )

@@ -20,7 +20,8 @@ few i r vs h e = omega (arith, zeros_le (drop i vs), length-drop i vs)
 
 pub overflow_cast-run : goal.overflow_cast-run
 overflow_cast-run c =
-    let k = few c.args.i _ c.args.residuals.now c.requires.limit c.zeros_from-run.ensures in record { fits = omega arith }
+    let k = few c.args.i _ c.args.residuals.now c.requires.limit c.zeros_from-run.ensures in record
+    { fits = omega arith }
 
 pub put_run-place-requires-clause-room : goal.put_run-place-requires-clause-room
 put_run-place-requires-clause-room c =

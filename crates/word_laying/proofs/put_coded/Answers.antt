@@ -29,7 +29,8 @@ pub returns : goal.returns
 returns c =
     rw c.if-bare.false
     (put-long c.args.out.now _ _ c.args.at c.args.prefix c.put_escaped-next.result c.args.coded.count
-    c.args.coded.value (omega arith) (c.put_escaped-next.ensures.buffer, c.put_escaped-next.ensures.place) c.put_bits.ensures)
+    c.args.coded.value (omega arith) (c.put_escaped-next.ensures.buffer, c.put_escaped-next.ensures.place)
+    c.put_bits.ensures)
 
 pub put_escaped-next-requires-clause-room : goal.put_escaped-next-requires-clause-room
 put_escaped-next-requires-clause-room c =
@@ -37,15 +38,29 @@ put_escaped-next-requires-clause-room c =
 
 pub put_bits-requires-clause-room : goal.put_bits-requires-clause-room
 put_bits-requires-clause-room c =
-    omega (arith, c.requires.room, c.put_escaped-next.ensures.place, c.put_escaped-next.auto.out, prefix-long c.args.prefix (omega arith))
+    omega (
+      arith,
+      c.requires.room,
+      c.put_escaped-next.ensures.place,
+      c.put_escaped-next.auto.out,
+      prefix-long c.args.prefix (omega arith),
+    )
 
 pub put_bits-requires-clause-place : goal.put_bits-requires-clause-place
 put_bits-requires-clause-place c =
-    omega (arith, c.requires.room, c.put_escaped-next.ensures.place, c.put_escaped-next.auto.out, prefix-long c.args.prefix (omega arith))
+    omega (
+      arith,
+      c.requires.room,
+      c.put_escaped-next.ensures.place,
+      c.put_escaped-next.auto.out,
+      prefix-long c.args.prefix (omega arith),
+    )
 
-pub put_gathered-requires-then-prefix-lt16-clause-room : goal.put_gathered-requires-then-prefix-lt16-clause-room
+pub put_gathered-requires-then-prefix-lt16-clause-room :
+    goal.put_gathered-requires-then-prefix-lt16-clause-room
 put_gathered-requires-then-prefix-lt16-clause-room c =
     omega (arith, c.requires.room, ones-size _ _ _ _ c.gather_ones-word.ensures)
 
-pub put_gathered-requires-then-prefix-lt16-clause-value : goal.put_gathered-requires-then-prefix-lt16-clause-value
+pub put_gathered-requires-then-prefix-lt16-clause-value :
+    goal.put_gathered-requires-then-prefix-lt16-clause-value
 put_gathered-requires-then-prefix-lt16-clause-value c = (known _ _ c.gather_ones-word.ensures).below

@@ -29,26 +29,32 @@ fits : (m : Medians) (v : ℤ) (n : ℕ) (r : Located) → Small m × (mag v < r
 fits m v n r s f e l = located_fits m n r s.0 (rw (mag-of v n f e) s.1) l
 
 pub prefix_of-requires : goal.prefix_of-requires
-prefix_of-requires c = (fits _ _ _ _ c.requires.span c.ranges.residual c.magnitude.ensures c.locate-located.ensures).few
+prefix_of-requires c = (fits _ _ _ _ c.requires.span c.ranges.residual c.magnitude.ensures
+    c.locate-located.ensures).few
 
 pub gather_code-coded-requires-clause-code : goal.gather_code-coded-requires-clause-code
-gather_code-coded-requires-clause-code c = (fits _ _ _ _ c.requires.span c.ranges.residual c.magnitude.ensures c.locate-located.ensures).within
+gather_code-coded-requires-clause-code c = (fits _ _ _ _ c.requires.span c.ranges.residual
+    c.magnitude.ensures c.locate-located.ensures).within
 
 pub gather_code-coded-requires-clause-last : goal.gather_code-coded-requires-clause-last
-gather_code-coded-requires-clause-last c = (fits _ _ _ _ c.requires.span c.ranges.residual c.magnitude.ensures c.locate-located.ensures).wide
+gather_code-coded-requires-clause-last c = (fits _ _ _ _ c.requires.span c.ranges.residual
+    c.magnitude.ensures c.locate-located.ensures).wide
 
 pub put_coded-place-requires-clause-room : goal.put_coded-place-requires-clause-room
 put_coded-place-requires-clause-room c =
-    let d = coded _ _ _ _ (fits _ _ _ _ c.requires.span c.ranges.residual c.magnitude.ensures c.locate-located.ensures).wide c.gather_code-coded.ensures in
+    let d = coded _ _ _ _ (fits _ _ _ _ c.requires.span c.ranges.residual c.magnitude.ensures
+    c.locate-located.ensures).wide c.gather_code-coded.ensures in
     omega (arith, c.requires.room)
 
 pub put_coded-place-requires-clause-value : goal.put_coded-place-requires-clause-value
 put_coded-place-requires-clause-value c =
-    (coded _ _ _ _ (fits _ _ _ _ c.requires.span c.ranges.residual c.magnitude.ensures c.locate-located.ensures).wide c.gather_code-coded.ensures).below
+    (coded _ _ _ _ (fits _ _ _ _ c.requires.span c.ranges.residual c.magnitude.ensures
+    c.locate-located.ensures).wide c.gather_code-coded.ensures).below
 
 pub returns : goal.returns
 returns c =
-    word-put c.args.out.now _ c.args.at (medians_of c.args.medians) c.args.residual c.args.last_zero c.args.last_one
+    word-put c.args.out.now _ c.args.at (medians_of c.args.medians) c.args.residual c.args.last_zero
+    c.args.last_one
     c.args.more c.magnitude.result c.sign_bit.result _ _ c.locate-located.result _
     (mag-of _ _ c.ranges.residual c.magnitude.ensures) c.locate-located.ensures
     (sign-of _ _ c.ranges.residual c.sign_bit.ensures) c.gather_code-coded.ensures

@@ -9,7 +9,9 @@ use Rattle.packing.proofs.LoopLaws.{Loop}
 use Rattle.word_packing.proofs.pack_words.Given as goal
 
 abbrev pub invariant-loop-i : goal.invariant-loop-i
-invariant-loop-i l = Loop l.initial.out l.residuals (start (pair_of l.initial.medians).left (pair_of l.initial.medians).right) l.out l.medians l.bits l.last_zero l.last_one l.run_break l.i
+invariant-loop-i l = Loop l.initial.out l.residuals
+    (start (pair_of l.initial.medians).left (pair_of l.initial.medians).right) l.out l.medians l.bits
+    l.last_zero l.last_one l.run_break l.i
 
 abbrev pub decreases-loop-i : goal.decreases-loop-i
 decreases-loop-i l = length l.residuals - l.i
