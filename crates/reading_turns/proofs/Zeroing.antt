@@ -26,4 +26,5 @@ pub record Zeroing (before : List ℤ) (first owed end : ℕ) (out : List ℤ) (
 pub same : (before : List ℤ) (first owed end : ℕ) (out : List ℤ) (i : ℕ) → Zeroing before first owed end out i
     → length out ≡ length before
 same before first owed end out i l =
-    ap length l.list-is ∙ zeroed-length before first (i - first) (omega (arith, l.from, l.here, l.ends.within))
+    ap length l.list-is ∙ zeroed-length before first (i - first)
+    (omega (arith, l.from, l.here, l.ends.within))

@@ -32,7 +32,8 @@ parts v M b w =
       short = mod-lt v (pow_pos (b - 1));
     }
 
-len : (c : goal.After-bit_length-short_width) → let a = c.args in Parts c.args.v c.args.last c.bit_length-short_width.result
+len : (c : goal.After-bit_length-short_width)
+    → let a = c.args in Parts c.args.v c.args.last c.bit_length-short_width.result
 len c =
     let a = c.args in
     parts c.args.v c.args.last c.bit_length-short_width.result

@@ -28,7 +28,11 @@ returns-in_default-get_bit c =
 
 pub overflow_mul-result : goal.overflow_mul-result
 overflow_mul-result c =
-    omega (arith, bits_lt _ _ (c.args.width - 1) _ _ 30 (sym c.get_bits.ensures ∙ c.in-Value.is) (omega arith))
+    omega (
+      arith,
+      bits_lt _ _ (c.args.width - 1) _ _ 30 (sym c.get_bits.ensures ∙ c.in-Value.is)
+          (omega arith),
+    )
 
 pub overflow_add-result : goal.overflow_add-result
 overflow_add-result c =
@@ -41,4 +45,9 @@ overflow_add-result c =
 pub returns : goal.returns
 unfolding code_of
 returns c =
-    rw (sym c.get_bits.ensures ∙ c.in-Value.is, le-ltb _ _ c.if-short-extras.false, sym c.get_bit.ensures ∙ c.in-Value-get_bit.is)
+    rw (
+      sym c.get_bits.ensures ∙ c.in-Value.is,
+      le-ltb _ _ c.if-short-extras.false,
+      sym c.get_bit.ensures
+          ∙ c.in-Value-get_bit.is,
+    )

@@ -15,20 +15,24 @@ unfolding truncated_binary
 returns-then-last-eq0 c = rw (eq-eqb _ _ c.if-last-eq0.true)
 
 -- what is known of the bit length
-len : (m b : ℕ) → b ≡ bit_length m → (m ≡ 0 → ⊥) → m < 2147483648 → Long m b × (b ≤ 31) × (1 * 2 ^ b % 2 ^ 32 ≡ 2 ^ b)
+len : (m b : ℕ) → b ≡ bit_length m → (m ≡ 0 → ⊥) → m < 2147483648
+    → Long m b × (b ≤ 31) × (1 * 2 ^ b % 2 ^ 32 ≡ 2 ^ b)
 len m b e n f =
     let l : Long m b = rw e (long m (omega arith) (omega arith)) in
     let h : b ≤ 31 = long_le m b 31 l f in
     (l, h, shl_one b 32 (omega arith))
 
 pub overflow_shl-width : goal.overflow_shl-width
-overflow_shl-width c = let l = len _ _ c.bit_length-width.ensures c.if-last-eq0.false c.requires.interval in omega arith
+overflow_shl-width c =
+    let l = len _ _ c.bit_length-width.ensures c.if-last-eq0.false c.requires.interval in omega arith
 
 pub overflow_sub-width : goal.overflow_sub-width
-overflow_sub-width c = let l = len _ _ c.bit_length-width.ensures c.if-last-eq0.false c.requires.interval in omega arith
+overflow_sub-width c =
+    let l = len _ _ c.bit_length-width.ensures c.if-last-eq0.false c.requires.interval in omega arith
 
 pub overflow_sub-width-2 : goal.overflow_sub-width-2
-overflow_sub-width-2 c = let l = len _ _ c.bit_length-width.ensures c.if-last-eq0.false c.requires.interval in omega arith
+overflow_sub-width-2 c =
+    let l = len _ _ c.bit_length-width.ensures c.if-last-eq0.false c.requires.interval in omega arith
 
 pub returns : goal.returns
 unfolding truncated_binary
@@ -38,4 +42,5 @@ returns c =
     c.read_code.ensures
 
 pub read_code-requires-clause-width : goal.read_code-requires-clause-width
-read_code-requires-clause-width c = let l = len _ _ c.bit_length-width.ensures c.if-last-eq0.false c.requires.interval in omega arith
+read_code-requires-clause-width c =
+    let l = len _ _ c.bit_length-width.ensures c.if-last-eq0.false c.requires.interval in omega arith

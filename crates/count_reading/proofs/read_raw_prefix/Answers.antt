@@ -32,7 +32,8 @@ returns-in_default-get_unary c =
     )
 
 -- past both counts
-past : (bits : List Bool) (p : ℕ) {first behind second digits : ℕ} → unary bits p ≡ Value first behind → 16 ≤ first
+past : (bits : List Bool) (p : ℕ) {first behind second digits : ℕ} → unary bits p ≡ Value first behind
+    → 16 ≤ first
     → unary bits behind ≡ Value second digits → prefix bits p ≡ escaped bits second digits
 unfolding prefix
 past bits p e h f = rw (e, le-ltb _ _ h, f)
@@ -41,7 +42,8 @@ pub returns-then-second-eq33 : goal.returns-then-second-eq33
 unfolding escaped
 returns-then-second-eq33 c =
     rw (
-      past _ _ (sym c.get_unary.ensures ∙ c.in-Value.is) c.if-first-lt16.false (sym c.get_unary-2.ensures ∙ c.in-Value-get_unary.is),
+      past _ _ (sym c.get_unary.ensures ∙ c.in-Value.is) c.if-first-lt16.false
+          (sym c.get_unary-2.ensures ∙ c.in-Value-get_unary.is),
       eq-eqb c.in-Value-get_unary.second 33 (omega arith),
     )
 
@@ -50,7 +52,8 @@ unfolding escaped
 returns-then-second-gt33 c =
     let n = c.in-Value-get_unary.second in
     rw (
-      past _ _ (sym c.get_unary.ensures ∙ c.in-Value.is) c.if-first-lt16.false (sym c.get_unary-2.ensures ∙ c.in-Value-get_unary.is),
+      past _ _ (sym c.get_unary.ensures ∙ c.in-Value.is) c.if-first-lt16.false
+          (sym c.get_unary-2.ensures ∙ c.in-Value-get_unary.is),
       ne_eqb n 33 (omega arith),
       lt-ltb 33 n (omega arith),
     )
@@ -60,14 +63,16 @@ unfolding escaped
 returns-in_default-read_counted c =
     let n = c.in-Value-get_unary.second in
     rw (
-      past _ _ (sym c.get_unary.ensures ∙ c.in-Value.is) c.if-first-lt16.false (sym c.get_unary-2.ensures ∙ c.in-Value-get_unary.is),
+      past _ _ (sym c.get_unary.ensures ∙ c.in-Value.is) c.if-first-lt16.false
+          (sym c.get_unary-2.ensures ∙ c.in-Value-get_unary.is),
       ne_eqb n 33 (omega arith),
       le-ltb 33 n (omega arith),
       sym c.read_counted.ensures ∙ c.in_default-read_counted.is,
     )
 
 -- past the number behind the second count
-third : (bits : List Bool) (p second digits : ℕ) {rest next : ℕ} → prefix bits p ≡ escaped bits second digits → (second ≡ 33 → ⊥) → second ≤ 33
+third : (bits : List Bool) (p second digits : ℕ) {rest next : ℕ}
+    → prefix bits p ≡ escaped bits second digits → (second ≡ 33 → ⊥) → second ≤ 33
     → counted bits digits second ≡ Value rest next
     → prefix bits p ≡ cond (leb (16 + rest) 4294967295) (Prefix.Value (16 + rest) next) Prefix.Truncated
 unfolding escaped
@@ -75,16 +80,20 @@ third bits p second digits e h k f = rw (e, ne_eqb _ _ h, le-ltb _ _ k, f)
 
 pub returns-then-rest-gt4294967279 : goal.returns-then-rest-gt4294967279
 returns-then-rest-gt4294967279 c =
-    let e = past _ _ (sym c.get_unary.ensures ∙ c.in-Value.is) c.if-first-lt16.false (sym c.get_unary-2.ensures ∙ c.in-Value-get_unary.is) in
+    let e = past _ _ (sym c.get_unary.ensures ∙ c.in-Value.is) c.if-first-lt16.false
+    (sym c.get_unary-2.ensures ∙ c.in-Value-get_unary.is) in
     rw (
-      third _ _ c.in-Value-get_unary.second _ e (omega arith) (omega arith) (sym c.read_counted.ensures ∙ c.in-Value-read_counted.is),
+      third _ _ c.in-Value-get_unary.second _ e (omega arith) (omega arith)
+          (sym c.read_counted.ensures ∙ c.in-Value-read_counted.is),
       lt-leb (16 + c.in-Value-read_counted.rest) 4294967295 (omega arith),
     )
 
 pub returns : goal.returns
 returns c =
-    let e = past _ _ (sym c.get_unary.ensures ∙ c.in-Value.is) c.if-first-lt16.false (sym c.get_unary-2.ensures ∙ c.in-Value-get_unary.is) in
+    let e = past _ _ (sym c.get_unary.ensures ∙ c.in-Value.is) c.if-first-lt16.false
+    (sym c.get_unary-2.ensures ∙ c.in-Value-get_unary.is) in
     rw (
-      third _ _ c.in-Value-get_unary.second _ e (omega arith) (omega arith) (sym c.read_counted.ensures ∙ c.in-Value-read_counted.is),
+      third _ _ c.in-Value-get_unary.second _ e (omega arith) (omega arith)
+          (sym c.read_counted.ensures ∙ c.in-Value-read_counted.is),
       le-leb (16 + c.in-Value-read_counted.rest) 4294967295 (omega arith),
     )

@@ -15,7 +15,8 @@ returns-then-is_mono c =
     let l = c.read_median_set-left in
     let b = c.both_sets.ensures in
     let h = sym c.is_mono.ensures ∙ c.if-is_mono.true in
-    let all = mono-answer c.args.payload.now l.result h l.ensures.outcome l.ensures.medians b.outcome b.info in
+    let all = mono-answer c.args.payload.now l.result h l.ensures.outcome l.ensures.medians b.outcome
+    b.info in
     record { outcome = all.0; info = all.1 }
 
 pub returns-then-payload-eq12 : goal.returns-then-payload-eq12

@@ -5,7 +5,8 @@ use Rattle.logpack.proofs.+expand.Goals as goal
 
 pub returns-then-word-lt0 : goal.returns-then-word-lt0
 returns-then-word-lt0 t c =
-    negated-raw c.expand.ensures c.wrapping_neg.ensures (negated c.args.word c.ranges.word c.requires c.if-word-lt0.true)
+    negated-raw c.expand.ensures c.wrapping_neg.ensures
+    (negated c.args.word c.ranges.word c.requires c.if-word-lt0.true)
 
 pub returns : goal.returns
 returns t c = plain-raw c.args.word c.expand_magnitude.ensures c.ranges.word c.if-word-lt0.false

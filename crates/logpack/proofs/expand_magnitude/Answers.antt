@@ -10,10 +10,14 @@ use borrow.Author.Rules.{rules}
 use Rattle.logpack.proofs.expand_magnitude.Goals as goal
 
 pub overflow_cast-result : goal.overflow_cast-result
-overflow_cast-result c = rw c.mantissa.ensures (record { sfits = omega (arith, shrunk_lt c.args.word (9 - c.args.word / 256)) })
+overflow_cast-result c =
+    rw c.mantissa.ensures (record { sfits = omega (arith, shrunk_lt c.args.word (9 - c.args.word / 256)) })
 
 pub returns-then-exponent-le9 : goal.returns-then-exponent-le9
-returns-then-exponent-le9 c = rw (c.mantissa.ensures, magnitude-right c.args.word (search rules)) (to_z_pos w32 _ (omega (arith, shrunk_lt c.args.word (9 - c.args.word / 256))))
+returns-then-exponent-le9 c =
+    rw (c.mantissa.ensures, magnitude-right c.args.word (search rules))
+    (to_z_pos w32 _ (omega (arith, shrunk_lt c.args.word (9 - c.args.word / 256))))
 
 pub returns-else-exponent-le9 : goal.returns-else-exponent-le9
-returns-else-exponent-le9 c = left-raw _ _ _ c.mantissa-else-exponent-le9.ensures c.narrow.ensures (search rules)
+returns-else-exponent-le9 c =
+    left-raw _ _ _ c.mantissa-else-exponent-le9.ensures c.narrow.ensures (search rules)

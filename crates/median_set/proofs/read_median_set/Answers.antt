@@ -8,4 +8,5 @@ pub returns-clause-outcome : goal.returns-clause-outcome
 returns-clause-outcome c =
     set-refused c.args.set.now
     c.expand_log_word-first.ensures.outcome
-    c.expand_log_word-second.ensures.outcome c.expand_log_word-third.ensures.outcome c.or_else.ensures c.or_else-2.ensures
+    c.expand_log_word-second.ensures.outcome c.expand_log_word-third.ensures.outcome c.or_else.ensures
+    c.or_else-2.ensures

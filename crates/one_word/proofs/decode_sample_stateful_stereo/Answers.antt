@@ -36,14 +36,16 @@ returns-then-payload-gt-MAX_PAYLOAD_BYTES c =
 pub returns-then-state-bits_exceed : goal.returns-then-state-bits_exceed
 returns-then-state-bits_exceed c =
     let test = rw c.bits_exceed.ensures.exceeds at c.if-state-bits_exceed.true in
-    c.refused-then-state-bits_exceed.ensures ∙ one_state c.args.payload.now c.args.place (state_of c.args.state) (omega arith) test
+    c.refused-then-state-bits_exceed.ensures ∙ one_state c.args.payload.now c.args.place
+    (state_of c.args.state) (omega arith) test
 
 -- behind the test of the state the channel is one of two, and the totals do not exceed the place
 record Passed (s : State) (p : ℕ) : Type 0 where
   channel : s.channel ≤ 1
   within : exceeds s.bits_read p ≡ false
 
-passed : (s : State) (p : ℕ) {x : Bool} → x ≡ exceeds s.bits_read p → (ltb 1 s.channel || x) ≡ false → Passed s p
+passed : (s : State) (p : ℕ) {x : Bool} → x ≡ exceeds s.bits_read p → (ltb 1 s.channel || x) ≡ false
+    → Passed s p
 passed s p e f =
     let t = neither (ltb 1 s.channel) (exceeds s.bits_read p) (rw e at f) in
     record { channel = omega (arith, ltb-false 1 s.channel t.0); within = t.1 }
@@ -81,9 +83,11 @@ charged-totals-requires-clause-fits c =
     rw c.bits_taken.ensures fits
 
 -- what is told of a word that was read, with the totals after it, is the entry's answer
-told : (payload : List ℕ) (p : ℕ) (s : State) (b : BitsRead) (n : ℕ) (r x : Coded) → r ≡ x → n ≡ bits_taken p r
+told : (payload : List ℕ) (p : ℕ) (s : State) (b : BitsRead) (n : ℕ) (r x : Coded) → r ≡ x
+    → n ≡ bits_taken p r
     → b ≡ plus_bits s.channel n s.bits_read → length payload ≤ max_payload_bytes → Passed s p
-    → coded_word s r ≡ word (bits_of payload) p s → tell_word p s (coded_word (with_bits b s) x) ≡ one_word payload p s
+    → coded_word s r ≡ word (bits_of payload) p s → tell_word p s
+    (coded_word (with_bits b s) x) ≡ one_word payload p s
 told payload p s b n r x f g h few t e =
     rw (← f, h, g)
     (ap (tell_word p s) (charged-before p s r) ∙ one_word_lem payload p s _ few t.channel t.within e)
@@ -98,7 +102,8 @@ returns-in-Run c =
     c.zero_run_eligible-run.ensures c.read_word-word.ensures in
     c.zero-in-Run.ensures
     ∙ ap (λ (t : State). tell_word c.args.place s (given (pos 0) c.in-Run.next t none)) c.in_run.ensures
-    ∙ told c.args.payload.now c.args.place s _ _ _ _ c.in-Run.is c.bits_taken.ensures c.charged-totals.ensures (omega arith) x r
+    ∙ told c.args.payload.now c.args.place s _ _ _ _ c.in-Run.is c.bits_taken.ensures
+    c.charged-totals.ensures (omega arith) x r
 
 pub returns-in-Sample : goal.returns-in-Sample
 returns-in-Sample c =
@@ -111,8 +116,10 @@ returns-in-Sample c =
     let w = c.in-Sample in
     let f : SFits w32 c.in-Sample.sample = search rules in
     rw (to_z-of_z f) at c.given.ensures
-    ∙ ap (λ (t : State). tell_word c.args.place s (given w.sample w.next t (zone_of w.ones_count))) c.adapted.ensures
-    ∙ told c.args.payload.now c.args.place s _ _ _ _ w.is c.bits_taken.ensures c.charged-totals.ensures (omega arith) x r
+    ∙ ap (λ (t : State). tell_word c.args.place s (given w.sample w.next t (zone_of w.ones_count)))
+    c.adapted.ensures
+    ∙ told c.args.payload.now c.args.place s _ _ _ _ w.is c.bits_taken.ensures c.charged-totals.ensures
+    (omega arith) x r
 
 pub returns-in-EndOfStream : goal.returns-in-EndOfStream
 returns-in-EndOfStream c =
@@ -123,7 +130,8 @@ returns-in-EndOfStream c =
     word_read c.args.payload.now c.args.place c.args.state _ _ x.channel (omega arith) two
     c.zero_run_eligible-run.ensures c.read_word-word.ensures in
     c.refused-in-EndOfStream.ensures
-    ∙ told c.args.payload.now c.args.place s _ _ _ _ c.in-EndOfStream.is c.bits_taken.ensures c.charged-totals.ensures (omega arith) x r
+    ∙ told c.args.payload.now c.args.place s _ _ _ _ c.in-EndOfStream.is c.bits_taken.ensures
+    c.charged-totals.ensures (omega arith) x r
 
 pub returns-in-Truncated : goal.returns-in-Truncated
 returns-in-Truncated c =
@@ -134,4 +142,5 @@ returns-in-Truncated c =
     word_read c.args.payload.now c.args.place c.args.state _ _ x.channel (omega arith) two
     c.zero_run_eligible-run.ensures c.read_word-word.ensures in
     c.refused-in-Truncated.ensures
-    ∙ told c.args.payload.now c.args.place s _ _ _ _ c.in-Truncated.is c.bits_taken.ensures c.charged-totals.ensures (omega arith) x r
+    ∙ told c.args.payload.now c.args.place s _ _ _ _ c.in-Truncated.is c.bits_taken.ensures
+    c.charged-totals.ensures (omega arith) x r

@@ -8,4 +8,5 @@ use Rattle.short_steps.proofs.left_step.Goals as goal
 pub returns : goal.returns
 returns c =
     let t = c.left_word-word.ensures.word (not-false _ c.if-not-word.false) in
-    left_step c.args.payload.now c.args.out.now _ c.args.from c.args.w (omega arith) (omega arith) c.requires.ready _ _ c.requires.channel t c.stepped.ensures
+    left_step c.args.payload.now c.args.out.now _ c.args.from c.args.w (omega arith)
+    (omega arith) c.requires.ready _ _ c.requires.channel t c.stepped.ensures

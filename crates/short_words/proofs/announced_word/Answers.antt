@@ -17,7 +17,9 @@ pub returns : goal.returns
 returns c =
     let f : SFits w32 c.signed_code-got.result.value = search rules in
     rw (to_z-of_z f)
-    (announced_is c.args.w _ _ (medians_of c.args.medians) (medians_of c.args.other) c.args.last_one c.sample_interval-interval.ensures _ c.adapt-after.ensures _ _ c.signed_code-got.ensures _ c.zero_run_eligible.ensures)
+    (announced_is c.args.w _ _ (medians_of c.args.medians)
+    (medians_of c.args.other) c.args.last_one c.sample_interval-interval.ensures _ c.adapt-after.ensures _
+    _ c.signed_code-got.ensures _ c.zero_run_eligible.ensures)
 
 pub signed_code-got-requires-clause-interval : goal.signed_code-got-requires-clause-interval
 signed_code-got-requires-clause-interval c =

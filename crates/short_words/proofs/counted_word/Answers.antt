@@ -10,4 +10,5 @@ use Rattle.short_words.proofs.counted_word.Goals as goal
 pub returns : goal.returns
 returns c =
     let f : SFits w32 c.signed_code-got.result.value = search rules in
-    rw (to_z-of_z f) (counted_is c.args.w c.args.ones c.args.interval.low c.args.interval.high c.requires c.args.after _ _ c.signed_code-got.ensures)
+    rw (to_z-of_z f) (counted_is c.args.w c.args.ones c.args.interval.low c.args.interval.high c.requires
+    c.args.after _ _ c.signed_code-got.ensures)

@@ -15,10 +15,20 @@ pub returns-then-set-lt0-2 : goal.returns-then-set-lt0-2
 unfolding any_negative
 returns-then-set-lt0-2 c =
     let set = c.args.set in
-    rw (negative-by (get_or set 0 (pos 0)) (search rules) c.if-set-lt0.false, negative-by (get_or set 1 (pos 0)) (search rules) c.if-set-lt0-2.true)
+    rw (
+      negative-by (get_or set 0 (pos 0)) (search rules) c.if-set-lt0.false,
+      negative-by
+          (get_or set 1 (pos 0)) (search rules) c.if-set-lt0-2.true,
+    )
 
 pub returns : goal.returns
 unfolding any_negative
 returns c =
     let set = c.args.set in
-    rw (negative-by (get_or set 0 (pos 0)) (search rules) c.if-set-lt0.false, negative-by (get_or set 1 (pos 0)) (search rules) c.if-set-lt0-2.false, negative-bits (get_or set 2 (pos 0)) (search rules))
+    rw (
+      negative-by (get_or set 0 (pos 0)) (search rules) c.if-set-lt0.false,
+      negative-by
+          (get_or set 1 (pos 0)) (search rules) c.if-set-lt0-2.false,
+      negative-bits (get_or set 2 (pos 0))
+          (search rules),
+    )

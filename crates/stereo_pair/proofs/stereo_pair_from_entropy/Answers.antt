@@ -6,16 +6,19 @@ use Rattle.stereo_pair.proofs.stereo_pair_from_entropy.Goals as goal
 
 pub seed_set-requires : goal.seed_set-requires
 seed_set-requires c =
-    (stereo-raw _ _ c.expand_entropy-expanded.ensures.info (sym c.is_not_stereo.ensures ∙ c.if-is_not_stereo.false)).left
+    (stereo-raw _ _ c.expand_entropy-expanded.ensures.info
+    (sym c.is_not_stereo.ensures ∙ c.if-is_not_stereo.false)).left
 
 pub seed_set-requires-2 : goal.seed_set-requires-2
 seed_set-requires-2 c =
-    (stereo-raw _ _ c.expand_entropy-expanded.ensures.info (sym c.is_not_stereo.ensures ∙ c.if-is_not_stereo.false)).right
+    (stereo-raw _ _ c.expand_entropy-expanded.ensures.info
+    (sym c.is_not_stereo.ensures ∙ c.if-is_not_stereo.false)).right
 
 pub returns-in_default : goal.returns-in_default
 returns-in_default c =
     let n = c.no_seed.ensures in
-    let all = length-refused-raw _ _ _ _ _ n.outcome c.in_default.is c.expand_entropy-expanded.ensures.outcome n.medians in
+    let all = length-refused-raw _ _ _ _ _ n.outcome c.in_default.is
+    c.expand_entropy-expanded.ensures.outcome n.medians in
     record { outcome = all.0; medians = all.1 }
 
 pub returns-then-is_not_stereo : goal.returns-then-is_not_stereo

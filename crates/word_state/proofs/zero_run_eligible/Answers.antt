@@ -18,7 +18,12 @@ pub returns-then-other-gt1 : goal.returns-then-other-gt1
 unfolding run_due
 returns-then-other-gt1 c =
     let a = c.args in
-    rw (lt-leb (medians_of c.args.other_set).m0 1 (omega arith), and-false (leb (medians_of c.args.one_set).m0 1), and-false (not c.args.run_break))
+    rw (
+      lt-leb (medians_of c.args.other_set).m0 1 (omega arith),
+      and-false
+          (leb (medians_of c.args.one_set).m0 1),
+      and-false (not c.args.run_break),
+    )
 
 pub returns-then-last_zero : goal.returns-then-last_zero
 unfolding run_due
@@ -31,4 +36,10 @@ pub returns : goal.returns
 unfolding run_due
 returns c =
     let a = c.args in
-    rw (le-leb (medians_of c.args.one_set).m0 1 (omega arith), le-leb (medians_of c.args.other_set).m0 1 (omega arith), c.if-run_break.false, c.if-last_zero.false)
+    rw (
+      le-leb (medians_of c.args.one_set).m0 1 (omega arith),
+      le-leb (medians_of c.args.other_set).m0 1
+          (omega arith),
+      c.if-run_break.false,
+      c.if-last_zero.false,
+    )

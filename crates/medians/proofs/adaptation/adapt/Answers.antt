@@ -22,8 +22,14 @@ pub returns-then-ones_count-eq2 : goal.returns-then-ones_count-eq2
 unfolding adapt
 returns-then-ones_count-eq2 c =
     let e : c.args.ones_count ≡ 2 = omega arith in
-    rw (e, c.inc_median-then-ones_count-eq2.ensures, c.inc_median-then-ones_count-eq2-2.ensures, c.dec_median-then-ones_count-eq2.ensures)
+    rw (
+      e,
+      c.inc_median-then-ones_count-eq2.ensures,
+      c.inc_median-then-ones_count-eq2-2.ensures,
+      c.dec_median-then-ones_count-eq2.ensures,
+    )
 
 pub returns : goal.returns
 returns c =
-    rw (c.inc_median-2.ensures, c.inc_median-3.ensures, c.inc_median-4.ensures) (sym (adapt-many _ _ (omega arith)))
+    rw (c.inc_median-2.ensures, c.inc_median-3.ensures, c.inc_median-4.ensures)
+    (sym (adapt-many _ _ (omega arith)))

@@ -21,12 +21,14 @@ loop-at-init c =
 pub after_run-at-requires-clause-on : goal.after_run-at-requires-clause-on
 after_run-at-requires-clause-on c =
     let l = c.loop-at.invariant in
-    loop_on _ _ _ _ _ l _ c.loop-at-test.true c.word_at.ensures _ _ _ _ (ap (coded_word l.words.state) c.in-Run.is)
+    loop_on _ _ _ _ _ l _ c.loop-at-test.true c.word_at.ensures _ _ _ _
+    (ap (coded_word l.words.state) c.in-Run.is)
 
 pub after_sample-at-requires-clause-on : goal.after_sample-at-requires-clause-on
 after_sample-at-requires-clause-on c =
     let l = c.loop-at.invariant in
-    loop_on _ _ _ _ _ l _ c.loop-at-test.true c.word_at.ensures _ _ _ _ (ap (coded_word l.words.state) c.in-Sample.is)
+    loop_on _ _ _ _ _ l _ c.loop-at-test.true c.word_at.ensures _ _ _ _
+    (ap (coded_word l.words.state) c.in-Sample.is)
 
 pub loop-at-preserved-in-Run : goal.loop-at-preserved-in-Run
 loop-at-preserved-in-Run c =

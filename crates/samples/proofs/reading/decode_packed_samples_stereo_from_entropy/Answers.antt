@@ -10,25 +10,32 @@ use Rattle.samples.proofs.reading.decode_packed_samples_stereo_from_entropy.Goal
 
 pub returns-then-frames-gt-MAX_FRAMES : goal.returns-then-frames-gt-MAX_FRAMES
 returns-then-frames-gt-MAX_FRAMES c =
-    not_read _ _ _ c.args.out.now _ _ Refusal.TooLarge refl (refused_frames _ _ _ c.args.out.now (omega arith)) (c.not_read.ensures c.args.out.now)
+    not_read _ _ _ c.args.out.now _ _ Refusal.TooLarge refl
+    (refused_frames _ _ _ c.args.out.now (omega arith)) (c.not_read.ensures c.args.out.now)
 
 pub returns-then-payload-gt-MAX_PAYLOAD_BYTES : goal.returns-then-payload-gt-MAX_PAYLOAD_BYTES
 returns-then-payload-gt-MAX_PAYLOAD_BYTES c =
-    not_read _ _ _ c.args.out.now _ _ Refusal.TooLarge refl (refused-payload _ _ _ c.args.out.now (omega arith)) (c.not_read-then-payload-gt-MAX_PAYLOAD_BYTES.ensures c.args.out.now)
+    not_read _ _ _ c.args.out.now _ _ Refusal.TooLarge refl
+    (refused-payload _ _ _ c.args.out.now (omega arith))
+    (c.not_read-then-payload-gt-MAX_PAYLOAD_BYTES.ensures c.args.out.now)
 
 pub returns-then-out-frames : goal.returns-then-out-frames
 returns-then-out-frames c =
-    not_read _ _ _ c.args.out.now _ _ Refusal.ListLength refl (refused-list _ _ _ c.args.out.now (omega arith) (omega arith) (λ e. omega arith)) (c.not_read-then-out-frames.ensures c.args.out.now)
+    not_read _ _ _ c.args.out.now _ _ Refusal.ListLength refl
+    (refused-list _ _ _ c.args.out.now (omega arith) (omega arith) (λ e. omega arith))
+    (c.not_read-then-out-frames.ensures c.args.out.now)
 
 pub returns-in_default : goal.returns-in_default
 returns-in_default c =
     not_read _ _ _ c.args.out.now _ _ _ c.in_default.is
-    (c.stereo_pair_from_entropy-seeds.ensures.outcome ∙ refused-seed _ _ _ c.args.out.now (omega arith) (omega arith) (omega arith)) (c.not_read-in_default.ensures c.args.out.now)
+    (c.stereo_pair_from_entropy-seeds.ensures.outcome ∙ refused-seed _ _ _ c.args.out.now (omega arith)
+    (omega arith) (omega arith)) (c.not_read-in_default.ensures c.args.out.now)
 
 pub returns : goal.returns
 returns c =
     let x = c.stereo_pair_from_entropy-seeds.ensures in
     let n =
     ap outcome_number (sym c.in-Accepted.is) ∙ x.outcome
-    ∙ refused-seed c.args.entropy.now c.args.payload.now c.args.frames c.args.out.now (omega arith) (omega arith) (omega arith) in
+    ∙ refused-seed c.args.entropy.now c.args.payload.now c.args.frames c.args.out.now (omega arith)
+    (omega arith) (omega arith) in
     all_read _ _ _ c.args.out.now _ _ n x.medians (omega arith) c.decode_packed_samples_stereo.ensures

@@ -47,7 +47,8 @@ returns-then-place-payload c =
     let d : i.low + (i.high - i.low) ≡ i.high = omega (arith, e) in
     let w = place-window s p 8 _ (omega arith) (omega arith) c.eight.ensures in
     rw (to_z-of_z f)
-    (c.signed_code-got.ensures.is (bits_of s) p (8 * 8 - p % 8) w (omega arith) (medians_of c.args.medians) c.args.ones_count
+    (c.signed_code-got.ensures.is (bits_of s) p (8 * 8 - p % 8) w (omega arith)
+    (medians_of c.args.medians) c.args.ones_count
     c.sample_interval-interval.ensures.low-is (d ∙ c.sample_interval-interval.ensures.high_is))
 
 -- ---- field by field
@@ -55,14 +56,17 @@ returns-then-place-payload c =
 pub returns-in_default : goal.returns-in_default
 returns-in_default c =
     let i = c.sample_interval-interval.ensures in
-    value-no_code (bits_of c.args.payload.now) c.args.place c.args.ones_count (medians_of c.args.medians) _ _ i.low-is i.high_is
+    value-no_code (bits_of c.args.payload.now) c.args.place c.args.ones_count
+    (medians_of c.args.medians) _ _ i.low-is i.high_is
     (sym c.read_truncated_binary.ensures ∙ c.in_default.is)
 
 pub returns-in_default-get_bit : goal.returns-in_default-get_bit
 returns-in_default-get_bit c =
     let i = c.sample_interval-interval.ensures in
-    value-no_sign (bits_of c.args.payload.now) c.args.place c.args.ones_count (medians_of c.args.medians) _ _ i.low-is i.high_is
-    _ _ (sym c.read_truncated_binary.ensures ∙ c.in-Value.is) (sym c.get_bit.ensures ∙ c.in_default-get_bit.is)
+    value-no_sign (bits_of c.args.payload.now) c.args.place c.args.ones_count
+    (medians_of c.args.medians) _ _ i.low-is i.high_is
+    _ _ (sym c.read_truncated_binary.ensures ∙ c.in-Value.is)
+    (sym c.get_bit.ensures ∙ c.in_default-get_bit.is)
 
 pub read_truncated_binary-requires-clause-interval : goal.read_truncated_binary-requires-clause-interval
 read_truncated_binary-requires-clause-interval c =
@@ -70,7 +74,8 @@ read_truncated_binary-requires-clause-interval c =
     omega arith
 
 -- a code within an interval of 31 bits
-sum_lt : (bits : List Bool) (p low high : ℕ) {code next : ℕ} → Ends low high → truncated_binary bits p (high - low) ≡ Value code next → low + code < 2147483648
+sum_lt : (bits : List Bool) (p low high : ℕ) {code next : ℕ} → Ends low high
+    → truncated_binary bits p (high - low) ≡ Value code next → low + code < 2147483648
 sum_lt bits p low high e f =
     let m = code-most bits p (high - low) _ _ (omega (arith, e)) f in
     omega (arith, e)
@@ -90,5 +95,7 @@ returns c =
     let i = c.sample_interval-interval.ensures in
     let f : SFits w32 c.apply_sign.result = search rules in
     rw (to_z-of_z f, c.apply_sign.ensures)
-    (value_read (bits_of c.args.payload.now) c.args.place c.args.ones_count (medians_of c.args.medians) _ _ i.low-is i.high_is
-    _ _ _ _ (sym c.read_truncated_binary.ensures ∙ c.in-Value.is) (sym c.get_bit.ensures ∙ c.in-Value-get_bit.is))
+    (value_read (bits_of c.args.payload.now) c.args.place c.args.ones_count
+    (medians_of c.args.medians) _ _ i.low-is i.high_is
+    _ _ _ _ (sym c.read_truncated_binary.ensures ∙ c.in-Value.is)
+    (sym c.get_bit.ensures ∙ c.in-Value-get_bit.is))

@@ -12,7 +12,8 @@ returns-then-last_zero c =
 pub returns-in_default : goal.returns-in_default
 returns-in_default c =
     rw (c.not_counted.ensures, c.if-last_zero.false)
-    (count_none (bits_of c.args.payload.now) c.args.place c.args.last_one _ (sym c.read_raw_prefix-prefix.ensures) c.in_default.not-Value)
+    (count_none (bits_of c.args.payload.now) c.args.place c.args.last_one _
+    (sym c.read_raw_prefix-prefix.ensures) c.in_default.not-Value)
 
 pub returns : goal.returns
 returns c =

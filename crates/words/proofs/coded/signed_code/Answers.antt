@@ -14,4 +14,6 @@ overflow_shr-sign c = omega (arith, c.code_in_window-got.ensures.most 28 (omega 
 pub returns : goal.returns
 returns c =
     let f : SFits w32 c.apply_sign.result = search rules in
-    rw (to_z-of_z f, c.apply_sign.ensures) (signed_in c.args.v c.args.low c.args.last c.code_in_window-got.result.code c.code_in_window-got.result.used c.code_in_window-got.ensures (omega arith))
+    rw (to_z-of_z f, c.apply_sign.ensures) (signed_in c.args.v c.args.low c.args.last
+    c.code_in_window-got.result.code c.code_in_window-got.result.used c.code_in_window-got.ensures
+    (omega arith))

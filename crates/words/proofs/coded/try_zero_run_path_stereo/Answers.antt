@@ -13,14 +13,17 @@ returns-then-not-eligible c =
 
 pub returns-in_default : goal.returns-in_default
 returns-in_default c =
-    rw c.if-not-eligible.false (run-missing (bits_of c.args.payload.now) c.args.place (sym c.read_zero_run_length.ensures ∙ c.in_default.is))
+    rw c.if-not-eligible.false (run-missing (bits_of c.args.payload.now) c.args.place
+    (sym c.read_zero_run_length.ensures ∙ c.in_default.is))
 
 pub returns-then-run-eq0 : goal.returns-then-run-eq0
 returns-then-run-eq0 c =
     rw c.if-not-eligible.false
-    (run-zero (bits_of c.args.payload.now) c.args.place _ _ (sym c.read_zero_run_length.ensures ∙ c.in-Value.is) (omega arith))
+    (run-zero (bits_of c.args.payload.now) c.args.place _ _
+    (sym c.read_zero_run_length.ensures ∙ c.in-Value.is) (omega arith))
 
 pub returns : goal.returns
 returns c =
     rw c.if-not-eligible.false
-    (run-some (bits_of c.args.payload.now) c.args.place _ _ (sym c.read_zero_run_length.ensures ∙ c.in-Value.is) (omega arith))
+    (run-some (bits_of c.args.payload.now) c.args.place _ _
+    (sym c.read_zero_run_length.ensures ∙ c.in-Value.is) (omega arith))
