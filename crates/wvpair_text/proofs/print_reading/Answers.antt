@@ -1,6 +1,7 @@
 -- The reading's samples stand first in the local list, whose first zeros are lent.
 -- Assumes nothing.
-use Rattle.std.proofs.Common.{◌≡◌, sym, ap, ◌∙◌, List, ◌++◌, ℕ, ◌-◌, ◌*◌, ◌≤◌, arith, ℤ, pos, length, take, drop, replicate, length-take, length-drop, length-append, length-take-le, take_all}
+use Rattle.std.proofs.Common.{◌≡◌, sym, ap, ◌∙◌, List, ◌++◌, ℕ, ◌-◌, ◌*◌, ◌≤◌, arith, ℤ, pos, length, take, drop, replicate}
+use Rattle.std.proofs.Common.{length-take, length-drop, length-append, length-take-le, take_all}
 use Rattle.answers.specs.Numbers.{outcome_number}
 use Rattle.decimal.proofs.PutLaws.{put_as}
 use Rattle.samples.proofs.SilenceLaws.{take-zeros}
@@ -12,6 +13,11 @@ use Rattle.wvpair_lines.proofs.LineLaws.{end_short}
 use Rattle.wvpair_text.proofs.ReadingLaws.{reading_small, printed-told}
 use Rattle.wvpair_text.proofs.print_reading.Goals as goal
 
+-- the reading of what is lent
+abbrev read_lent : List ℕ → ℕ → List ℤ → ReadTold
+read_lent input frames silent =
+    read_entry (take 12 input) (take (length input - 14) (drop 14 input)) frames (take (2 * frames) silent)
+
 -- what is lent, and what is told of the reading then
 record Lent (input : List ℕ) (frames : ℕ) (silent : List ℤ) (r : ReadAnswer) (list : List ℤ) : Type 0 where
   head : 14 ≤ length input
@@ -20,14 +26,16 @@ record Lent (input : List ℕ) (frames : ℕ) (silent : List ℤ) (r : ReadAnswe
   most : frames ≤ 1024
   zeros : silent ≡ replicate 2048 (pos 0)
   size : length list ≡ length (take (2 * frames) silent)
-  told : view_reading r list ≡ read_entry (take 12 input) (take (length input - 14) (drop 14 input)) frames (take (2 * frames) silent)
+  told : view_reading r list ≡ read_lent input frames silent
 
-module _ {input : List ℕ} {frames : ℕ} {silent : List ℤ} {r : ReadAnswer} {list : List ℤ} (k : Lent input frames silent r list) where
+module _ {input : List ℕ} {frames : ℕ} {silent : List ℤ} {r : ReadAnswer} {list : List ℤ}
+    (k : Lent input frames silent r list) where
   -- what was read, by the reading definition
   known : view_reading r list ≡ reading_of input
   known =
       let n = 2 * frames in
-      let zeros : take n silent ≡ replicate n (pos 0) = ap (take n) k.zeros ∙ take-zeros n 2048 (omega (arith, k.most)) in
+      let zeros : take n silent ≡ replicate n (pos 0) =
+      ap (take n) k.zeros ∙ take-zeros n 2048 (omega (arith, k.most)) in
       let rest : take (length input - 14) (drop 14 input) ≡ drop 14 input =
       take_all (length input - 14) (drop 14 input) (omega (arith, length-drop 14 input)) in
       rw (zeros, rest, k.count) at k.told
@@ -60,7 +68,7 @@ module _ {input : List ℕ} {frames : ℕ} {silent : List ℤ} {r : ReadAnswer} 
 lent-of : {input : List ℕ} {frames : ℕ} {silent : List ℤ} (r : ReadAnswer) {list : List ℤ}
     → (14 ≤ length input) × (length input ≤ 28686) → (frames ≡ frame_count input) × (frames ≤ 1024)
     → silent ≡ replicate 2048 (pos 0) → length list ≡ length (take (2 * frames) silent)
-    → view_reading r list ≡ read_entry (take 12 input) (take (length input - 14) (drop 14 input)) frames (take (2 * frames) silent)
+    → view_reading r list ≡ read_lent input frames silent
     → Lent input frames silent r list
 lent-of r h f z l t = record { head = h.0; long = h.1; count = f.0; most = f.1; zeros = z; size = l; told = t }
 
@@ -69,17 +77,26 @@ pub slice_bounds-decode_packed_samples_stereo_from_entropy-end :
 slice_bounds-decode_packed_samples_stereo_from_entropy-end c = sym (length-take-le 12 c.args.input.now (omega arith))
 
 pub slice_bounds-samples-end-2 : goal.slice_bounds-samples-end-2
-slice_bounds-samples-end-2 c = simp length-append (omega (arith, within (lent-of c.decode_packed_samples_stereo_from_entropy-answer.result c.requires.input c.requires.frames c.silence-samples.ensures c.decode_packed_samples_stereo_from_entropy-answer.auto.out c.decode_packed_samples_stereo_from_entropy-answer.ensures)))
+slice_bounds-samples-end-2 c =
+    let read = c.decode_packed_samples_stereo_from_entropy-answer in
+    let k = lent-of read.result c.requires.input c.requires.frames c.silence-samples.ensures read.auto.out read.ensures in
+    simp length-append (omega (arith, within k))
 
 pub slice_bounds-put_report-end : goal.slice_bounds-put_report-end
-slice_bounds-put_report-end c = simp (length-take, length-append) (omega (arith, within (lent-of c.decode_packed_samples_stereo_from_entropy-answer.result c.requires.input c.requires.frames c.silence-samples.ensures c.decode_packed_samples_stereo_from_entropy-answer.auto.out c.decode_packed_samples_stereo_from_entropy-answer.ensures)))
+slice_bounds-put_report-end c =
+    let read = c.decode_packed_samples_stereo_from_entropy-answer in
+    let k = lent-of read.result c.requires.input c.requires.frames c.silence-samples.ensures read.auto.out read.ensures in
+    simp (length-take, length-append) (omega (arith, within k))
 
 pub put_report-requires : goal.put_report-requires
 put_report-requires c =
-    let k = lent-of c.decode_packed_samples_stereo_from_entropy-answer.result c.requires.input c.requires.frames c.silence-samples.ensures c.decode_packed_samples_stereo_from_entropy-answer.auto.out c.decode_packed_samples_stereo_from_entropy-answer.ensures in
-    simp (length-take, length-append) (omega (arith, c.requires.room, within k, lent k, c.requires.frames.1, end k _ c.outcome_number.ensures))
+    let read = c.decode_packed_samples_stereo_from_entropy-answer in
+    let k = lent-of read.result c.requires.input c.requires.frames c.silence-samples.ensures read.auto.out read.ensures in
+    simp (length-take, length-append)
+    (omega (arith, c.requires.room, within k, lent k, c.requires.frames.1, end k _ c.outcome_number.ensures))
 
 pub returns : goal.returns
 returns c =
-    let k = lent-of c.decode_packed_samples_stereo_from_entropy-answer.result c.requires.input c.requires.frames c.silence-samples.ensures c.decode_packed_samples_stereo_from_entropy-answer.auto.out c.decode_packed_samples_stereo_from_entropy-answer.ensures in
+    let read = c.decode_packed_samples_stereo_from_entropy-answer in
+    let k = lent-of read.result c.requires.input c.requires.frames c.silence-samples.ensures read.auto.out read.ensures in
     put_as (laid k _ _ c.outcome_number.ensures) c.put_report.ensures
