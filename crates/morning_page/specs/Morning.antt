@@ -1,7 +1,8 @@
 -- Document 02 §5: what the page says, as statements over the definitions of page and entry (Q5.1,
 -- Q5.2, Q5.5).
 -- Assumes nothing.
-use Rattle.std.specs.Prelude.{◌≡◌, List, [], ℕ, zero, suc, ◌+◌, ◌*◌, ◌%◌, ◌<◌, ◌≤◌, ℤ, pos, length, take, drop, get_or}
+use Rattle.std.specs.Prelude.{◌≡◌, List, [], ℕ, zero, suc, ◌+◌, ◌*◌, ◌%◌, ◌<◌, ◌≤◌, ℤ, pos}
+use Rattle.std.specs.Prelude.{length, take, drop, get_or}
 use Rattle.std.specs.Int.Signed.{mag}
 use Rattle.answers.specs.Limits.{max_elements}
 use Rattle.decimal.specs.Column.{read_column}

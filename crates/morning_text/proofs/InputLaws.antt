@@ -42,8 +42,8 @@ module _ (t : ℕ) (input storage : List ℕ) where
       → (reading_of input).refusal ≡ outcome_number o
       → refuse_page storage (outcome_number o) ≡ input_entry t input storage
   input_refused o x h q e =
-      sym (guard_refused (outcome_number o) (refuse_page storage) (page_entry t (reading_of input).list storage)
-      (rw q (number-positive x)))
+      sym (guard_refused (outcome_number o) (refuse_page storage)
+      (page_entry t (reading_of input).list storage) (rw q (number-positive x)))
       ∙ ap (λ (n : ℕ). unlessRefused n (refuse_page storage) (page_entry t (reading_of input).list storage))
       (sym e) ∙ sym (input_long h)
 

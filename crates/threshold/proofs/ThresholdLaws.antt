@@ -68,7 +68,8 @@ module _ (text : List ℕ) where
   unfolding read_digits all_digits
   typed_more value i h t d l = record {
     left = sym (ap (read_digits value) (text-on i h)) ∙ t.left;
-    digits = ap (λ (b : Bool). b && all_digits (drop (i + 1) text)) (sym d) ∙ sym (ap all_digits (text-on i h))
+    digits = ap (λ (b : Bool). b && all_digits (drop (i + 1) text)) (sym d)
+        ∙ sym (ap all_digits (text-on i h))
         ∙ t.digits;
     small = l;
     here = omega arith;
@@ -147,7 +148,8 @@ decimal-digits =
     )
 
 -- the decimal text of every number of 32 bits is a threshold, and that number
-pub typed_back : (n : ℕ) → n < 4294967296 → (is_threshold (decimal n) ≡ true) × (read_digits 0 (decimal n) ≡ n)
+pub typed_back : (n : ℕ) → n < 4294967296
+    → (is_threshold (decimal n) ≡ true) × (read_digits 0 (decimal n) ≡ n)
 unfolding is_threshold
 typed_back n h = (
   rw (

@@ -19,4 +19,5 @@ is_threshold text = ltb 0 (length text) && (all_digits text && ltb (read_digits 
 
 -- what a text has: whether it is a threshold, and which; 0 where it is none
 abbrev pub threshold_in : List ℕ → Threshold
-threshold_in text = record { valid = is_threshold text; value = cond (is_threshold text) (read_digits 0 text) 0 }
+threshold_in text =
+    record { valid = is_threshold text; value = cond (is_threshold text) (read_digits 0 text) 0 }

@@ -67,7 +67,11 @@ every_export rate samples list s h =
     let n = file-length rate samples in
     let f = s.few in
     let i : Importable (wave_file rate samples) (length list) =
-    record { few = omega arith; wave = is_wave_lem rate samples s; enough = rw (samples_are rate samples s) h } in
+    record {
+      few = omega arith;
+      wave = is_wave_lem rate samples s;
+      enough = rw (samples_are rate samples s) h;
+    } in
     import_told (wave_file rate samples) list (sym (import_none (wave_file rate samples) (length list) i))
     ∙ rw (rate-is rate samples s, samples_are rate samples s)
 

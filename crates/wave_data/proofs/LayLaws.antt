@@ -41,7 +41,8 @@ module _ (samples : List ℤ) (before : List ℕ) (f : Fits samples (length befo
   -- none of them
   pub laid_none : Laid samples before before 0
   unfolding data_bytes
-  laid_none = record { here = omega arith; same_length = refl; bytes = sym (overlay_none before header_bytes) }
+  laid_none =
+      record { here = omega arith; same_length = refl; bytes = sym (overlay_none before header_bytes) }
 
   -- the bytes of one frame more
   data_frame : (i : ℕ) → 2 * i + 1 < length samples

@@ -44,7 +44,8 @@ samples-at (lo ∷ hi ∷ bytes) (suc i) h =
     samples-at bytes i (omega arith) ∙ ap₂ signed_word (ap at (sym e)) (ap at (sym f))
 
 -- samples of 16 bits come back out of their bytes
-pub samples_back_lem : (samples : List ℤ) → within16 samples ≡ true → samples_of (data_bytes samples) ≡ samples
+pub samples_back_lem : (samples : List ℤ) → within16 samples ≡ true
+    → samples_of (data_bytes samples) ≡ samples
 unfolding samples_of data_bytes little_endian
 samples_back_lem [] h = refl
 samples_back_lem (s ∷ samples) h =

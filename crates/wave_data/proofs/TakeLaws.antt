@@ -53,7 +53,8 @@ module _ (file : List ℕ) (before : List ℤ) where
         here = omega arith;
         same_length = length-set samples i z ∙ t.same_length;
         copied = rw (e ∙ sample-at i h, t.copied, add-one i)
-            (ap (λ (n : ℕ). set (paste before 0 (file_samples file) i) n (get_or (file_samples file) i (pos 0)))
+            (ap
+            (λ (n : ℕ). set (paste before 0 (file_samples file) i) n (get_or (file_samples file) i (pos 0)))
             (sym (zero-add i))
             ∙ paste-suc before 0 (file_samples file) i (pos 0) (omega arith) h);
       }

@@ -97,7 +97,8 @@ module _ (rate : ℕ) (samples : List ℤ) (out : List ℕ) where
   unfolding export_entry
   export_number = go (export_refusal rate samples (length out))
     where
-      go : (n : ℕ) → (unlessRefused n (refuse_export out) (tell_export out (wave_file rate samples))).refusal ≡ n
+      go : (n : ℕ)
+          → (unlessRefused n (refuse_export out) (tell_export out (wave_file rate samples))).refusal ≡ n
       go zero = refl
       go (suc n) = refl
 

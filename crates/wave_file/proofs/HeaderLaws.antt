@@ -29,13 +29,16 @@ words_append : (a b : List ℕ) → words_bytes (a ++ b) ≡ words_bytes a ++ wo
 unfolding words_bytes
 words_append [] b = refl
 words_append (w ∷ a) b =
-    ap (λ (l : List ℕ). little_endian 4 w ++ l) (words_append a b) ∙ sym (append_assoc (little_endian 4 w) (words_bytes a) (words_bytes b))
+    ap (λ (l : List ℕ). little_endian 4 w ++ l) (words_append a b)
+    ∙ sym (append_assoc (little_endian 4 w) (words_bytes a) (words_bytes b))
 
 -- one field more
-words-suc : (words : List ℕ) (i : ℕ) → i < length words → words_bytes (take (i + 1) words) ≡ words_bytes (take i words) ++ little_endian 4 (get_or words i 0)
+words-suc : (words : List ℕ) (i : ℕ) → i < length words
+    → words_bytes (take (i + 1) words) ≡ words_bytes (take i words) ++ little_endian 4 (get_or words i 0)
 unfolding words_bytes
 words-suc words i h =
-    ap (λ (n : ℕ). words_bytes (take n words)) (add-one i) ∙ ap words_bytes (take-suc words i 0 h) ∙ words_append (take i words) (get_or words i 0 ∷ [])
+    ap (λ (n : ℕ). words_bytes (take n words)) (add-one i) ∙ ap words_bytes (take-suc words i 0 h)
+    ∙ words_append (take i words) (get_or words i 0 ∷ [])
     ∙ ap (λ (l : List ℕ). words_bytes (take i words) ++ l) (append-nil (little_endian 4 (get_or words i 0)))
 
 -- a field has four bytes
@@ -56,7 +59,8 @@ module _ (words before : List ℕ) (room : 4 * length words ≤ length before) w
   laid_none = record { here = omega arith; same_length = refl; bytes = sym (overlay_none before 0) }
 
   -- one more
-  pub laid_more : (out after : List ℕ) (i : ℕ) → i < length words → Laid words before out i → after ≡ overlay out (4 * i) (little_endian 4 (get_or words i 0))
+  pub laid_more : (out after : List ℕ) (i : ℕ) → i < length words → Laid words before out i
+      → after ≡ overlay out (4 * i) (little_endian 4 (get_or words i 0))
       → Laid words before after (i + 1)
   laid_more out after i h l e =
       let n : 0 + length (words_bytes (take i words)) ≡ 4 * i =
@@ -64,11 +68,16 @@ module _ (words before : List ℕ) (room : 4 * length words ≤ length before) w
       let f = four (get_or words i 0) in
       record {
         here = omega arith;
-        same_length = ap length e ∙ overlay_length out (4 * i) (little_endian 4 (get_or words i 0)) (let s = l.same_length in omega arith) ∙ l.same_length;
-        bytes = overlay_two before out after 0 (4 * i) (words_bytes (take i words)) (little_endian 4 (get_or words i 0)) (omega arith) n l.bytes e
+        same_length = ap length e
+            ∙ overlay_length out (4 * i) (little_endian 4 (get_or words i 0))
+            (let s = l.same_length in omega arith) ∙ l.same_length;
+        bytes =
+            overlay_two before out after 0 (4 * i) (words_bytes (take i words))
+            (little_endian 4 (get_or words i 0)) (omega arith) n l.bytes e
             ∙ ap (overlay before 0) (sym (words-suc words i h));
       }
 
   -- all of them
-  pub laid-all : (out : List ℕ) (i : ℕ) → length words ≤ i → Laid words before out i → out ≡ overlay before 0 (words_bytes words)
+  pub laid-all : (out : List ℕ) (i : ℕ) → length words ≤ i → Laid words before out i
+      → out ≡ overlay before 0 (words_bytes words)
   laid-all out i h l = l.bytes ∙ ap (λ (x : List ℕ). overlay before 0 (words_bytes x)) (take_all i words h)

@@ -36,13 +36,15 @@ name_data = 100 ∷ 97 ∷ 116 ∷ 97 ∷ []
 -- channels, rate, bytes a second, bytes a frame, bits a sample
 unfoldable pub fmt_chunk : ℕ → List ℕ
 fmt_chunk rate =
-    name_fmt ++ little_endian 4 16 ++ little_endian 2 1 ++ little_endian 2 2 ++ little_endian 4 rate ++ little_endian 4 (4 * rate) ++ little_endian 2 4
-    ++ little_endian 2 16
+    name_fmt ++ little_endian 4 16 ++ little_endian 2 1 ++ little_endian 2 2 ++ little_endian 4 rate
+    ++ little_endian 4 (4 * rate) ++ little_endian 2 4 ++ little_endian 2 16
 
 -- "the 44-byte header (RIFF, WAVE, a 16-byte fmt chunk, .., data chunk)" (Q1.1), before so many
 -- bytes of data
 unfoldable pub wave_header : ℕ → ℕ → List ℕ
-wave_header rate size = name_riff ++ little_endian 4 (36 + size) ++ name_wave ++ fmt_chunk rate ++ name_data ++ little_endian 4 size
+wave_header rate size =
+    name_riff ++ little_endian 4 (36 + size) ++ name_wave ++ fmt_chunk rate ++ name_data
+    ++ little_endian 4 size
 
 -- "then frames little-endian" (Q1.2): two bytes for each sample, left then right
 unfoldable pub data_bytes : List ℤ → List ℕ

@@ -18,7 +18,8 @@ module _ (file : List ℕ) where
   wave-short h = rw (lt-leb header_bytes (length file) h)
 
   -- half a frame
-  pub wave-half : header_bytes ≤ length file → ((length file - header_bytes) % 4 ≡ 0 → ⊥) → false ≡ is_wave file
+  pub wave-half : header_bytes ≤ length file → ((length file - header_bytes) % 4 ≡ 0 → ⊥)
+      → false ≡ is_wave file
   unfolding is_wave
   wave-half h n = rw (le-leb header_bytes (length file) h, ne_eqb ((length file - header_bytes) % 4) 0 n)
 
@@ -47,7 +48,8 @@ pub record Wave (file : List ℕ) : Type 0 where
   pub long : header_bytes ≤ length file
   pub whole_frames : (length file - header_bytes) % 4 ≡ 0
   pub rate_taken_lem : rate_taken (file_rate file) ≡ true
-  pub header : alike (take header_bytes file) (wave_header (file_rate file) (length file - header_bytes)) ≡ true
+  pub header : alike (take header_bytes file)
+      (wave_header (file_rate file) (length file - header_bytes)) ≡ true
 
 -- and then all of it holds
 pub wave-parts : (file : List ℕ) → is_wave file ≡ true → Wave file

@@ -1,6 +1,7 @@
 -- Document 02 §1: which bytes are a sound file.
 -- Assumes nothing.
-use Rattle.std.specs.Prelude.{ℕ, ◌-◌, ◌%◌, Bool, true, false, ◌&&◌, List, [], ◌∷◌, leb, eqb, length, take, drop}
+use Rattle.std.specs.Prelude.{ℕ, ◌-◌, ◌%◌, Bool, true, false, ◌&&◌, List, [], ◌∷◌, leb, eqb}
+use Rattle.std.specs.Prelude.{length, take, drop}
 use Rattle.little_endian.specs.LittleEndian.{from_little_endian}
 use Rattle.wave_file.specs.File.{header_bytes, rate_taken, wave_header}
 

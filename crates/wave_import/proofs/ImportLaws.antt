@@ -43,7 +43,8 @@ module _ (file : List ℕ) (room : ℕ) where
   pub import_room : length file ≤ max_file_bytes → is_wave file ≡ true → room < length (file_samples file)
       → 11 ≡ import_refusal file room
   unfolding import_refusal
-  import_room f w h = rw (le-ltb max_file_bytes (length file) f, w, lt-ltb room (length (file_samples file)) h)
+  import_room f w h =
+      rw (le-ltb max_file_bytes (length file) f, w, lt-ltb room (length (file_samples file)) h)
 
   -- none of them
   pub import_none : Importable file room → 0 ≡ import_refusal file room

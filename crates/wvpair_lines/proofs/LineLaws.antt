@@ -82,7 +82,8 @@ lines_none (left ∷ right ∷ rest) h = absurd (omega arith)
 -- the lines from a place on: that of the frame there, and those behind it
 lines-on : (samples : List ℤ) (i : ℕ) → i + 1 < length samples
     → frame_lines (drop i samples)
-    ≡ frame_line (get_or samples i (pos 0)) (get_or samples (i + 1) (pos 0)) ++ frame_lines (drop (i + 2) samples)
+    ≡ frame_line (get_or samples i (pos 0)) (get_or samples (i + 1) (pos 0))
+    ++ frame_lines (drop (i + 2) samples)
 lines-on samples i h =
     let left = get_or samples i (pos 0) in
     let right = get_or samples (i + 1) (pos 0) in

@@ -12,7 +12,8 @@ pub returns-then-elements-gt-MAX_ELEMENTS : goal.returns-then-elements-gt-MAX_EL
 returns-then-elements-gt-MAX_ELEMENTS c = sym (frames_long _ _ _ c.if-elements-gt-MAX_ELEMENTS.true)
 
 pub returns-then-elements-ne0 : goal.returns-then-elements-ne0
-returns-then-elements-ne0 c = sym (frames_odd _ _ _ c.if-elements-gt-MAX_ELEMENTS.false c.if-elements-ne0.true)
+returns-then-elements-ne0 c =
+    sym (frames_odd _ _ _ c.if-elements-gt-MAX_ELEMENTS.false c.if-elements-ne0.true)
 
 pub overflow_mul-line_count : goal.overflow_mul-line_count
 overflow_mul-line_count c =

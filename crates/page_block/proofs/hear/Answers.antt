@@ -22,13 +22,12 @@ rises-clicks-requires c =
 -- what a turn adds is one click for each stem at most
 pub overflow_add-clicks : goal.overflow_add-clicks
 overflow_add-clicks c =
-    let inv = c.loop-i.invariant in
     let few : c.rises-clicks.result ≤ 65537 = rw c.rises-clicks.ensures (rises-small _ _ _ _) in
-    omega (arith, c.requires.few, c.loop-i.invariant.left-few, c.loop-i.invariant.right-few, c.loop-i.invariant.here)
+    let inv = c.loop-i.invariant in
+    omega (arith, c.requires.few, inv.left-few, inv.right-few, inv.here)
 
 pub loop-i-preserved : goal.loop-i-preserved
 loop-i-preserved c =
-    let l = c.loop-i in
     let samples = c.args.samples.now in
     let f : SFits w32 (get_or samples (2 * c.loop-i.i) (pos 0)) = search rules in
     let g : SFits w32 (get_or samples (2 * c.loop-i.i + 1) (pos 0)) = search rules in

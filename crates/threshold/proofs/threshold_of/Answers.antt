@@ -14,7 +14,6 @@ use Rattle.threshold.proofs.threshold_of.Goals as goal
 
 pub returns-then-not-is_digit : goal.returns-then-not-is_digit
 returns-then-not-is_digit c =
-    let l = c.loop-i in
     typed_other c.args.text.now c.loop-i.value c.loop-i.i c.loop-i-test.true c.loop-i.invariant
     (sym c.is_digit.ensures ∙ c.if-not-is_digit.true)
 
@@ -26,20 +25,22 @@ record Digit (text : List ℕ) (value i : ℕ) : Type 0 where
   low : 48 ≤ get_or text i 0
   high : get_or text i 0 ≤ 57
 
-digit : (text : List ℕ) (value i : ℕ) → i < length text → Typed text value i → is_digit (get_or text i 0) ≡ true
-    → Digit text value i
+digit : (text : List ℕ) (value i : ℕ) → i < length text → Typed text value i
+    → is_digit (get_or text i 0) ≡ true → Digit text value i
 digit text value i h t e =
     let b = digit_low _ e in
     record { within = h; typed = t; is_one = e; low = b.0; high = b.1 }
 
 pub returns-then-value-ge4294967296 : goal.returns-then-value-ge4294967296
 returns-then-value-ge4294967296 c =
-    let d = digit _ _ _ c.loop-i-test.true c.loop-i.invariant (sym c.is_digit.ensures ∙ c.if-not-is_digit.false) in
+    let d = digit _ _ _ c.loop-i-test.true c.loop-i.invariant
+    (sym c.is_digit.ensures ∙ c.if-not-is_digit.false) in
     typed_large _ _ _ d.within d.typed c.if-value-ge4294967296.true
 
 pub loop-i-preserved : goal.loop-i-preserved
 loop-i-preserved c =
-    let d = digit _ _ _ c.loop-i-test.true c.loop-i.invariant (sym c.is_digit.ensures ∙ c.if-not-is_digit.false) in
+    let d = digit _ _ _ c.loop-i-test.true c.loop-i.invariant
+    (sym c.is_digit.ensures ∙ c.if-not-is_digit.false) in
     typed_more _ _ _ d.within d.typed d.is_one c.if-value-ge4294967296.false
 
 pub overflow_sub-value : goal.overflow_sub-value

@@ -18,7 +18,8 @@ use Rattle.wave_data.proofs.LayLaws.{laid_none, laid_more}
 use Rattle.wave_data.proofs.lay_frames.Goals as goal
 
 -- a sample that was read has 16 bits
-sixteen : (samples : List ℤ) → within16 samples ≡ true → (i : ℕ) → i < length samples → SFits w16 (get_or samples i (pos 0))
+sixteen : (samples : List ℤ) → within16 samples ≡ true → (i : ℕ) → i < length samples
+    → SFits w16 (get_or samples i (pos 0))
 sixteen samples b i h = record { sfits = within-at 32768 samples i b h }
 
 pub overflow_cast-left : goal.overflow_cast-left
@@ -33,16 +34,14 @@ overflow_cast-right c =
 
 pub loop-i-preserved : goal.loop-i-preserved
 loop-i-preserved c =
-    let l = c.loop-i in
     let samples = c.args.samples.now in
     let f : SFits w32 (get_or samples (2 * c.loop-i.i) (pos 0)) = search rules in
     let g : SFits w32 (get_or samples (2 * c.loop-i.i + 1) (pos 0)) = search rules in
     let e = rw (
       to_z-of_z f,
-      to_z-of_z (sixteen c.args.samples.now c.requires.within (2 * c.loop-i.i) (omega arith)),
+      to_z-of_z (sixteen samples c.requires.within (2 * c.loop-i.i) (omega arith)),
       to_z-of_z g,
-      to_z-of_z
-          (sixteen c.args.samples.now c.requires.within (2 * c.loop-i.i + 1) (omega arith)),
+      to_z-of_z (sixteen samples c.requires.within (2 * c.loop-i.i + 1) (omega arith)),
     ) at c.lay_frame.ensures in
     laid_more samples _ c.requires.fits c.loop-i.out _ c.loop-i.i (omega arith) c.loop-i.invariant e
 

@@ -17,7 +17,6 @@ bounds-samples-i c =
 
 pub loop-i-preserved : goal.loop-i-preserved
 loop-i-preserved c =
-    let l = c.loop-i in
     let n = file_samples_lem c.args.file.now in
     let f : SFits w16 c.signed_word.result = search rules in
     let g : SFits w32 c.signed_word.result = record { sfits = omega (arith, f.sfits) } in

@@ -20,8 +20,8 @@ returns-in_default c =
     export_refused _ _ _ _ _ c.in_default.is c.export_refusal-outcome.ensures
 
 -- what holds where nothing is refused
-ready : (rate : ℕ) (samples : List ℤ) (room : ℕ) (o : Outcome) → outcome_number o ≡ export_refusal rate samples room
-    → o ≡ Outcome.Accepted → Ready rate samples room
+ready : (rate : ℕ) (samples : List ℤ) (room : ℕ) (o : Outcome)
+    → outcome_number o ≡ export_refusal rate samples room → o ≡ Outcome.Accepted → Ready rate samples room
 ready rate samples room o e a = export_ready rate samples room (sym e ∙ ap outcome_number a)
 
 pub overflow_cast-size : goal.overflow_cast-size

@@ -17,11 +17,14 @@ loop-i-init c =
 
 pub loop-i-preserved : goal.loop-i-preserved
 loop-i-preserved c =
-    let l = c.loop-i in
-    let e = c.lay_number.ensures ∙ ap (λ (w : List ℕ). overlay c.loop-i.out (4 * c.loop-i.i) (little_endian 4 (get_or w c.loop-i.i 0))) c.loop-i.invariant.0 in
-    (c.loop-i.invariant.0, laid_more _ _ c.requires.room c.loop-i.out _ c.loop-i.i (omega arith) c.loop-i.invariant.1 e)
+    let e = c.lay_number.ensures
+    ∙ ap (λ (w : List ℕ). overlay c.loop-i.out (4 * c.loop-i.i) (little_endian 4 (get_or w c.loop-i.i 0)))
+    c.loop-i.invariant.0 in (
+      c.loop-i.invariant.0,
+      laid_more _ _ c.requires.room c.loop-i.out _ c.loop-i.i (omega arith) c.loop-i.invariant.1 e,
+    )
 
 pub returns : goal.returns
 returns c =
-    let a = c.args in
-    laid-all _ _ c.requires.room _ _ (omega arith) c.loop-i.invariant.1 ∙ ap (overlay _ 0) (header_words_lem c.args.rate c.args.size)
+    laid-all _ _ c.requires.room _ _ (omega arith) c.loop-i.invariant.1
+    ∙ ap (overlay _ 0) (header_words_lem c.args.rate c.args.size)

@@ -8,7 +8,8 @@ use Rattle.wave_file.proofs.HeaderLaws.{Laid}
 use Rattle.wave_file.proofs.lay_header.Given as goal
 
 abbrev pub invariant-loop-i : goal.invariant-loop-i
-invariant-loop-i l = (l.words ≡ header_words l.rate l.size) × Laid (header_words l.rate l.size) l.initial.out l.out l.i
+invariant-loop-i l =
+    (l.words ≡ header_words l.rate l.size) × Laid (header_words l.rate l.size) l.initial.out l.out l.i
 
 abbrev pub decreases-loop-i : goal.decreases-loop-i
 decreases-loop-i l = 11 - l.i

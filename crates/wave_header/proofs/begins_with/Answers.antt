@@ -25,7 +25,6 @@ byte_at file i h = get_or-take header_bytes file i 0 h
 
 pub returns-then-file-place : goal.returns-then-file-place
 returns-then-file-place c =
-    let l = c.loop-place in
     let file = c.args.file.now in
     let cut : length (take header_bytes file) ≡ header_bytes = length-take-le header_bytes file c.requires in
     compared_apart _ _ c.loop-place.place (omega arith) c.loop-place.invariant
@@ -33,7 +32,6 @@ returns-then-file-place c =
 
 pub loop-place-preserved : goal.loop-place-preserved
 loop-place-preserved c =
-    let l = c.loop-place in
     let file = c.args.file.now in
     let cut : length (take header_bytes file) ≡ header_bytes = length-take-le header_bytes file c.requires in
     compared_more _ _ c.loop-place.place (omega arith) c.loop-place.invariant
@@ -41,7 +39,6 @@ loop-place-preserved c =
 
 pub returns : goal.returns
 returns c =
-    let l = c.loop-place in
     let file = c.args.file.now in
     let cut : length (take header_bytes file) ≡ header_bytes = length-take-le header_bytes file c.requires in
     compared_all _ _ c.loop-place.place (omega arith) c.loop-place.invariant

@@ -23,7 +23,8 @@ overflow_sub-file c =
 pub returns-then-room-file : goal.returns-then-room-file
 returns-then-room-file c =
     let n = file_samples_lem c.args.file.now in
-    import_room _ _ c.if-file-gt-MAX_FILE_BYTES.false (sym c.is_wave.ensures ∙ c.if-not-is_wave.false) (omega arith)
+    import_room _ _ c.if-file-gt-MAX_FILE_BYTES.false (sym c.is_wave.ensures ∙ c.if-not-is_wave.false)
+    (omega arith)
 
 pub returns : goal.returns
 returns c =

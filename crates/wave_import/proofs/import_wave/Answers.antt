@@ -17,8 +17,8 @@ returns-in_default c =
     import_refused _ _ _ _ c.in_default.is c.import_refusal-outcome.ensures
 
 -- what holds where nothing is refused
-ready : (file : List ℕ) (room : ℕ) (o : Outcome) → outcome_number o ≡ import_refusal file room → o ≡ Outcome.Accepted
-    → Importable file room
+ready : (file : List ℕ) (room : ℕ) (o : Outcome) → outcome_number o ≡ import_refusal file room
+    → o ≡ Outcome.Accepted → Importable file room
 ready file room o e a = importable file room (sym e ∙ ap outcome_number a)
 
 pub take_samples-requires-clause-head : goal.take_samples-requires-clause-head
@@ -29,10 +29,12 @@ pub take_samples-requires-clause-room : goal.take_samples-requires-clause-room
 take_samples-requires-clause-room c = (ready _ _ _ c.import_refusal-outcome.ensures c.in-Accepted.is).enough
 
 pub rate_of-requires : goal.rate_of-requires
-rate_of-requires c = (wave-parts _ (ready _ _ _ c.import_refusal-outcome.ensures c.in-Accepted.is).wave).long
+rate_of-requires c =
+    (wave-parts _ (ready _ _ _ c.import_refusal-outcome.ensures c.in-Accepted.is).wave).long
 
 pub overflow_sub-result : goal.overflow_sub-result
-overflow_sub-result c = (wave-parts _ (ready _ _ _ c.import_refusal-outcome.ensures c.in-Accepted.is).wave).long
+overflow_sub-result c =
+    (wave-parts _ (ready _ _ _ c.import_refusal-outcome.ensures c.in-Accepted.is).wave).long
 
 pub overflow_cast-result : goal.overflow_cast-result
 overflow_cast-result c =
@@ -41,5 +43,5 @@ overflow_cast-result c =
 
 pub returns : goal.returns
 returns c =
-    import_accepted _ _ _ _ _ (ready _ _ _ c.import_refusal-outcome.ensures c.in-Accepted.is) c.rate_of.ensures refl
-    c.take_samples.ensures
+    import_accepted _ _ _ _ _ (ready _ _ _ c.import_refusal-outcome.ensures c.in-Accepted.is)
+    c.rate_of.ensures refl c.take_samples.ensures

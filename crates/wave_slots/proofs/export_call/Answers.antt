@@ -9,8 +9,10 @@ returns-then-answer-lt1 c = export_short _ _ _ _ _ c.number.ensures (omega (arit
 
 pub returns-in_default : goal.returns-in_default
 returns-in_default c =
-    export_refused _ _ _ _ _ _ _ _ _ c.if-answer-lt1.false c.export_wave-told.ensures c.in_default.is c.outcome_number.ensures
+    export_refused _ _ _ _ _ _ _ _ _ c.if-answer-lt1.false c.export_wave-told.ensures c.in_default.is
+    c.outcome_number.ensures
 
 pub returns : goal.returns
 returns c =
-    export_laid _ _ _ _ _ _ _ _ c.if-answer-lt1.false c.export_wave-told.ensures c.in-Accepted.is c.lay_words.ensures
+    export_laid _ _ _ _ _ _ _ _ c.if-answer-lt1.false c.export_wave-told.ensures c.in-Accepted.is
+    c.lay_words.ensures

@@ -9,8 +9,10 @@ returns-then-answer-lt2 c = import_short _ _ _ _ c.number.ensures (omega (arith,
 
 pub returns-in_default : goal.returns-in_default
 returns-in_default c =
-    import_refused _ _ _ _ _ _ _ _ _ c.if-answer-lt2.false c.import_wave-told.ensures c.in_default.is c.outcome_number.ensures
+    import_refused _ _ _ _ _ _ _ _ _ c.if-answer-lt2.false c.import_wave-told.ensures c.in_default.is
+    c.outcome_number.ensures
 
 pub returns : goal.returns
 returns c =
-    import_laid _ _ _ _ _ _ _ _ c.if-answer-lt2.false c.import_wave-told.ensures c.in-Accepted.is c.lay_words.ensures
+    import_laid _ _ _ _ _ _ _ _ c.if-answer-lt2.false c.import_wave-told.ensures c.in-Accepted.is
+    c.lay_words.ensures

@@ -16,7 +16,6 @@ loop-i-init c = printed-none _ _ _
 
 pub loop-i-preserved : goal.loop-i-preserved
 loop-i-preserved c =
-    let l = c.loop-i in
     let v = c.args.samples.now in
     let left : SFits w32 (get_or v c.loop-i.i (pos 0)) = search rules in
     let right : SFits w32 (get_or v (c.loop-i.i + 1) (pos 0)) = search rules in

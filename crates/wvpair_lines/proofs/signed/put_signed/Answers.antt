@@ -37,9 +37,7 @@ returns-then-v-lt0-clause-text c =
     let t : lt_z v (pos 0) ≡ true = rw (to_z-of_z f) at c.if-v-lt0.true in
     let n : c.distance.result ≡ nat_abs v = c.distance.ensures
     ∙ ap nat_abs (to_z-of_z f) in
-    let l = negative-put v _ (omega (arith, c.requires)) t n c.put_byte-first.ensures
-    c.put_decimal.ensures in
-    l
+    negative-put v _ (omega (arith, c.requires)) t n c.put_byte-first.ensures c.put_decimal.ensures
 
 pub returns-then-v-lt0-clause-short : goal.returns-then-v-lt0-clause-short
 returns-then-v-lt0-clause-short c =
@@ -59,8 +57,7 @@ returns-clause-text c =
     let t : lt_z v (pos 0) ≡ false = rw (to_z-of_z f) at c.if-v-lt0.false in
     let n : c.distance-2.result ≡ nat_abs v = c.distance-2.ensures
     ∙ ap nat_abs (to_z-of_z f) in
-    let l = unsigned-put v _ t n c.put_decimal-2.ensures in
-    l
+    unsigned-put v _ t n c.put_decimal-2.ensures
 
 pub returns-clause-short : goal.returns-clause-short
 returns-clause-short c =
