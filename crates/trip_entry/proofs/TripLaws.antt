@@ -26,7 +26,7 @@ use Rattle.packing.specs.Entry.{PackTold, view_packing, refusal_before_span, spa
 use Rattle.packing.specs.declared.PackAnswer.{PackAnswer}
 use Rattle.packing.proofs.EntryLaws.{refusal_is, pack-refused, span_decides, packing_accepted, bytes-few, bits-within, bits-few}
 use Rattle.packing.proofs.RefusalLaws.{Ready, ready}
-use Rattle.trip_steps.specs.Steps.{early_refusal, came_back, read_back, BackIs}
+use Rattle.trip_steps.specs.Steps.{early_refusal, read_back, BackIs}
 use Rattle.trip_entry.specs.declared.TripAnswer.{TripAnswer}
 use Rattle.trip_entry.specs.Trip.{TripTold, view_trip, refuse_trip, tell_trip}
 use Rattle.trip_entry.specs.Trip.{trip_refusal, found, trip_entry, TripRefuses}
