@@ -32,11 +32,16 @@ fn print_input(rt: &impl Print, input: &[u8], threshold: u32) -> io::Result<()> 
     print(rt, &page[..written])
 }
 
-// Prints the page of the recording on standard input.
+// Prints the page of the recording on standard input, for which room is lent.
+fn print_read(rt: &(impl Input + Print), room: &mut [u8], threshold: u32) -> io::Result<()> {
+    let n = read_full(&mut rt.reader(), room);
+    print_input(rt, &room[..n], threshold)
+}
+
+// The same, with room for the longest input and a byte more.
 fn print_page(rt: &(impl Input + Print), threshold: u32) -> io::Result<()> {
     let mut input = [0u8; LARGEST_INPUT + 1];
-    let n = read_full(&mut rt.reader(), &mut input[..]);
-    print_input(rt, &input[..n], threshold)
+    print_read(rt, &mut input, threshold)
 }
 
 fn main(rt: HostRuntime) -> io::Result<()> {
