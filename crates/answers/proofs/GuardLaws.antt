@@ -3,7 +3,7 @@
 use mathlib.Core.Path.{◌≡◌, refl}
 use Prim.Native.Nat.{ℕ, zero, suc, ◌<◌}
 use native.Mathlib.Omega.{arith}
-use Rattle.answers.specs.Guard.{or_else, unlessRefused}
+use Rattle.answers.specs.Guard.{or_else, unless_refused}
 
 -- an earlier refusal is the one that is told
 pub refused-first : (n later : ℕ) → 0 < n → or_else n later ≡ n
@@ -21,10 +21,10 @@ neither-refused (suc n) later e = absurd (omega arith)
 
 module _ {A : Type 0} where
   -- a refusal keeps
-  pub guard_refused : (n : ℕ) (kept : ℕ → A) (happens : A) → 0 < n → unlessRefused n kept happens ≡ kept n
+  pub guard_refused : (n : ℕ) (kept : ℕ → A) (happens : A) → 0 < n → unless_refused n kept happens ≡ kept n
   guard_refused zero kept happens h = absurd (omega arith)
   guard_refused (suc n) kept happens h = refl
 
   -- 0 lets it happen
-  pub guard_accepted : (n : ℕ) (kept : ℕ → A) (happens : A) → n ≡ 0 → unlessRefused n kept happens ≡ happens
+  pub guard_accepted : (n : ℕ) (kept : ℕ → A) (happens : A) → n ≡ 0 → unless_refused n kept happens ≡ happens
   guard_accepted n kept happens e = rw e

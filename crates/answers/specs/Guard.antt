@@ -10,6 +10,6 @@ or_else zero later = later
 or_else (suc earlier) later = suc earlier
 
 -- nothing happens where a number is a refusal: what is then told and kept, else what happens
-abbrev pub unlessRefused {ℓ} : {A : Type ℓ} → ℕ → (ℕ → A) → A → A
-unlessRefused zero kept happens = happens
-unlessRefused (suc number) kept happens = kept (suc number)
+abbrev pub unless_refused {ℓ} : {A : Type ℓ} → ℕ → (ℕ → A) → A → A
+unless_refused zero kept happens = happens
+unless_refused (suc number) kept happens = kept (suc number)

@@ -16,7 +16,7 @@ use archive_keys::{CHUNK, chain, either, mark_key};
 use recording_heads::{Head, bytes_taken, head_at};
 
 // Keys that were loaded, and the place of the recording after them.
-#[derive(Drop)]
+#[derive(Clone, Copy)]
 struct Loaded {
     count: usize,
     next: usize,
@@ -24,7 +24,7 @@ struct Loaded {
 
 // A chunk: its recordings and which of them are superseded, the place after it, and whether one of
 // them stands in the file twice.
-#[derive(Drop)]
+#[derive(Clone, Copy)]
 pub struct Chunk {
     pub count: usize,
     pub next: usize,

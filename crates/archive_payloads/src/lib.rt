@@ -16,7 +16,7 @@ use recording_heads::{Head, bytes_taken, head_at};
 
 // How far a walk over the recordings has come: the place of the next one, how many are in force, and
 // the bytes of their payloads.
-#[derive(Drop)]
+#[derive(Clone, Copy)]
 pub struct Done {
     pub place: usize,
     pub recordings: usize,

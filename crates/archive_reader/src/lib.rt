@@ -16,7 +16,7 @@ use block_faults::{blocks_in, good_blocks};
 
 // What the reader answers: the first bad block where it refuses with 18; recordings in force and the
 // bytes of their payloads, both 0 on refusal.
-#[derive(Drop)]
+#[derive(Clone, Copy)]
 pub struct ArchiveRead {
     pub outcome: Outcome,
     pub block: usize,
@@ -25,7 +25,7 @@ pub struct ArchiveRead {
 }
 
 // What is counted before anything is written.
-#[derive(Drop)]
+#[derive(Clone, Copy)]
 struct Counts {
     twice: bool,
     recordings: usize,

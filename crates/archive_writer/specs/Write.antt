@@ -1,7 +1,7 @@
 -- Document 02 §9: what the writer of an archive answers, and what the lent storage then holds (Q9.10).
 -- Assumes nothing.
 use Rattle.std.specs.Prelude.{ℕ, cond, List, ltb, length}
-use Rattle.answers.specs.Guard.{unlessRefused}
+use Rattle.answers.specs.Guard.{unless_refused}
 use Rattle.answers.specs.Limits.{max_payload_bytes}
 use Rattle.answers.specs.Numbers.{outcome_number}
 use Rattle.overlay.specs.Overlay.{overlay}
@@ -34,4 +34,4 @@ tell_write out bytes = record { refusal = 0; bytes = length bytes; out = overlay
 -- what the writer answers
 unfoldable pub write_entry : Recording → List ℕ → WriteTold
 write_entry r out =
-    unlessRefused (write_refusal r (length out)) (refuse_write out) (tell_write out (recording_bytes r))
+    unless_refused (write_refusal r (length out)) (refuse_write out) (tell_write out (recording_bytes r))

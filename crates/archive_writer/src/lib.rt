@@ -17,7 +17,7 @@ use block_laying::lay_block;
 use little_endian::number_bytes;
 
 // What the writer answers: how many bytes it wrote, 0 on refusal.
-#[derive(Drop)]
+#[derive(Clone, Copy)]
 pub struct Written {
     pub outcome: Outcome,
     pub bytes: usize,

@@ -7,14 +7,14 @@
 #![tactic(auto)]
 
 // What reading a field finds: its value and the place after it, or that a bit is missing.
-#[derive(Drop)]
+#[derive(Clone, Copy)]
 pub enum Field {
     Value(u32, usize),
     Truncated,
 }
 
 // The same of a payload of any size and a field of any width.
-#[derive(Drop)]
+#[derive(Clone, Copy)]
 pub enum BitAnswer {
     Value(u32, usize),
     // A bit is missing.
@@ -24,7 +24,7 @@ pub enum BitAnswer {
 }
 
 // What laying a field into a buffer answers: the place after it, or why nothing was laid.
-#[derive(Drop)]
+#[derive(Clone, Copy)]
 pub enum PutAnswer {
     Next(usize),
     // The buffer ends before the field does.

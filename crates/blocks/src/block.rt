@@ -23,7 +23,7 @@ pub struct Head {
 }
 
 // What became of a block: the bits that reading used, and what agrees with the file.
-#[derive(Drop)]
+#[derive(Clone, Copy)]
 pub struct Verdict {
     pub bits: usize,
     pub samples_agree: bool,

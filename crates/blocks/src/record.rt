@@ -7,7 +7,7 @@ use std::io::Read;
 use test_support::numbers::{read_byte, read_word};
 
 // The passes of a block; `complete` where pass making accepts each.
-#[derive(Drop)]
+#[derive(Clone, Copy)]
 pub struct Passes {
     pub complete: bool,
     pub list: [DecorrPass; 16],

@@ -16,7 +16,7 @@ use bits::Field;
 use fields::bit_length;
 
 // A code out of a window, and how many bits it takes.
-#[derive(Drop)]
+#[derive(Clone, Copy)]
 pub struct WindowCode {
     pub code: u32,
     pub used: u32,

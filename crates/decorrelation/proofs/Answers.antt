@@ -8,7 +8,7 @@ use borrow.Author.Tests.{lt-ltb}
 use lib.Dec.{ltb}
 use lib.IntN.{ℤ}
 use lib.ListN.{length, take, drop}
-use Rattle.answers.specs.Guard.{unlessRefused}
+use Rattle.answers.specs.Guard.{unless_refused}
 use Rattle.answers.specs.Limits.{max_elements, max_passes}
 use Rattle.answers.specs.Numbers.{outcome_number}
 use Rattle.answers.specs.declared.Outcome.{Outcome}
@@ -28,7 +28,7 @@ number_by_lem Decorrelation v n m = refl
 number_by_lem Analysis v n m = refl
 
 -- the number that an answer tells
-pub refusal-told : (n : ℕ) (c : Chain) (ps : List DecorrPass) (l : List ℤ) → (unlessRefused n (refuse_list ps l) (done c)).refusal ≡ n
+pub refusal-told : (n : ℕ) (c : Chain) (ps : List DecorrPass) (l : List ℤ) → (unless_refused n (refuse_list ps l) (done c)).refusal ≡ n
 refusal-told zero c ps l = refl
 refusal-told (suc n) c ps l = refl
 
@@ -43,11 +43,11 @@ accepted-zero (Outcome.Refused x) a = cc
 module _ (ps : List DecorrPass) (l : List ℤ) (r : Outcome) (n : ℕ) (e : outcome_number r ≡ n) (c : Chain) where
   -- an accepted list answers what its run left
   told-done : {zs : List DecorrPass} {cs : List ℤ} → accepted_by r ≡ true → record { passes = zs; buffer = cs } ≡ c
-      → record { refusal = outcome_number r; passes = zs; buffer = cs } ≡ unlessRefused n (refuse_list ps l) (done c)
+      → record { refusal = outcome_number r; passes = zs; buffer = cs } ≡ unless_refused n (refuse_list ps l) (done c)
   told-done a f = let z : outcome_number r ≡ 0 = accepted-zero r a in rw (← e, z) (ap done f)
 
   -- a refused list answers what it was given
-  told-kept : accepted_by r ≡ false → record { refusal = outcome_number r; passes = ps; buffer = l } ≡ unlessRefused n (refuse_list ps l) (done c)
+  told-kept : accepted_by r ≡ false → record { refusal = outcome_number r; passes = ps; buffer = l } ≡ unless_refused n (refuse_list ps l) (done c)
   told-kept a = rw (← e) (sym (guard_refused (outcome_number r) (refuse_list ps l) (done c) (refused-positive r a)))
 
 module _ (dir : Direction) (ps : List DecorrPass) (l : List ℤ) where

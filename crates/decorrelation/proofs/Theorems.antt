@@ -11,7 +11,7 @@ use lib.Dec.{ltb}
 use lib.IntN.{ℤ}
 use lib.ListN.{length, take, drop, take-append-drop}
 use lib.Seq.{length-take-le, take-length}
-use Rattle.answers.specs.Guard.{unlessRefused}
+use Rattle.answers.specs.Guard.{unless_refused}
 use Rattle.answers.specs.Limits.{max_elements, max_passes}
 use Rattle.passes.specs.Run.{Fit, passed, Chain, decorrelated, analysed}
 use Rattle.passes.specs.declared.DecorrPass.{DecorrPass}
@@ -57,7 +57,7 @@ module _ (ps : List DecorrPass) (l : List ℤ) (h : Accepted ps l) (fit : Fit l)
       rw (listed-accepts Decorrelation ps l h, listed-accepts Analysis ps (decorrelated ps l).buffer after-decorrelation) (ap done (analysed-decorrelated ps l fit))
 
 unique_by : (n : ℕ) (ps : List DecorrPass) (r s : List ℤ) → Fit r → Fit s
-    → (unlessRefused n (refuse_list ps r) (done (decorrelated ps r))).buffer ≡ (unlessRefused n (refuse_list ps s) (done (decorrelated ps s))).buffer → r ≡ s
+    → (unless_refused n (refuse_list ps r) (done (decorrelated ps r))).buffer ≡ (unless_refused n (refuse_list ps s) (done (decorrelated ps s))).buffer → r ≡ s
 unique_by zero ps r s hr hs e = residuals_unique ps r s hr hs e
 unique_by (suc n) ps r s hr hs e = e
 
@@ -89,7 +89,7 @@ analysis_finds ps x h fit =
       only = λ s hs e d. decorrelation_unique ps s (analysis ps x).buffer (e ∙ sym len) hs good (d ∙ sym back);
     }
 
-bounded_by : (n : ℕ) (c : Chain) (ps : List DecorrPass) (l : List ℤ) → AllBounded ps → AllBounded c.passes → AllBounded (unlessRefused n (refuse_list ps l) (done c)).passes
+bounded_by : (n : ℕ) (c : Chain) (ps : List DecorrPass) (l : List ℤ) → AllBounded ps → AllBounded c.passes → AllBounded (unless_refused n (refuse_list ps l) (done c)).passes
 bounded_by zero c ps l h k = k
 bounded_by (suc n) c ps l h k = h
 
@@ -118,7 +118,7 @@ chained-count : (dir : Direction) (ps : List DecorrPass) (l : List ℤ) → leng
 chained-count Decorrelation ps l = decorrelated-count ps l
 chained-count Analysis ps l = analysed-count ps l
 
-count_by : (k : ℕ) (c : Chain) (ps : List DecorrPass) (l : List ℤ) → length c.passes ≡ length ps → length (unlessRefused k (refuse_list ps l) (done c)).passes ≡ length ps
+count_by : (k : ℕ) (c : Chain) (ps : List DecorrPass) (l : List ℤ) → length c.passes ≡ length ps → length (unless_refused k (refuse_list ps l) (done c)).passes ≡ length ps
 count_by zero c ps l h = h
 count_by (suc k) c ps l h = refl
 
@@ -133,7 +133,7 @@ abbrev pub extended : List DecorrPass → Answer → Answer
 extended rest a = record { refusal = a.refusal; passes = a.passes ++ rest; buffer = a.buffer }
 
 extended-by : (k : ℕ) (c : Chain) (ps rest : List DecorrPass) (l : List ℤ)
-    → unlessRefused k (refuse_list (ps ++ rest) l) (done (followed rest c)) ≡ extended rest (unlessRefused k (refuse_list ps l) (done c))
+    → unless_refused k (refuse_list (ps ++ rest) l) (done (followed rest c)) ≡ extended rest (unless_refused k (refuse_list ps l) (done c))
 extended-by zero c ps rest l = refl
 extended-by (suc k) c ps rest l = refl
 
@@ -144,7 +144,7 @@ array_as_list dir ps n l k =
     let whole : take n ps ++ drop n ps ≡ ps = take-append-drop n ps in
     let number = number_by dir (all_valid (take n ps)) n (length l) in
     rw (length-take-le n ps k)
-    (ap (λ qs. unlessRefused number (refuse_list qs l) (done (followed (drop n ps) (chained dir (take n ps) l)))) (sym whole)
+    (ap (λ qs. unless_refused number (refuse_list qs l) (done (followed (drop n ps) (chained dir (take n ps) l)))) (sym whole)
     ∙ extended-by number (chained dir (take n ps) l) (take n ps) (drop n ps) l)
 
 -- what the array form accepts: at most 16 passes, at most 262,144 elements, and valid terms

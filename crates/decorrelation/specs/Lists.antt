@@ -2,7 +2,7 @@
 -- what they refuse (X5, `list_tests`). What they do to passes and buffer is defined in `passes`. Assumes
 -- nothing.
 use Rattle.std.specs.Prelude.{Bool, List, ◌++◌, ℕ, ℤ, length, take, drop}
-use Rattle.answers.specs.Guard.{unlessRefused}
+use Rattle.answers.specs.Guard.{unless_refused}
 use Rattle.passes.specs.Run.{Chain}
 use Rattle.passes.specs.declared.DecorrPass.{DecorrPass}
 use Rattle.passes.specs.declared.Direction.{Direction}
@@ -39,7 +39,7 @@ number_by Analysis valid passes elements = analysis_number valid passes elements
 
 -- a buffer by a list of passes, in either direction
 unfoldable pub listed : Direction → List DecorrPass → List ℤ → Answer
-listed d ps l = unlessRefused (number_by d (all_valid ps) (length ps) (length l)) (refuse_list ps l) (done (chained d ps l))
+listed d ps l = unless_refused (number_by d (all_valid ps) (length ps) (length l)) (refuse_list ps l) (done (chained d ps l))
 
 -- decorrelation of a buffer by a list of passes
 abbrev pub decorrelation : List DecorrPass → List ℤ → Answer
@@ -57,4 +57,4 @@ followed rest c = record { passes = c.passes ++ rest; buffer = c.buffer }
 -- refused by their number
 unfoldable pub array_answer : Direction → List DecorrPass → ℕ → List ℤ → Answer
 array_answer d ps n l =
-    unlessRefused (number_by d (all_valid (take n ps)) n (length l)) (refuse_list ps l) (done (followed (drop n ps) (chained d (take n ps) l)))
+    unless_refused (number_by d (all_valid (take n ps)) n (length l)) (refuse_list ps l) (done (followed (drop n ps) (chained d (take n ps) l)))

@@ -14,7 +14,7 @@ use list_tests::{array_valid, is_accepted, list_outcome};
 use passes::{DecorrPass, Direction};
 
 // What the entries of an array answer: the passes after the first `count` keep their values.
-#[derive(Drop)]
+#[derive(Clone, Copy)]
 pub struct ListAnswer {
     pub outcome: Outcome,
     pub passes: [DecorrPass; MAX_PASSES],

@@ -12,7 +12,7 @@ use mir.Syntax.{w32}
 use mir.ValLaws.{to_z-of_z}
 use borrow.Author.Tests.{ne_eqb, eqb-true, eqb-false}
 use Rattle.answers.specs.declared.Outcome.{Outcome}
-use Rattle.answers.specs.Guard.{or_else, unlessRefused}
+use Rattle.answers.specs.Guard.{or_else, unless_refused}
 use Rattle.answers.specs.Numbers.{outcome_number}
 use Rattle.answers.proofs.GuardLaws.{guard_refused, guard_accepted}
 use Rattle.answers.proofs.TestLaws.{neither}
@@ -96,7 +96,7 @@ pub info_stereo : (p : List ℕ) → length p ≡ 12 → entropy_refusal p ≡ 0
 unfolding is_mono
 info_stereo p h e = info_accepted p e ∙ rw h
 
-by_case : (P : EntropyInfo → Type 0) (n : ℕ) (a : Bool) {x y z : EntropyInfo} → P x → P y → P z → P (unlessRefused n (λ number. z) (cond a x y))
+by_case : (P : EntropyInfo → Type 0) (n : ℕ) (a : Bool) {x y z : EntropyInfo} → P x → P y → P z → P (unless_refused n (λ number. z) (cond a x y))
 by_case P zero true h k l = h
 by_case P zero false h k l = k
 by_case P (suc n) a h k l = l

@@ -1,7 +1,7 @@
 -- Document 01, "Entropy": what an entropy payload holds.
 -- Assumes nothing.
 use Rattle.std.specs.Prelude.{ℕ, suc, Bool, false, cond, ◌||◌, List, [], ◌∷◌, eqb, ℤ, pos, length, get_or, drop}
-use Rattle.answers.specs.Guard.{or_else, unlessRefused}
+use Rattle.answers.specs.Guard.{or_else, unless_refused}
 use Rattle.little_endian.specs.LittleEndian.{signed_word}
 use Rattle.logpack.specs.LogWord.{log_word}
 use Rattle.logpack.specs.Reach.{out_of_reach}
@@ -55,4 +55,4 @@ entropy_refusal payload = or_else (length_refusal payload) (cond (past_reach pay
 -- document 01, "Entropy" (E1): "6 bytes are mono, 12 stereo"
 unfoldable pub entropy_info : List ℕ → EntropyInfo
 entropy_info payload =
-    unlessRefused (entropy_refusal payload) (λ number. no_info) (cond (is_mono payload) (mono_info payload) (stereo_info payload))
+    unless_refused (entropy_refusal payload) (λ number. no_info) (cond (is_mono payload) (mono_info payload) (stereo_info payload))

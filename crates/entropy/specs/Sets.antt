@@ -3,7 +3,7 @@
 -- Assumes nothing.
 -- ---- for the code alone
 use Rattle.std.specs.Prelude.{ℕ, cond, List, [], ◌∷◌, ℤ}
-use Rattle.answers.specs.Guard.{or_else, unlessRefused}
+use Rattle.answers.specs.Guard.{or_else, unless_refused}
 use Rattle.answers.specs.Numbers.{outcome_number}
 use Rattle.logpack.specs.Reach.{log_word_told}
 use Rattle.entropy.specs.declared.EntropyInfo.{EntropyInfo}
@@ -29,4 +29,4 @@ sets_of left right = record { medians_left = left.medians; medians_right = right
 -- are told where none is
 abbrev pub both_told : SetAnswer → SetAnswer → EntropyInfo
 both_told left right =
-    unlessRefused (both_refusal left right) (λ number. no_info) (sets_of left right)
+    unless_refused (both_refusal left right) (λ number. no_info) (sets_of left right)

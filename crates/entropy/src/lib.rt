@@ -21,21 +21,21 @@ pub struct EntropyInfo {
 }
 
 // What expanding one set answers; the median of a refused word is 0.
-#[derive(Drop)]
+#[derive(Clone, Copy)]
 pub struct SetAnswer {
     pub outcome: Outcome,
     pub medians: [i32; 3],
 }
 
 // What expanding an entropy payload answers; on refusal all medians are 0.
-#[derive(Drop)]
+#[derive(Clone, Copy)]
 pub struct EntropyAnswer {
     pub outcome: Outcome,
     pub info: EntropyInfo,
 }
 
 // The medians of both channels, left first, that an entropy payload seeds; on refusal all are 0.
-#[derive(Drop)]
+#[derive(Clone, Copy)]
 pub struct MedianAnswer {
     pub outcome: Outcome,
     pub medians: [AdaptiveMedians; 2],

@@ -3,7 +3,7 @@
 #![tactic(auto)]
 
 ghost use Rattle.std.specs.Prelude.{◌≡◌};
-ghost use Rattle.slots.specs.Slots.{leaveValues};
+ghost use Rattle.slots.specs.Slots.{leave_values};
 ghost use Rattle.entropy_slots.specs.EntropySlots.{entropy_values, entropy_answer};
 
 use answers::{Outcome, Refusal, number, outcome_number};
@@ -15,7 +15,7 @@ use slots::lay;
 pub fn entropy_medians(entropy: &[u8], medians: &mut [i32]) -> u32
     ensures answer { result ≡ entropy_answer entropy.now medians.old }
     ensures medians { medians.new
-        ≡ leaveValues result (entropy_values entropy.now) medians.old }
+        ≡ leave_values result (entropy_values entropy.now) medians.old }
 {
     if medians.len() < 6 {
         return number(Refusal::ListLength);

@@ -10,7 +10,7 @@ ghost use Rattle.fields.specs.Code.{bit_length};
 
 // What reading a prefix finds: its value and the place after it, the second count that ends a
 // stream, or that a bit is missing or a count or the value is over its cap.
-#[derive(Drop)]
+#[derive(Clone, Copy)]
 pub enum Prefix {
     Value(u32, usize),
     EndOfStream,
@@ -18,7 +18,7 @@ pub enum Prefix {
 }
 
 // Bits as a number, low bit first, and how many they are.
-#[derive(Drop)]
+#[derive(Clone, Copy)]
 pub struct Gathered {
     pub value: u64,
     pub count: usize,

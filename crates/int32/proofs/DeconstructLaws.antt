@@ -11,7 +11,7 @@ use lib.IntN.{ℤ}
 use lib.ListN.{length}
 use Rattle.answers.specs.declared.Outcome.{Outcome}
 use Rattle.answers.specs.declared.Refusal.{Refusal}
-use Rattle.answers.specs.Guard.{unlessRefused}
+use Rattle.answers.specs.Guard.{unless_refused}
 use Rattle.answers.specs.Limits.{max_elements}
 use Rattle.answers.specs.Numbers.{outcome_number}
 use Rattle.answers.proofs.GuardLaws.{refused-first, refused-later, neither-refused, guard_refused}
@@ -122,7 +122,7 @@ module _ (info : Int32Info) (samples : List ℤ) (literal : List ℕ) where
   unfolding deconstruct_entry
   deconstruct_number = go (deconstruct_refusal info samples (length literal))
     where
-      go : (m : ℕ) → (unlessRefused m (refuse_deconstruct samples literal)
+      go : (m : ℕ) → (unless_refused m (refuse_deconstruct samples literal)
           (tell_deconstruct info samples literal)).refusal ≡ m
       go zero = refl
       go (suc m) = refl

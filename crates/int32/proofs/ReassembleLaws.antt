@@ -11,7 +11,7 @@ use lib.IntN.{ℤ}
 use lib.ListN.{length, length-map}
 use Rattle.answers.specs.declared.Outcome.{Outcome}
 use Rattle.answers.specs.declared.Refusal.{Refusal}
-use Rattle.answers.specs.Guard.{unlessRefused}
+use Rattle.answers.specs.Guard.{unless_refused}
 use Rattle.answers.specs.Limits.{max_elements}
 use Rattle.answers.specs.Numbers.{outcome_number}
 use Rattle.answers.proofs.GuardLaws.{refused-first, refused-later, neither-refused, guard_refused}
@@ -90,7 +90,7 @@ module _ (info : Int32Info) (samples : List ℤ) (literal : List ℕ) where
   unfolding reassemble_entry
   reassemble_number = go (reassemble_refusal info (length samples) (length literal))
     where
-      go : (m : ℕ) → (unlessRefused m (refuse_reassemble samples)
+      go : (m : ℕ) → (unless_refused m (refuse_reassemble samples)
           (record {
             refusal = 0;
             bits = length samples * info.sent_bits;

@@ -1,7 +1,7 @@
 -- Document 02 §6: what the way back answers, and what samples and literal storage then hold.
 -- Assumes nothing.
 use Rattle.std.specs.Prelude.{Bool, true, cond, ◌&&◌, List, [], ◌∷◌, ◌++◌, map, ℕ, ◌*◌, ltb, ℤ, length}
-use Rattle.answers.specs.Guard.{or_else, unlessRefused}
+use Rattle.answers.specs.Guard.{or_else, unless_refused}
 use Rattle.answers.specs.Numbers.{outcome_number}
 use Rattle.overlay.specs.Overlay.{overlay}
 use Rattle.bits.specs.Bits.{low}
@@ -65,5 +65,5 @@ tell_deconstruct info samples literal =
 -- what the way back answers
 unfoldable pub deconstruct_entry : Int32Info → List ℤ → List ℕ → DeconstructTold
 deconstruct_entry info samples literal =
-    unlessRefused (deconstruct_refusal info samples (length literal)) (refuse_deconstruct samples literal)
+    unless_refused (deconstruct_refusal info samples (length literal)) (refuse_deconstruct samples literal)
     (tell_deconstruct info samples literal)

@@ -1,7 +1,7 @@
 -- Document 02 §6: what reassembly answers, and what the samples then are.
 -- Assumes nothing.
 use Rattle.std.specs.Prelude.{Bool, cond, List, [], ◌∷◌, map, ℕ, ◌*◌, ◌≤◌, ltb, ℤ, length, take, drop}
-use Rattle.answers.specs.Guard.{or_else, unlessRefused}
+use Rattle.answers.specs.Guard.{or_else, unless_refused}
 use Rattle.answers.specs.Limits.{max_elements}
 use Rattle.answers.specs.Numbers.{outcome_number}
 use Rattle.bits.specs.Bits.{num, bits_of}
@@ -48,7 +48,7 @@ refuse_reassemble samples number = record { refusal = number; bits = 0; samples 
 -- what reassembly answers
 unfoldable pub reassemble_entry : Int32Info → List ℤ → List ℕ → ReassembleTold
 reassemble_entry info samples literal =
-    unlessRefused (reassemble_refusal info (length samples) (length literal)) (refuse_reassemble samples)
+    unless_refused (reassemble_refusal info (length samples) (length literal)) (refuse_reassemble samples)
     (record {
       refusal = 0;
       bits = length samples * info.sent_bits;

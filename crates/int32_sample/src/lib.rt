@@ -8,7 +8,7 @@ ghost use Rattle.int32_sample.specs.Sample.{below, low_bits, above};
 ghost use Rattle.int32_sample.specs.Setting.{setting, all_ones, width, even_bits, odd_bits};
 
 // Which bits are put in below a sample, and how many: below an even sample, and below an odd one.
-#[derive(Drop)]
+#[derive(Clone, Copy)]
 pub struct Redundancy {
     pub count: u32,
     pub even: u32,

@@ -5,7 +5,7 @@ use Rattle.std.specs.Prelude.{cond, List, [], ◌∷◌, ℕ, ltb, ℤ, length}
 use Rattle.int32.specs.declared.Int32Info.{Int32Info}
 use Rattle.int32.specs.Reassemble.{ReassembleTold, reassemble_entry}
 use Rattle.int32.specs.Deconstruct.{DeconstructTold, deconstruct_entry}
-use Rattle.slots.specs.Slots.{Filled, fill_call, leaveValues}
+use Rattle.slots.specs.Slots.{Filled, fill_call, leave_values}
 
 -- what reassembly answers, with 1 slot: the literal bits read
 abbrev pub leave_reassemble : List ℤ → List ℕ → ReassembleTold → Filled ℤ
@@ -32,7 +32,7 @@ leave_deconstruct samples literal answer t =
       refusal = t.refusal;
       samples = t.samples;
       literal = t.literal;
-      answer = leaveValues t.refusal (t.bits ∷ []) answer;
+      answer = leave_values t.refusal (t.bits ∷ []) answer;
     })
 
 -- the number that `wv_deconstruct_int32` answers, and what its three lists then hold

@@ -17,7 +17,7 @@ use pass_turns::{Frame, frame_at, store_frame, turn_plain, with_state};
 use passes::{DecorrPass, Direction};
 
 // The weights of both channels.
-#[derive(Drop)]
+#[derive(Clone, Copy)]
 pub struct Weights {
     pub a: i32,
     pub b: i32,

@@ -25,8 +25,8 @@ fn place(direction: Direction, n: usize, i: usize) -> usize
 // Runs every pass of a list over the buffer: in decorrelation the first one first, in analysis the
 // last one first. It refuses nothing.
 pub fn run_list(direction: Direction, passes: &mut [DecorrPass], buffer: &mut [i32])
-    ensures { record { passes = passes.exit.now; buffer = buffer.new }
-        ≡ chained direction passes.entry.now buffer.old }
+    ensures { record { passes = passes.new; buffer = buffer.new }
+        ≡ chained direction passes.old buffer.old }
 {
     let n = passes.len();
     let mut i: usize = 0;

@@ -13,7 +13,7 @@ use lib.Signed.{le_z}
 use mir.Syntax.{w32}
 use mir.Val.{SFits}
 use borrow.Author.Tests.{leb-false}
-use Rattle.answers.specs.Guard.{unlessRefused}
+use Rattle.answers.specs.Guard.{unless_refused}
 use Rattle.answers.proofs.TestLaws.{neither}
 use Rattle.wrapping.specs.Wrap.{wrap32}
 use Rattle.wrapping.proofs.WrapLaws.{wrap_id}
@@ -44,8 +44,8 @@ accepted-size (pos n) e = leb-false 8192 n (neither (leb 8192 n) false (in_reach
 accepted-size (negsuc n) e = let h = leb-false 8191 n (in_reach (negsuc n) e) in omega arith
 
 -- what is told of a word, by the test
-told-by : (w : ℤ) {b : Bool} → out_of_reach w ≡ b → log_word_told w ≡ unlessRefused (cond b 17 0) (λ number. pos 0) (log_word w)
-told-by w e = ap (λ (b : Bool). unlessRefused (cond b 17 0) (λ number. pos 0) (log_word w)) e
+told-by : (w : ℤ) {b : Bool} → out_of_reach w ≡ b → log_word_told w ≡ unless_refused (cond b 17 0) (λ number. pos 0) (log_word w)
+told-by w e = ap (λ (b : Bool). unless_refused (cond b 17 0) (λ number. pos 0) (log_word w)) e
 
 pub told-value : (w : ℤ) → out_of_reach w ≡ false → log_word_told w ≡ log_word w
 told-value w e = told-by w e
@@ -57,7 +57,7 @@ told-refused w e = told-by w e
 pub told-fits : (w : ℤ) → SFits w32 (log_word_told w)
 told-fits w = go (out_of_reach w)
   where
-    go : (b : Bool) → SFits w32 (unlessRefused (cond b 17 0) (λ number. pos 0) (log_word w))
+    go : (b : Bool) → SFits w32 (unless_refused (cond b 17 0) (λ number. pos 0) (log_word w))
     go true = record { sfits = omega arith }
     go false = log_word-fits w
 

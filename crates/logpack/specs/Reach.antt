@@ -3,7 +3,7 @@
 -- Assumes nothing.
 use Rattle.std.specs.Prelude.{◌≡◌, Bool, cond, ◌||◌, ℕ, ◌-◌, ◌*◌, ◌/◌, ◌^◌, ◌<◌, ◌≤◌, ℤ, pos, neg_ℤ, nat_abs}
 use Rattle.std.specs.Int.Signed.{le_z}
-use Rattle.answers.specs.Guard.{unlessRefused}
+use Rattle.answers.specs.Guard.{unless_refused}
 use Rattle.logpack.specs.LogWord.{mantissa, magnitude, log_word}
 
 -- (Q7.1) "a log word of 8192 or more or -8192 or less"
@@ -16,7 +16,7 @@ log_word_refusal w = cond (out_of_reach w) 17 0
 
 -- what the log word step tells: the value of every other word, and 0 with a refusal
 abbrev pub log_word_told : ℤ → ℤ
-log_word_told w = unlessRefused (log_word_refusal w) (λ number. pos 0) (log_word w)
+log_word_told w = unless_refused (log_word_refusal w) (λ number. pos 0) (log_word w)
 
 -- (Q7.1) "whose value no longer fits": that of an accepted word lies within -2,143,289,344 to
 -- 2,143,289,344

@@ -18,7 +18,7 @@ use exp2_table::mantissa;
 use little_endian::signed_word;
 
 // What expanding a log word answers; on refusal the value is 0.
-#[derive(Drop)]
+#[derive(Clone, Copy)]
 pub struct LogWordAnswer {
     pub outcome: Outcome,
     pub value: i32,

@@ -6,7 +6,7 @@ use Prim.Native.Nat.{ℕ, zero, suc, ◌≤◌, ◌<◌}
 use lib.IntN.{ℤ}
 use lib.ListN.{length}
 use borrow.Author.Tests.{lt-ltb, le-ltb}
-use Rattle.answers.specs.Guard.{unlessRefused}
+use Rattle.answers.specs.Guard.{unless_refused}
 use Rattle.answers.specs.declared.Outcome.{Outcome}
 use Rattle.answers.specs.declared.Refusal.{Refusal}
 use Rattle.answers.specs.Numbers.{outcome_number}
@@ -15,18 +15,18 @@ use Rattle.answers.proofs.GuardLaws.{guard_refused}
 use Rattle.passes.specs.Making.{making_refusal, Made, no_pass, made}
 use Rattle.passes.specs.declared.DecorrPass.{DecorrPass}
 use Rattle.overlay.specs.Overlay.{overlay}
-use Rattle.slots.specs.Slots.{leaveValues}
+use Rattle.slots.specs.Slots.{leave_values}
 use Rattle.made_slots.specs.MadeSlots.{pass_slots, slots_of, pass_answer, pass_values}
 
 -- pass making tells the number that it is given
-by-refusal : (n : ℕ) (p : DecorrPass) → (unlessRefused {A = Made} n (λ k. record { refusal = k; pass = no_pass }) (record { refusal = 0; pass = p })).refusal ≡ n
+by-refusal : (n : ℕ) (p : DecorrPass) → (unless_refused {A = Made} n (λ k. record { refusal = k; pass = no_pass }) (record { refusal = 0; pass = p })).refusal ≡ n
 by-refusal zero p = refl
 by-refusal (suc n) p = refl
 
 module _ (term delta weightA weightB : ℤ) (seedA seedB slots : List ℤ) where
   -- what `make_pass` answers, and leaves in the list of slots
   abbrev pub Passed : ℕ → List ℤ → Type 0
-  Passed r after = (r ≡ pass_answer term seedA seedB slots) × (after ≡ leaveValues r (pass_values term delta weightA weightB seedA seedB) slots)
+  Passed r after = (r ≡ pass_answer term seedA seedB slots) × (after ≡ leave_values r (pass_values term delta weightA weightB seedA seedB) slots)
 
   -- the number that making tells is its refusal
   made-refusal : (made term delta weightA weightB seedA seedB).refusal ≡ making_refusal term seedA seedB

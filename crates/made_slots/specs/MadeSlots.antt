@@ -3,7 +3,7 @@ use Rattle.std.specs.Prelude.{ℕ, List, ◌∷◌, ◌++◌, ℤ}
 use Rattle.answers.specs.Guard.{or_else}
 use Rattle.passes.specs.declared.DecorrPass.{DecorrPass}
 use Rattle.passes.specs.Making.{making_refusal, made}
-use Rattle.slots.specs.Slots.{slotRefusal}
+use Rattle.slots.specs.Slots.{slot_refusal}
 
 -- "20 slots a pass": its term, delta and weights, and two histories of eight
 abbrev pub pass_slots : ℕ
@@ -15,7 +15,7 @@ slots_of p = p.term ∷ p.delta ∷ p.weight_a ∷ p.weight_b ∷ (p.history_a +
 
 -- 6 before what pass making refuses
 abbrev pub pass_answer : ℤ → List ℤ → List ℤ → List ℤ → ℕ
-pass_answer term seedA seedB slots = or_else (slotRefusal pass_slots slots) (making_refusal term seedA seedB)
+pass_answer term seedA seedB slots = or_else (slot_refusal pass_slots slots) (making_refusal term seedA seedB)
 
 -- the pass that is made
 abbrev pub pass_values : ℤ → ℤ → ℤ → ℤ → List ℤ → List ℤ → List ℤ

@@ -3,7 +3,7 @@
 #![tactic(auto)]
 
 ghost use Rattle.std.specs.Prelude.{◌≡◌};
-ghost use Rattle.slots.specs.Slots.{leaveValues};
+ghost use Rattle.slots.specs.Slots.{leave_values};
 ghost use Rattle.made_slots.specs.MadeSlots.{slots_of, pass_answer, pass_values};
 
 use answers::{Outcome, Refusal, number, outcome_number};
@@ -42,7 +42,7 @@ pub fn make_pass(
     ensures answer { result
         ≡ pass_answer term seed_a.now seed_b.now pass.old }
     ensures pass { pass.new
-        ≡ leaveValues result
+        ≡ leave_values result
         (pass_values term delta weight_a weight_b seed_a.now seed_b.now)
         pass.old }
 {

@@ -8,7 +8,7 @@ use entropy::AdaptiveMedians;
 use wrapping::casts::u32_to_u64;
 
 // The interval of a count: its first and its last number.
-#[derive(Drop)]
+#[derive(Clone, Copy)]
 pub struct SampleInterval {
     pub low: u32,
     pub high: u32,

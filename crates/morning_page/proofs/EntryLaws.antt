@@ -9,7 +9,7 @@ use lib.IntN.{ℤ}
 use lib.ListN.{length, drop, length-append}
 use Rattle.answers.specs.declared.Outcome.{Outcome}
 use Rattle.answers.specs.declared.Refusal.{Refusal}
-use Rattle.answers.specs.Guard.{unlessRefused}
+use Rattle.answers.specs.Guard.{unless_refused}
 use Rattle.answers.specs.Numbers.{outcome_number}
 use Rattle.answers.proofs.GuardLaws.{guard_refused, guard_accepted}
 use Rattle.answers.proofs.NumberLaws.{number-positive}
@@ -35,7 +35,7 @@ module _ (t : ℕ) (samples : List ℤ) (storage : List ℕ) where
   unfolding page_entry
   page-number = go (page_refusal (length samples) (length storage))
     where
-      go : (n : ℕ) → (unlessRefused n (refuse_page storage) (tell_page storage (page t samples))).refusal ≡ n
+      go : (n : ℕ) → (unless_refused n (refuse_page storage) (tell_page storage (page t samples))).refusal ≡ n
       go zero = refl
       go (suc n) = refl
 
@@ -65,7 +65,7 @@ page-within t samples storage = go (page_refusal (length samples) (length storag
     text : List ℕ
     text = page t samples
 
-    go : (n : ℕ) → Within (unlessRefused n (refuse_page storage) (tell_page storage text))
+    go : (n : ℕ) → Within (unless_refused n (refuse_page storage) (tell_page storage text))
     go zero = rw (overlay_first storage text) (omega (arith, length-append text (drop (length text) storage)))
     go (suc n) = omega arith
 

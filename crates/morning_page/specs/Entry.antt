@@ -1,7 +1,7 @@
 -- Document 02 §5: what the entry answers, and what the lent storage then holds.
 -- Assumes nothing.
 use Rattle.std.specs.Prelude.{List, ℕ, ◌*◌, ℤ, length}
-use Rattle.answers.specs.Guard.{unlessRefused}
+use Rattle.answers.specs.Guard.{unless_refused}
 use Rattle.answers.specs.Lists.{frames_refusal}
 use Rattle.answers.specs.Numbers.{outcome_number}
 use Rattle.overlay.specs.Overlay.{overlay}
@@ -33,5 +33,5 @@ tell_page storage text = record { refusal = 0; written = length text; bytes = ov
 -- what the entry answers
 unfoldable pub page_entry : ℕ → List ℤ → List ℕ → PageTold
 page_entry threshold samples storage =
-    unlessRefused (page_refusal (length samples) (length storage)) (refuse_page storage)
+    unless_refused (page_refusal (length samples) (length storage)) (refuse_page storage)
     (tell_page storage (page threshold samples))

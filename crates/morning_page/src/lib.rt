@@ -16,7 +16,7 @@ use page_lines::{line_count, put_lines};
 pub const LINE_BYTES: usize = 45;
 
 // What the entry answers: the bytes written, 0 on refusal.
-#[derive(Drop)]
+#[derive(Clone, Copy)]
 pub struct PageAnswer {
     pub outcome: Outcome,
     pub written: u32,

@@ -11,7 +11,7 @@ use lib.IntN.{ℤ, pos}
 use lib.ListN.{length, take, drop, replicate}
 use Rattle.answers.specs.declared.Outcome.{Outcome}
 use Rattle.answers.specs.declared.Refusal.{Refusal}
-use Rattle.answers.specs.Guard.{unlessRefused}
+use Rattle.answers.specs.Guard.{unless_refused}
 use Rattle.answers.specs.Limits.{max_frames}
 use Rattle.answers.specs.Numbers.{outcome_number}
 use Rattle.answers.proofs.GuardLaws.{guard_refused, guard_accepted}
@@ -30,7 +30,7 @@ module _ (t : ℕ) (input storage : List ℕ) where
 
   -- what becomes of a reading
   abbrev paged : ReadTold → PageTold
-  paged told = unlessRefused told.refusal (refuse_page storage) (page_entry t told.list storage)
+  paged told = unless_refused told.refusal (refuse_page storage) (page_entry t told.list storage)
 
   -- not shorter: the reading decides
   input_long : head_bytes ≤ length input → input_entry t input storage ≡ paged (reading_of input)
@@ -44,7 +44,7 @@ module _ (t : ℕ) (input storage : List ℕ) where
   input_refused o x h q e =
       sym (guard_refused (outcome_number o) (refuse_page storage)
       (page_entry t (reading_of input).list storage) (rw q (number-positive x)))
-      ∙ ap (λ (n : ℕ). unlessRefused n (refuse_page storage) (page_entry t (reading_of input).list storage))
+      ∙ ap (λ (n : ℕ). unless_refused n (refuse_page storage) (page_entry t (reading_of input).list storage))
       (sym e) ∙ sym (input_long h)
 
   -- too many frames
@@ -73,7 +73,7 @@ module _ (t : ℕ) (input storage : List ℕ) where
       list : List ℤ
       list = (reading_of input).list
 
-      read : (n : ℕ) → Within (unlessRefused n (refuse_page storage) (page_entry t list storage))
+      read : (n : ℕ) → Within (unless_refused n (refuse_page storage) (page_entry t list storage))
       read zero = page-within t list storage
       read (suc n) = omega arith
 

@@ -1,7 +1,7 @@
 -- What `morning` reads, and what it then answers: "`wvpair`'s input with a 4-byte frame count" (Q5.6).
 -- Assumes nothing.
 use Rattle.std.specs.Prelude.{cond, List, ℕ, ◌*◌, ltb, pos, length, take, drop, replicate}
-use Rattle.answers.specs.Guard.{unlessRefused}
+use Rattle.answers.specs.Guard.{unless_refused}
 use Rattle.little_endian.specs.LittleEndian.{from_little_endian}
 use Rattle.morning_page.specs.Entry.{PageTold, refuse_page, page_entry}
 use Rattle.samples.specs.View.{ReadTold, read_entry}
@@ -24,5 +24,5 @@ reading_of input = read_entry (take 12 input) (drop head_bytes input) (frame_cou
 unfoldable pub input_entry : ℕ → List ℕ → List ℕ → PageTold
 input_entry threshold input storage =
     cond (ltb (length input) head_bytes) (refuse_page storage 1)
-    (unlessRefused (reading_of input).refusal (refuse_page storage)
+    (unless_refused (reading_of input).refusal (refuse_page storage)
     (page_entry threshold (reading_of input).list storage))

@@ -20,7 +20,7 @@ use words::coded::{Coded, read_word};
 use zones::{MaybeZone, WordReport, Zone};
 
 // What the one-word entry answers.
-#[derive(Drop)]
+#[derive(Clone, Copy)]
 pub struct WordAnswer {
     pub outcome: Outcome,
     pub sample: i32,

@@ -10,7 +10,7 @@ use lib.IntN.{ℤ}
 use lib.ListN.{length, take}
 use Rattle.answers.specs.declared.Outcome.{Outcome}
 use Rattle.answers.specs.declared.Refusal.{Refusal}
-use Rattle.answers.specs.Guard.{or_else, unlessRefused}
+use Rattle.answers.specs.Guard.{or_else, unless_refused}
 use Rattle.answers.specs.Limits.{bytes_per_frame, max_word_bits, max_elements}
 use Rattle.answers.specs.Numbers.{outcome_number}
 use Rattle.answers.proofs.GuardLaws.{refused-first, guard_refused, guard_accepted}
@@ -46,7 +46,7 @@ module _ (residuals : List ℤ) (entropy : List ℕ) (frames : ℕ) (buffer : Li
   unfolding pack_entry
   refusal_is = go (pack_refusal residuals entropy frames buffer)
     where
-      go : (n : ℕ) → (unlessRefused n (refuse_packing buffer) (tell_packing buffer (packed_from entropy residuals))).refusal ≡ n
+      go : (n : ℕ) → (unless_refused n (refuse_packing buffer) (tell_packing buffer (packed_from entropy residuals))).refusal ≡ n
       go zero = refl
       go (suc n) = refl
 
@@ -110,7 +110,7 @@ module _ (residuals : List ℤ) (entropy : List ℕ) (frames : ℕ) (buffer : Li
   bits-few = go (pack_refusal residuals entropy frames buffer) refl
     where
       go : (n : ℕ) → pack_refusal residuals entropy frames buffer ≡ n
-          → (unlessRefused n (refuse_packing buffer) (tell_packing buffer (packed_from entropy residuals))).bits ≤ max_word_bits * max_elements
+          → (unless_refused n (refuse_packing buffer) (tell_packing buffer (packed_from entropy residuals))).bits ≤ max_word_bits * max_elements
       go zero e =
           let a = packing_accepted (refusal_is ∙ e) in
           let s = seeds-small entropy in

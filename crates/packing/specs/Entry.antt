@@ -2,7 +2,7 @@
 -- answers, and what the lent buffer then holds.
 -- Assumes nothing.
 use Rattle.std.specs.Prelude.{cond, List, ℕ, ◌+◌, ◌*◌, ◌/◌, ltb, eqb, ℤ, length, take}
-use Rattle.answers.specs.Guard.{or_else, unlessRefused}
+use Rattle.answers.specs.Guard.{or_else, unless_refused}
 use Rattle.answers.specs.Limits.{max_frames, bytes_per_frame}
 use Rattle.answers.specs.Numbers.{outcome_number}
 use Rattle.bits.specs.Laid.{bytes_holding}
@@ -64,7 +64,7 @@ pack_refusal residuals entropy frames buffer =
 -- what packing answers
 unfoldable pub pack_entry : List ℤ → List ℕ → ℕ → List ℕ → PackTold
 pack_entry residuals entropy frames buffer =
-    unlessRefused (pack_refusal residuals entropy frames buffer) (refuse_packing buffer) (tell_packing buffer (packed_from entropy residuals))
+    unless_refused (pack_refusal residuals entropy frames buffer) (refuse_packing buffer) (tell_packing buffer (packed_from entropy residuals))
 
 -- document 01, "The words of demand 3" (M5): "The packed bytes are those that hold the bits
 -- written."

@@ -11,7 +11,7 @@ use entropy::AdaptiveMedians;
 
 // What one turn of the packing loop writes: where it ends, how many zeros it tells of, and, where
 // that is none, the medians of its channel after the word. The flags are those after it.
-#[derive(Drop)]
+#[derive(Clone, Copy)]
 pub struct Turn {
     pub place: usize,
     pub run: usize,
@@ -23,7 +23,7 @@ pub struct Turn {
 }
 
 // The bits written, and the medians after them.
-#[derive(Drop)]
+#[derive(Clone, Copy)]
 pub struct Packed {
     pub bits: usize,
     pub medians: [AdaptiveMedians; 2],
@@ -31,7 +31,7 @@ pub struct Packed {
 
 // What packing answers: why it refused, if it did, the bits written, and the medians after; on
 // refusal bits and medians are 0.
-#[derive(Drop)]
+#[derive(Clone, Copy)]
 pub struct PackAnswer {
     pub outcome: Outcome,
     pub bits: usize,

@@ -6,7 +6,7 @@ ghost use Rattle.std.specs.Prelude.{◌≡◌};
 ghost use Rattle.pass_bytes.specs.PassBytes.{term_of_byte, delta_of_byte, weight_of_byte};
 
 // What a term byte holds.
-#[derive(Drop)]
+#[derive(Clone, Copy)]
 pub struct TermDelta {
     pub term: i8,
     pub delta: i32,

@@ -9,7 +9,7 @@ use lib.Dec.{eqb}
 use lib.IntN.{ℤ}
 use lib.ListN.{length, take, drop}
 use lib.Seq.{take_at}
-use Rattle.answers.specs.Guard.{unlessRefused}
+use Rattle.answers.specs.Guard.{unless_refused}
 use Rattle.answers.specs.Limits.{max_passes}
 use Rattle.answers.specs.declared.Outcome.{Outcome}
 use Rattle.answers.specs.declared.Refusal.{Refusal}
@@ -32,7 +32,7 @@ use Rattle.pass_slots.proofs.PassSlotLaws.{passes-length}
 
 -- a refusal leaves the slots
 refused-left : (k : ℕ) (c : Chain) (slots : List ℤ) (qs : List DecorrPass) (l : List ℤ) → 0 < k
-    → ◌≡◌ {A = PassesLeft} (record { refusal = k; passes = slots; buffer = l }) (leave_passes slots (unlessRefused k (refuse_list qs l) (done c)))
+    → ◌≡◌ {A = PassesLeft} (record { refusal = k; passes = slots; buffer = l }) (leave_passes slots (unless_refused k (refuse_list qs l) (done c)))
 refused-left zero c slots qs l h = absurd (omega arith)
 refused-left (suc k) c slots qs l h = refl
 

@@ -1,7 +1,7 @@
 -- A list of passes as 20 slots each: what decorrelation and analysis answer and leave in the lent
 -- lists, on refusal too. Assumes nothing.
 use Rattle.std.specs.Prelude.{ℕ, zero, suc, ◌/◌, ◌%◌, cond, List, [], ◌∷◌, ◌++◌, eqb, leb, ℤ, pos, negsuc, length, get_or, take, drop}
-use Rattle.answers.specs.Guard.{unlessRefused}
+use Rattle.answers.specs.Guard.{unless_refused}
 use Rattle.passes.specs.declared.DecorrPass.{DecorrPass}
 use Rattle.decorrelation.specs.Lists.{Answer}
 use Rattle.made_slots.specs.MadeSlots.{pass_slots, slots_of}
@@ -51,7 +51,7 @@ abbrev pub leave_passes : List ℤ → Answer → PassesLeft
 leave_passes slots a =
     record {
       refusal = a.refusal;
-      passes = unlessRefused a.refusal (λ n. slots) (list_slots a.passes);
+      passes = unless_refused a.refusal (λ n. slots) (list_slots a.passes);
       buffer = a.buffer;
     }
 

@@ -5,7 +5,7 @@ ghost use Rattle.pass_turns.specs.Turns.{turned, lag_at};
 use passes::{DecorrPass, Direction};
 
 // What a step leaves of one channel: the weight, the buffer's element, and the sample.
-#[derive(Drop)]
+#[derive(Clone, Copy)]
 pub struct Turned {
     pub weight: i32,
     pub element: i32,

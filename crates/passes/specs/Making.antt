@@ -1,7 +1,7 @@
 -- Document 01, "Passes": the making of a pass from its seeds, and why it is refused. Assumes
 -- nothing.
 use Rattle.std.specs.Prelude.{Bool, true, false, cond, ◌&&◌, ◌||◌, List, ◌++◌, reverse, ℕ, ◌-◌, ltb, ℤ, pos, length, take, replicate}
-use Rattle.answers.specs.Guard.{unlessRefused}
+use Rattle.answers.specs.Guard.{unless_refused}
 use Rattle.passes.specs.Terms.{term_of, is_valid, is_cross, is_lag}
 use Rattle.passes.specs.declared.DecorrPass.{DecorrPass}
 use Rattle.passes.specs.declared.SeedLength.{SeedLength}
@@ -69,7 +69,7 @@ pub record Made : Type 0 where
 -- the making of a pass
 unfoldable pub made : ℤ → ℤ → ℤ → ℤ → List ℤ → List ℤ → Made
 made term delta weightA weightB seedA seedB =
-    unlessRefused (making_refusal term seedA seedB) (λ n. record { refusal = n; pass = no_pass })
+    unless_refused (making_refusal term seedA seedB) (λ n. record { refusal = n; pass = no_pass })
     (record {
       refusal = 0;
       pass = record {

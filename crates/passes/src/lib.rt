@@ -52,7 +52,7 @@ pub enum SeedLength {
 }
 
 // What pass making answers: on refusal the pass is all zero.
-#[derive(Drop)]
+#[derive(Clone, Copy)]
 pub struct PassAnswer {
     pub outcome: Outcome,
     pub pass: DecorrPass,

@@ -20,7 +20,7 @@ use test_support::printing::{print, print_count};
 const MOST: u32 = 1000000;
 
 // How many records a file holds, and on how many of them the proved function answers as stored.
-#[derive(Drop)]
+#[derive(Clone, Copy)]
 struct Tally {
     replayed: u32,
     agreed: u32,

@@ -20,7 +20,7 @@ use trip_lists::copy;
 const PART: usize = 2048;
 
 // What analysis says of a part: whether its residuals lie in the span, and the passes after it.
-#[derive(Drop)]
+#[derive(Clone, Copy)]
 struct PartAnswer {
     within: bool,
     passes: [DecorrPass; MAX_PASSES],

@@ -11,7 +11,7 @@ use lib.Dec.{eqb, ltb}
 use lib.IntN.{ℤ}
 use lib.ListN.{length}
 use Rattle.answers.specs.Limits.{max_frames, max_payload_bytes, bytes_per_frame}
-use Rattle.answers.specs.Guard.{or_else, unlessRefused}
+use Rattle.answers.specs.Guard.{or_else, unless_refused}
 use Rattle.answers.proofs.GuardLaws.{refused-first, guard_refused}
 use Rattle.answers.proofs.TestLaws.{clash, neither}
 use Rattle.bits.specs.Bits.{bits_of}
@@ -82,7 +82,7 @@ module _ (n : ℕ) (own : payloads n ≡ true) where
             )
 
         go : (c : ℕ) → read_refusal entropy payload frames list ≡ c
-            → (unlessRefused c (refuse_reading list) words).refusal ≡ n
+            → (unless_refused c (refuse_reading list) words).refusal ≡ n
             → ReadLengths payload frames list × (seed_refusal entropy ≡ n)
         go zero r e =
             absurd
@@ -153,7 +153,7 @@ module _ (n : ℕ) (own : payloads n ≡ true) where
             )
 
         go : (c : ℕ) → pack_refusal residuals entropy frames buffer ≡ c
-            → (unlessRefused c (refuse_packing buffer) words-packed).refusal ≡ n
+            → (unless_refused c (refuse_packing buffer) words-packed).refusal ≡ n
             → PackLengths residuals frames × (seed_refusal entropy ≡ n)
         go zero r e = absurd (not_this 0 refl e)
         go (suc c) r e =

@@ -12,7 +12,7 @@ use lib.Dec.{ltb, eqb}
 use lib.IntN.{ℤ, pos}
 use lib.ListN.{length, take, get_or}
 use lib.Signed.{mag}
-use Rattle.answers.specs.Guard.{unlessRefused}
+use Rattle.answers.specs.Guard.{unless_refused}
 use Rattle.answers.specs.Limits.{max_frames, max_elements, max_payload_bytes}
 use Rattle.bits.specs.Bits.{bits_of}
 use Rattle.bits.proofs.BitLaws.{length-bits}
@@ -74,7 +74,7 @@ module _ (entropy payload : List ℕ) (frames : ℕ) (list : List ℤ) where
       first = start (seed_medians entropy).left (seed_medians entropy).right
 
       go : (c : ℕ) → read_refusal entropy payload frames list ≡ c
-          → SmallTold (length payload) frames (unlessRefused c (refuse_reading list) (read_words payload (seed_medians entropy) (2 * frames) list))
+          → SmallTold (length payload) frames (unless_refused c (refuse_reading list) (read_words payload (seed_medians entropy) (2 * frames) list))
       go zero e =
           let l = read_limits e in
           let s = small-reading (bits_of payload) (2 * frames) 0 first in

@@ -1,7 +1,7 @@
 -- What the struct of reading stands for, and what reading answers (X2).
 -- Assumes nothing.
 use Rattle.std.specs.Prelude.{cond, ◌||◌, List, ℕ, ◌*◌, ltb, eqb, ℤ, length}
-use Rattle.answers.specs.Guard.{unlessRefused}
+use Rattle.answers.specs.Guard.{unless_refused}
 use Rattle.answers.specs.Limits.{max_frames, max_payload_bytes}
 use Rattle.answers.specs.Numbers.{outcome_number}
 use Rattle.bits.specs.Bits.{bits_of}
@@ -69,5 +69,5 @@ read_words payload seeds n list =
 -- medians on
 unfoldable pub read_entry : List ℕ → List ℕ → ℕ → List ℤ → ReadTold
 read_entry entropy payload frames list =
-    unlessRefused (read_refusal entropy payload frames list) (refuse_reading list)
+    unless_refused (read_refusal entropy payload frames list) (refuse_reading list)
     (read_words payload (seed_medians entropy) (2 * frames) list)

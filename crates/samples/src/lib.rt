@@ -9,7 +9,7 @@ pub mod reading;
 
 // What reading answers: the outcome, the bits used, the medians after, how many samples were written,
 // and how many of the bits used each channel took.
-#[derive(Drop)]
+#[derive(Clone, Copy)]
 pub struct ReadAnswer {
     pub outcome: Outcome,
     pub bits: usize,

@@ -28,7 +28,7 @@ pub struct Standing {
 
 // Where a reading stands after a word, and the 64 bits there. `on` is false where no short word may
 // follow.
-#[derive(Drop)]
+#[derive(Clone, Copy)]
 pub struct Step {
     pub on: bool,
     pub w: u64,

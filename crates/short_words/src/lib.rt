@@ -21,7 +21,7 @@ use words::coded::{one_if, signed_code};
 // A word out of the 64 bits at its place: its sample, the bits that it takes, and the medians and
 // flags after it. `fit` is false where another reader has to read it; `on` is false where a run
 // length may stand behind it.
-#[derive(Drop)]
+#[derive(Clone, Copy)]
 pub struct ShortWord {
     pub fit: bool,
     pub on: bool,

@@ -14,12 +14,12 @@ use Rattle.answers.specs.Numbers.{outcome_number}
 use Rattle.answers.proofs.NumberLaws.{number-positive}
 use Rattle.answers.proofs.GuardLaws.{guard_refused}
 use Rattle.overlay.specs.Overlay.{overlay}
-use Rattle.slots.specs.Slots.{slotRefusal, leaveValues}
+use Rattle.slots.specs.Slots.{slot_refusal, leave_values}
 
 module _ (n number : ℕ) (values slots : List ℤ) where
   -- what a call with n slots answers, and leaves in the list; its input is refused with a number
   abbrev pub Called : ℕ → List ℤ → Type 0
-  Called r after = (r ≡ or_else (slotRefusal n slots) number) × (after ≡ leaveValues r values slots)
+  Called r after = (r ≡ or_else (slot_refusal n slots) number) × (after ≡ leave_values r values slots)
 
   -- too few slots
   pub call-short : (r : ℕ) → r ≡ 6 → length slots < n → Called r slots

@@ -11,10 +11,10 @@ use Rattle.answers.specs.Numbers.{outcome_number}
 use Rattle.answers.proofs.GuardLaws.{guard_refused}
 use Rattle.answers.proofs.NumberLaws.{number-positive}
 use Rattle.overlay.specs.Overlay.{overlay}
-use Rattle.slots.specs.Slots.{leaveValues, fill_call}
+use Rattle.slots.specs.Slots.{leave_values, fill_call}
 
 -- the slots of a refused call keep their values
-pub slots_kept : (o : Outcome) (x : Refusal) (values slots : List ℕ) → o ≡ Outcome.Refused x → leaveValues (outcome_number o) values slots ≡ slots
+pub slots_kept : (o : Outcome) (x : Refusal) (values slots : List ℕ) → o ≡ Outcome.Refused x → leave_values (outcome_number o) values slots ≡ slots
 slots_kept o x values slots q = guard_refused (outcome_number o) (λ _. slots) (overlay slots 0 values) (rw q (number-positive x))
 
 module _ {A : Type 0} (n : ℕ) (before after : List A) (answer values : List ℕ) where

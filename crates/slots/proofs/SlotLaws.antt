@@ -10,7 +10,7 @@ use mir.Syntax.{w8, w32}
 use mir.Val.{SFits}
 use borrow.Author.Tests.{lt-ltb, le-ltb}
 use Rattle.overlay.specs.Overlay.{overlay}
-use Rattle.slots.specs.Slots.{slotRefusal, leaveValues}
+use Rattle.slots.specs.Slots.{slot_refusal, leave_values}
 
 -- a number of 8 bits is one of 32
 pub wider : {z : ℤ} → SFits w8 z → SFits w32 z
@@ -19,7 +19,7 @@ wider h = record { sfits = omega (arith, h.sfits) }
 module _ {A : Type 0} where
   -- what a call answers, and leaves in a list of n slots
   abbrev pub Answered : ℕ → List A → List A → ℕ → List A → Type 0
-  Answered n values slots r after = (r ≡ slotRefusal n slots) × (after ≡ leaveValues r values slots)
+  Answered n values slots r after = (r ≡ slot_refusal n slots) × (after ≡ leave_values r values slots)
 
   -- too few slots
   pub short : (n : ℕ) (values slots : List A) (r : ℕ) → r ≡ 6 → length slots < n → Answered n values slots r slots

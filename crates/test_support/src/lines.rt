@@ -8,7 +8,7 @@ use std::io;
 use std::io::Read;
 
 // A number without its sign, whether it is negative, and whether it ends a list.
-#[derive(Drop)]
+#[derive(Clone, Copy)]
 struct Entry {
     size: u32,
     negative: bool,

@@ -8,7 +8,7 @@ use little_endian::{number, signed_word};
 use std::io::Read;
 
 // The next number, or that the file ends before one.
-#[derive(Drop)]
+#[derive(Clone, Copy)]
 pub enum Next {
     Number(u32),
     End,

@@ -6,7 +6,7 @@ ghost use Rattle.std.specs.Prelude.{◌≡◌};
 ghost use Rattle.threshold.specs.Threshold.{is_digit, threshold_in};
 
 // Whether a text is a threshold, and which; 0 where it is none.
-#[derive(Drop)]
+#[derive(Clone, Copy)]
 pub struct Threshold {
     pub valid: bool,
     pub value: u32,

@@ -10,7 +10,7 @@ use lib.IntN.{ℤ}
 use lib.ListN.{length, take, drop}
 use Rattle.answers.specs.declared.Outcome.{Outcome}
 use Rattle.answers.specs.declared.Refusal.{Refusal}
-use Rattle.answers.specs.Guard.{or_else, unlessRefused}
+use Rattle.answers.specs.Guard.{or_else, unless_refused}
 use Rattle.answers.specs.Limits.{max_elements, max_payload_bytes, max_word_bits}
 use Rattle.answers.specs.Numbers.{outcome_number}
 use Rattle.answers.proofs.GuardLaws.{guard_refused, guard_accepted}
@@ -79,7 +79,7 @@ module _ (ps : List DecorrPass) (n : ℕ) (x : List ℤ) (entropy : List ℕ) (s
   -- what follows where nothing is refused early
   later : TripTold
   later =
-      unlessRefused (span_refusal (found ps n x)) (refuse_trip (found ps n x) buffer) (tell_trip x (pack_entry (found ps n x) entropy (length x / 2) buffer))
+      unless_refused (span_refusal (found ps n x)) (refuse_trip (found ps n x) buffer) (tell_trip x (pack_entry (found ps n x) entropy (length x / 2) buffer))
 
   -- a refusal that is known before anything is written
   known : (o : Outcome) → 0 < outcome_number o → trip_refusal ps n x entropy scratch buffer ≡ outcome_number o → TripRefuses o r
@@ -143,7 +143,7 @@ module _ (ps : List DecorrPass) (n : ℕ) (x : List ℤ) (entropy : List ℕ) (s
       let next = tell_trip x (pack_entry (found ps n x) entropy f₀ buffer) in
       rw (y, f.is) (refuses r w.outcome (found ps n x) buffer t)
       ∙ sym (guard_refused o (refuse_trip (found ps n x) buffer) next p)
-      ∙ ap (λ (a : ℕ). unlessRefused a (refuse_trip (found ps n x) buffer) next) s
+      ∙ ap (λ (a : ℕ). unless_refused a (refuse_trip (found ps n x) buffer) next) s
       ∙ sym (entry_is h g)
 
   -- what was packed is read back

@@ -2,7 +2,7 @@
 -- answers, and what its lent storage then holds.
 -- Assumes nothing.
 use Rattle.std.specs.Prelude.{◌≡◌, Bool, true, false, cond, List, ℕ, ◌/◌, eqb, ℤ, length, take}
-use Rattle.answers.specs.Guard.{unlessRefused}
+use Rattle.answers.specs.Guard.{unless_refused}
 use Rattle.answers.specs.Numbers.{outcome_number}
 use Rattle.answers.specs.declared.Outcome.{Outcome}
 use Rattle.passes.specs.declared.DecorrPass.{DecorrPass}
@@ -56,8 +56,8 @@ found passes count recording = (analysed (take count passes) recording).buffer
 -- are found: the scratch list holds them, and the packed bytes keep their values
 unfoldable pub trip_entry : List DecorrPass → ℕ → List ℤ → List ℕ → List ℤ → List ℕ → TripTold
 trip_entry passes count recording entropy scratch buffer =
-    unlessRefused (trip_refusal passes count recording entropy scratch buffer) (refuse_trip scratch buffer)
-    (unlessRefused (span_refusal (found passes count recording)) (refuse_trip (found passes count recording) buffer)
+    unless_refused (trip_refusal passes count recording entropy scratch buffer) (refuse_trip scratch buffer)
+    (unless_refused (span_refusal (found passes count recording)) (refuse_trip (found passes count recording) buffer)
     (tell_trip recording (pack_entry (found passes count recording) entropy (length recording / 2) buffer)))
 
 -- what the entry hands back on refusal

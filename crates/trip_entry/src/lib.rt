@@ -15,7 +15,7 @@ use trip_steps::{early_refusal, find_residuals, read_back};
 // What the round trip answers: why it refused, if it did, the bits written, and whether the
 // recording came back: reading and decorrelation accept, as many bits are used as were written, and
 // every sample is the recording's.
-#[derive(Drop)]
+#[derive(Clone, Copy)]
 pub struct TripAnswer {
     pub outcome: Outcome,
     pub bits: usize,

@@ -10,7 +10,7 @@ use pass_turns::{frame_at, store_frame, turn_plain, with_state};
 use passes::{DecorrPass, Direction};
 
 // The last two samples of a channel.
-#[derive(Drop)]
+#[derive(Clone, Copy)]
 pub struct LastTwo {
     pub last: i32,
     pub before: i32,

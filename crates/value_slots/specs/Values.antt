@@ -6,7 +6,7 @@ use Rattle.logpack.specs.LogWord.{log_word}
 use Rattle.logpack.specs.Reach.{log_word_refusal}
 use Rattle.answers.specs.Guard.{or_else}
 use Rattle.pass_bytes.specs.PassBytes.{term_of_byte, delta_of_byte, weight_of_byte}
-use Rattle.slots.specs.Slots.{slotRefusal}
+use Rattle.slots.specs.Slots.{slot_refusal}
 
 -- `wv_log_word`: the value of the word
 abbrev pub log_word_values : ℤ → List ℤ
@@ -14,7 +14,7 @@ log_word_values word = log_word word ∷ []
 
 -- 6 before 17 (Q7.1)
 abbrev pub log_word_answer : ℤ → List ℤ → ℕ
-log_word_answer word value = or_else (slotRefusal 1 value) (log_word_refusal word)
+log_word_answer word value = or_else (slot_refusal 1 value) (log_word_refusal word)
 
 -- `wv_term_byte`: the term, then the delta
 abbrev pub term_byte_values : ℕ → List ℤ

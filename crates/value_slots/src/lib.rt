@@ -3,7 +3,7 @@
 #![tactic(auto)]
 
 ghost use Rattle.std.specs.Prelude.{◌≡◌};
-ghost use Rattle.slots.specs.Slots.{slotRefusal, leaveValues};
+ghost use Rattle.slots.specs.Slots.{slot_refusal, leave_values};
 ghost use Rattle.value_slots.specs.Values.{log_word_values, log_word_answer};
 ghost use Rattle.value_slots.specs.Values.{term_byte_values, weight_byte_values};
 
@@ -13,7 +13,7 @@ use slots::lay;
 // `wv_log_word`: the value of a log word, into 1 slot. Refuses 6, then 17.
 pub fn log_word(word: i16, value: &mut [i32]) -> u32
     ensures answer { result ≡ log_word_answer word value.old }
-    ensures value { value.new ≡ leaveValues result (log_word_values word) value.old }
+    ensures value { value.new ≡ leave_values result (log_word_values word) value.old }
 {
     if value.len() < 1 {
         return number(Refusal::ListLength);
@@ -30,8 +30,8 @@ pub fn log_word(word: i16, value: &mut [i32]) -> u32
 
 // `wv_term_byte`: the term and the delta of a term byte, into 2 slots. Refuses 6.
 pub fn term_byte(byte: u8, out: &mut [i32]) -> u32
-    ensures answer { result ≡ slotRefusal 2 out.old }
-    ensures out { out.new ≡ leaveValues result (term_byte_values byte) out.old }
+    ensures answer { result ≡ slot_refusal 2 out.old }
+    ensures out { out.new ≡ leave_values result (term_byte_values byte) out.old }
 {
     if out.len() < 2 {
         return number(Refusal::ListLength);
@@ -46,8 +46,8 @@ pub fn term_byte(byte: u8, out: &mut [i32]) -> u32
 
 // `wv_weight_byte`: the weight of a weight byte, into 1 slot. Refuses 6.
 pub fn weight_byte(byte: u8, out: &mut [i32]) -> u32
-    ensures answer { result ≡ slotRefusal 1 out.old }
-    ensures out { out.new ≡ leaveValues result (weight_byte_values byte) out.old }
+    ensures answer { result ≡ slot_refusal 1 out.old }
+    ensures out { out.new ≡ leave_values result (weight_byte_values byte) out.old }
 {
     if out.len() < 1 {
         return number(Refusal::ListLength);

@@ -9,7 +9,7 @@ use lib.IntN.{ℤ}
 use lib.ListN.{length}
 use Rattle.answers.specs.declared.Outcome.{Outcome}
 use Rattle.answers.specs.declared.Refusal.{Refusal}
-use Rattle.answers.specs.Guard.{or_else, unlessRefused}
+use Rattle.answers.specs.Guard.{or_else, unless_refused}
 use Rattle.answers.specs.Lists.{frames_refusal}
 use Rattle.answers.specs.Numbers.{outcome_number}
 use Rattle.answers.proofs.GuardLaws.{refused-first, refused-later, neither-refused, guard_refused}
@@ -98,7 +98,7 @@ module _ (rate : ℕ) (samples : List ℤ) (out : List ℕ) where
   export_number = go (export_refusal rate samples (length out))
     where
       go : (n : ℕ)
-          → (unlessRefused n (refuse_export out) (tell_export out (wave_file rate samples))).refusal ≡ n
+          → (unless_refused n (refuse_export out) (tell_export out (wave_file rate samples))).refusal ≡ n
       go zero = refl
       go (suc n) = refl
 

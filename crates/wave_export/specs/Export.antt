@@ -1,7 +1,7 @@
 -- Document 02 §1: what export answers, and what the lent buffer then holds.
 -- Assumes nothing.
 use Rattle.std.specs.Prelude.{ℕ, cond, List, ℤ, length}
-use Rattle.answers.specs.Guard.{or_else, unlessRefused}
+use Rattle.answers.specs.Guard.{or_else, unless_refused}
 use Rattle.answers.specs.Lists.{frames_refusal}
 use Rattle.answers.specs.Numbers.{outcome_number}
 use Rattle.overlay.specs.Overlay.{overlay}
@@ -41,5 +41,5 @@ tell_export buffer file = record { refusal = 0; written = length file; bytes = o
 -- what export answers
 unfoldable pub export_entry : ℕ → List ℤ → List ℕ → ExportTold
 export_entry rate samples buffer =
-    unlessRefused (export_refusal rate samples (length buffer)) (refuse_export buffer)
+    unless_refused (export_refusal rate samples (length buffer)) (refuse_export buffer)
     (tell_export buffer (wave_file rate samples))

@@ -17,7 +17,7 @@ use wave_file::{HEADER_BYTES, is_rate, lay_header};
 const SAMPLE_SPAN: u32 = 32768;
 
 // What export answers: the bytes written, 0 on refusal.
-#[derive(Drop)]
+#[derive(Clone, Copy)]
 pub struct Exported {
     pub outcome: Outcome,
     pub written: u32,

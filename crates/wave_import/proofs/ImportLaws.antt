@@ -11,7 +11,7 @@ use lib.IntN.{ℤ}
 use lib.ListN.{length}
 use Rattle.answers.specs.declared.Outcome.{Outcome}
 use Rattle.answers.specs.declared.Refusal.{Refusal}
-use Rattle.answers.specs.Guard.{unlessRefused}
+use Rattle.answers.specs.Guard.{unless_refused}
 use Rattle.answers.specs.Numbers.{outcome_number}
 use Rattle.answers.proofs.GuardLaws.{guard_refused, guard_accepted}
 use Rattle.answers.proofs.NumberLaws.{number-positive}
@@ -95,7 +95,7 @@ module _ (file : List ℕ) (list : List ℤ) where
   unfolding import_entry
   import_number = go (import_refusal file (length list))
     where
-      go : (n : ℕ) → (unlessRefused n (refuse_import list)
+      go : (n : ℕ) → (unless_refused n (refuse_import list)
           (tell_import list (file_rate file) (file_samples file))).refusal ≡ n
       go zero = refl
       go (suc n) = refl

@@ -1,7 +1,7 @@
 -- Document 02 §1: what import answers, and what the lent list then holds.
 -- Assumes nothing.
 use Rattle.std.specs.Prelude.{ℕ, cond, List, ltb, ℤ, length}
-use Rattle.answers.specs.Guard.{unlessRefused}
+use Rattle.answers.specs.Guard.{unless_refused}
 use Rattle.answers.specs.Numbers.{outcome_number}
 use Rattle.overlay.specs.Overlay.{overlay}
 use Rattle.wave_data.specs.Data.{file_samples}
@@ -41,5 +41,5 @@ tell_import list rate samples =
 -- what import answers
 unfoldable pub import_entry : List ℕ → List ℤ → ImportTold
 import_entry file list =
-    unlessRefused (import_refusal file (length list)) (refuse_import list)
+    unless_refused (import_refusal file (length list)) (refuse_import list)
     (tell_import list (file_rate file) (file_samples file))

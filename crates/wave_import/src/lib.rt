@@ -13,7 +13,7 @@ use wave_file::{HEADER_BYTES, MAX_FILE_BYTES};
 use wave_header::{is_wave, rate_of};
 
 // What import answers: the rate, and the samples written; both 0 on refusal.
-#[derive(Drop)]
+#[derive(Clone, Copy)]
 pub struct Imported {
     pub outcome: Outcome,
     pub rate: u32,

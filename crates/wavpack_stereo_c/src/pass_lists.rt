@@ -2,7 +2,7 @@
 // to a pass.
 ghost use Rattle.std.specs.Prelude.{◌≡◌};
 ghost use Rattle.decorrelation.specs.Lists.{decorrelation, analysis};
-ghost use Rattle.slots.specs.Slots.{leaveValues};
+ghost use Rattle.slots.specs.Slots.{leave_values};
 ghost use Rattle.made_slots.specs.MadeSlots.{pass_answer, pass_values};
 ghost use Rattle.pass_slots.specs.PassSlots.{passes_call};
 
@@ -21,7 +21,7 @@ pub extern "C" fn wv_pass(
     ensures answer { result
         ≡ pass_answer term seed_a.now seed_b.now pass.old }
     ensures pass { pass.new
-        ≡ leaveValues result
+        ≡ leave_values result
         (pass_values term delta weight_a weight_b seed_a.now seed_b.now)
         pass.old }
 {

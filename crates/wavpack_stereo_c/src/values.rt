@@ -1,7 +1,7 @@
 // Values of one word or byte, and of the entropy payload. A refused call leaves the lent list as it
 // was.
 ghost use Rattle.std.specs.Prelude.{◌≡◌};
-ghost use Rattle.slots.specs.Slots.{slotRefusal, leaveValues};
+ghost use Rattle.slots.specs.Slots.{slot_refusal, leave_values};
 ghost use Rattle.value_slots.specs.Values.{log_word_values, log_word_answer, term_byte_values, weight_byte_values};
 ghost use Rattle.entropy_slots.specs.EntropySlots.{entropy_values, entropy_answer};
 
@@ -9,7 +9,7 @@ ghost use Rattle.entropy_slots.specs.EntropySlots.{entropy_values, entropy_answe
 #[unsafe(no_mangle)]
 pub extern "C" fn wv_log_word(word: i16, value: &mut [i32]) -> u32
     ensures answer { result ≡ log_word_answer word value.old }
-    ensures value { value.new ≡ leaveValues result (log_word_values word) value.old }
+    ensures value { value.new ≡ leave_values result (log_word_values word) value.old }
 {
     wavpack_stereo::wv_log_word(word, value)
 }
@@ -17,8 +17,8 @@ pub extern "C" fn wv_log_word(word: i16, value: &mut [i32]) -> u32
 // The term and the delta of a term byte, into 2 slots. Refuses 6.
 #[unsafe(no_mangle)]
 pub extern "C" fn wv_term_byte(byte: u8, out: &mut [i32]) -> u32
-    ensures answer { result ≡ slotRefusal 2 out.old }
-    ensures out { out.new ≡ leaveValues result (term_byte_values byte) out.old }
+    ensures answer { result ≡ slot_refusal 2 out.old }
+    ensures out { out.new ≡ leave_values result (term_byte_values byte) out.old }
 {
     wavpack_stereo::wv_term_byte(byte, out)
 }
@@ -26,8 +26,8 @@ pub extern "C" fn wv_term_byte(byte: u8, out: &mut [i32]) -> u32
 // The weight of a weight byte, into 1 slot. Refuses 6.
 #[unsafe(no_mangle)]
 pub extern "C" fn wv_weight_byte(byte: u8, out: &mut [i32]) -> u32
-    ensures answer { result ≡ slotRefusal 1 out.old }
-    ensures out { out.new ≡ leaveValues result (weight_byte_values byte) out.old }
+    ensures answer { result ≡ slot_refusal 1 out.old }
+    ensures out { out.new ≡ leave_values result (weight_byte_values byte) out.old }
 {
     wavpack_stereo::wv_weight_byte(byte, out)
 }
@@ -38,7 +38,7 @@ pub extern "C" fn wv_weight_byte(byte: u8, out: &mut [i32]) -> u32
 pub extern "C" fn wv_entropy(entropy: &[u8], medians: &mut [i32]) -> u32
     ensures answer { result ≡ entropy_answer entropy.now medians.old }
     ensures medians { medians.new
-        ≡ leaveValues result (entropy_values entropy.now) medians.old }
+        ≡ leave_values result (entropy_values entropy.now) medians.old }
 {
     wavpack_stereo::wv_entropy(entropy, medians)
 }

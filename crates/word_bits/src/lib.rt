@@ -6,7 +6,7 @@
 #![tactic(auto)]
 
 // The count of a magnitude, its code, the last code of its interval, and the medians after it.
-#[derive(Drop)]
+#[derive(Clone, Copy)]
 pub struct Located {
     pub count: u32,
     pub code: u32,
@@ -17,7 +17,7 @@ pub struct Located {
 }
 
 // Where a word ends, and the medians of its channel after it.
-#[derive(Drop)]
+#[derive(Clone, Copy)]
 pub struct Word {
     pub place: usize,
     pub m0: u32,
@@ -26,7 +26,7 @@ pub struct Word {
 }
 
 // What goes before a word: where it ends, and how many zeros it counts.
-#[derive(Drop)]
+#[derive(Clone, Copy)]
 pub struct Before {
     pub place: usize,
     pub run: usize,

@@ -4,7 +4,7 @@ use Rattle.std.specs.Prelude.{ℕ, List, [], ◌∷◌, ℤ}
 use Rattle.overlay.specs.Overlay.{overlay}
 use Rattle.zones.specs.Report.{Report, none, zone0, zone1, zone2, over}
 use Rattle.one_word.specs.View.{WordTold}
-use Rattle.slots.specs.Slots.{leaveValues}
+use Rattle.slots.specs.Slots.{leave_values}
 use Rattle.state_slots.specs.StateSlots.{state_slots}
 
 -- the 2 slots of a report: 0 for none, else 1 plus the number of the zone, 0 to 3; then the count
@@ -26,7 +26,7 @@ pub record WordLeft : Type 0 where
 abbrev pub leave_word : WordTold → List ℕ → List ℤ → List ℕ → WordLeft
 leave_word t state sample report = record {
   refusal = t.refusal;
-  state = leaveValues t.refusal (state_slots t.place t.state) state;
+  state = leave_values t.refusal (state_slots t.place t.state) state;
   sample = overlay sample 0 (t.sample ∷ []);
   report = overlay report 0 (report_slots t.report);
 }

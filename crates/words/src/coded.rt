@@ -19,21 +19,21 @@ use fields::Prefix;
 use medians::interval::sample_interval;
 
 // A sample, and the bits that its code and its sign take.
-#[derive(Drop)]
+#[derive(Clone, Copy)]
 pub struct SignedCode {
     pub value: i32,
     pub used: usize,
 }
 
 // A sample and the place after it.
-#[derive(Drop)]
+#[derive(Clone, Copy)]
 pub enum SignedValue {
     Sample(i32, usize),
     Truncated,
 }
 
 // A count, the place after it, and last_zero and last_one after it.
-#[derive(Drop)]
+#[derive(Clone, Copy)]
 pub enum OnesCount {
     Count(u32, usize, bool, bool),
     EndOfStream,
@@ -41,7 +41,7 @@ pub enum OnesCount {
 }
 
 // A run with the zeros owed after its first and the place after its length; or the place of a word.
-#[derive(Drop)]
+#[derive(Clone, Copy)]
 pub enum ZeroRun {
     Run(u32, usize),
     Word(usize),

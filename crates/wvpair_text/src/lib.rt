@@ -20,7 +20,7 @@ mod limits;
 pub use crate::limits::{LARGEST_INPUT, LARGEST_TEXT};
 
 // Whether the text was laid into the lent buffer, and how many bytes it has.
-#[derive(Drop)]
+#[derive(Clone, Copy)]
 pub struct TextAnswer {
     pub outcome: Outcome,
     pub length: usize,

@@ -6,7 +6,7 @@ ghost use Rattle.std.specs.Prelude.{◌≡◌};
 ghost use Rattle.zones.specs.Report.{zone_of, report_of_zone};
 
 // The zone of a count: 0, 1, 2, or above, which carries the count.
-#[derive(Drop)]
+#[derive(Clone, Copy)]
 pub enum Zone {
     Zone0,
     Zone1,
@@ -33,14 +33,14 @@ impl Zone {
 }
 
 // A zone, or none: for a zero out of a run and for a refused word.
-#[derive(Drop)]
+#[derive(Clone, Copy)]
 pub enum MaybeZone {
     None,
     Some(Zone),
 }
 
 // What a word reports to the viewer.
-#[derive(Drop)]
+#[derive(Clone, Copy)]
 pub struct WordReport {
     pub zone: MaybeZone,
 }
