@@ -7,7 +7,7 @@ pub mod archives;
 pub mod pack;
 pub mod pages;
 pub mod pass_lists;
+pub mod reading;
 pub mod values;
 pub mod waves;
 pub mod wide;
-pub mod words;
