@@ -53,7 +53,7 @@ chmod +x "$room/kit/toolchain/bin/clang"
 
 # In a copy, so that the archive that is linked otherwise is not written over; what was proved is not proved
 # again.
-cp -R crates crates.txt "$room/repository/"
+tar -cf - --exclude='crates/*/out/incremental' crates crates.txt | tar -xf - -C "$room/repository"
 (cd "$room/repository/crates/wavpack_stereo_c" && "$room/kit/bin/rt" lib)
 cp "$room/repository/crates/wavpack_stereo_c/out/libwavpack_stereo_c.a" "$out/libwavpack_stereo.a"
 if ! nm "$out/libwavpack_stereo.a" | grep -q __asan_report; then
