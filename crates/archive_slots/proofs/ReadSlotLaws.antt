@@ -17,6 +17,10 @@ module _ (file list payloads answer : List ℕ) where
   unfolding read_call
   read_short r e h = rw (lt-ltb (length answer) 2 h, e)
 
+  pub short_answer : length answer < 2 → read_call file list payloads answer ≡ record { refusal = 6; list = list; payloads = payloads; answer = answer }
+  unfolding read_call
+  short_answer h = rw (lt-ltb (length answer) 2 h)
+
   -- with slots enough, the reader told a number and so many
   module _ (n block recordings bytes : ℕ) (listed stored : List ℕ) (enough : 2 ≤ length answer)
       (told : record {

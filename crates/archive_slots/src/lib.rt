@@ -51,6 +51,7 @@ fn lay_two(first: usize, second: usize, answer: &mut [u32])
 // and into 2 slots how many recordings and payload bytes these are. Refuses 6 for `answer`, with nothing
 // written; then 18, with the bad block and 0 in the 2 slots, 19 and 11. Each refusal leaves `list` and
 // `payloads` as they were, and each but 18 `answer` too.
+#[tactic(auto, using(crate::proofs::ReadSlotLaws::short_answer))]
 pub fn read_call(file: &[u8], list: &mut [u32], payloads: &mut [u8], answer: &mut [u32]) -> u32
     ensures { record {
       refusal = result;

@@ -9,7 +9,7 @@ use borrow.Author.Tests.{lt-ltb, le-ltb, eq-eqb, ne_eqb}
 use lib.Dec.{ltb}
 use lib.ListN.{length, take, drop}
 use Rattle.answers.specs.Limits.{max_payload_bytes}
-use Rattle.archive.specs.Block.{block_bytes, number_in, used_in, filling_in, passes}
+use Rattle.archive.specs.Block.{block_bytes, check_of, check_in, number_in, used_in, filling_in, passes}
 use Rattle.archive.specs.Faults.{used_asked, finished, all_zero, wrong}
 
 -- under 512 bytes, whatever else
@@ -26,6 +26,11 @@ module _ (last : Bool) (announced before : ℕ) (b : List ℕ) (size : length b 
   pub wrong_check : passes b ≡ false → true ≡ wrong last announced before b
   unfolding wrong
   wrong_check e = rw (whole, e)
+
+  -- the right check, and a payload length above its limit
+  pub wrong_long : check_of b ≡ check_in b → max_payload_bytes < announced → wrong last announced before b ≡ true
+  unfolding wrong
+  wrong_long e h = rw (whole, eq-eqb (check_of b) (check_in b) e, lt-ltb max_payload_bytes announced h)
 
   module _ (checked : passes b ≡ true) where
     -- a payload length above its limit

@@ -66,6 +66,7 @@ fn is_clear(block: &[u8], from: usize, to: usize) -> bool
 }
 
 // Whether something is wrong with a whole block.
+#[tactic(auto, using(crate::proofs::WrongLaws::wrong_long))]
 fn block_wrong(block: &[u8], announced: usize, before: usize, last: bool) -> bool
     requires size { length block.now ≡ block_bytes }
     requires open { Open announced before }

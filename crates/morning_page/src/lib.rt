@@ -23,6 +23,7 @@ pub struct PageAnswer {
 }
 
 // Answers why the entry refuses, by 5, 6 and 11, for so many samples and bytes of storage.
+#[tactic(auto, using(answers::proofs::ListLaws::frames_long, answers::proofs::ListLaws::frames_odd))]
 pub fn page_refusal(elements: usize, room: usize) -> Outcome
     ensures { outcome_number result ≡ page_refusal elements room }
 {

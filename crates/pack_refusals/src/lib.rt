@@ -14,6 +14,7 @@ use stereo_pair::stereo_pair_from_entropy;
 // What packing refuses by the lengths of what is lent and by the entropy payload, before it looks
 // at a residual: 5 over 131,072 frames, 6 where there are not two residuals a frame, 1, 17 and 2
 // about the entropy payload, 11 where under 28 bytes a frame are lent. Writes nothing.
+#[tactic(auto, using(packing::proofs::RefusalLaws::before_frames))]
 pub fn refusal_before_span(elements: usize, entropy: &[u8], frames: usize, room: usize) -> Outcome
     ensures { outcome_number result
         ≡ refusal_before_span elements entropy.now frames room }

@@ -48,6 +48,15 @@ module _ (entropy payload : List ℕ) (frames : ℕ) (list : List ℤ) where
   unfolding read_entry
   not_read told x y e n a = rw (← n) (a ∙ sym (guard_refused (outcome_number x) (refuse_reading list) _ (rw e (number-positive y))))
 
+  -- too many frames, and too many payload bytes: nothing is read
+  pub long_frames : max_frames < frames → read_entry entropy payload frames list ≡ refuse_reading list 5
+  unfolding read_entry
+  long_frames h = rw (← refused_frames h)
+
+  pub long_payload : max_payload_bytes < length payload → read_entry entropy payload frames list ≡ refuse_reading list 5
+  unfolding read_entry
+  long_payload h = rw (← refused-payload h)
+
   -- the words
   pub all_read : (told : ReadTold) (seeds : MedianPair) → 0 ≡ read_refusal entropy payload frames list
       → seeds ≡ seed_medians entropy → length list ≡ 2 * frames

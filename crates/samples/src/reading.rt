@@ -3,7 +3,9 @@
 ghost use Rattle.std.specs.Prelude.{◌≡◌, List, [], ◌∷◌, ◌-◌, ◌≤◌, ℤ, length};
 ghost use Rattle.answers.specs.Limits.{max_payload_bytes};
 ghost use Rattle.answers.specs.Numbers.{outcome_number};
-ghost use Rattle.entropy.specs.Medians.{pair_of};
+ghost use Rattle.entropy.specs.Medians.{pair_of, zero_pair};
+ghost use Rattle.word_state.specs.State.{no_bits};
+ghost use Rattle.word_state.specs.View.{bits_read_of};
 ghost use Rattle.samples.specs.View.{view_reading, read_words, refuse_reading, read_entry};
 
 use crate::ReadAnswer;
@@ -72,7 +74,12 @@ fn decode_packed_samples_stereo(
 
 // The answer of a reading that ended before any word.
 fn not_read(outcome: Outcome) -> ReadAnswer
-    ensures { (list : List ℤ) → view_reading result list ≡ refuse_reading list (outcome_number outcome) }
+    ensures view { (list : List ℤ) → view_reading result list ≡ refuse_reading list (outcome_number outcome) }
+    ensures outcome { result.outcome ≡ outcome }
+    ensures bits { result.bits ≡ 0 }
+    ensures medians { pair_of result.medians ≡ zero_pair }
+    ensures written { result.written ≡ 0 }
+    ensures totals { bits_read_of result.bits_read ≡ no_bits }
 {
     let none = AdaptiveMedians { values: [0, 0, 0] };
     ReadAnswer {
@@ -88,6 +95,7 @@ fn not_read(outcome: Outcome) -> ReadAnswer
 // or 4,194,304 payload bytes, with 6 where `out` has not two elements a frame, with 1, 17 or 2 what
 // is wrong with the entropy payload, then with 3 or 4 what a word runs into. Only a refusal in a
 // word leaves samples in `out`, those before it.
+#[tactic(auto, using(crate::proofs::EntryLaws::long_frames, crate::proofs::EntryLaws::long_payload))]
 pub fn decode_packed_samples_stereo_from_entropy(
     entropy: &[u8],
     payload: &[u8],

@@ -3,7 +3,7 @@
 use mathlib.Core.Path.{◌≡◌, refl, sym, ap, ◌∙◌}
 use mathlib.Core.Bool.{Bool, true, false, cond}
 use mathlib.Core.List.{List}
-use Prim.Native.Nat.{ℕ, zero, suc, ◌+◌, ◌*◌, ◌<◌}
+use Prim.Native.Nat.{ℕ, zero, suc, ◌+◌, ◌*◌, ◌%◌, ◌<◌, ◌≤◌}
 use native.Mathlib.Omega.{arith}
 use lib.IntN.{ℤ}
 use lib.ListN.{length}
@@ -14,7 +14,8 @@ use Rattle.answers.specs.Lists.{frames_refusal}
 use Rattle.answers.specs.Numbers.{outcome_number}
 use Rattle.answers.proofs.GuardLaws.{refused-first, refused-later, neither-refused, guard_refused}
 use Rattle.answers.proofs.GuardLaws.{guard_accepted}
-use Rattle.answers.proofs.ListLaws.{frames_none, frames_fit}
+use Rattle.answers.specs.Limits.{max_elements}
+use Rattle.answers.proofs.ListLaws.{frames_long, frames_odd, frames_none, frames_fit}
 use Rattle.answers.proofs.NumberLaws.{number-positive}
 use Rattle.overlay.specs.Overlay.{overlay}
 use Rattle.overlay.proofs.OverlayLaws.{overlay_two}
@@ -39,6 +40,14 @@ module _ (rate : ℕ) (samples : List ℤ) (room : ℕ) where
   export_lengths number e h =
       sym (ap (λ (n : ℕ). or_else n (sound_refusal rate samples)) e
       ∙ refused-first number (sound_refusal rate samples) h)
+
+  -- 5: over 262,144 samples
+  pub export_long : max_elements < length samples → export_refusal rate samples room ≡ 5
+  export_long h = sym (export_lengths 5 (frames_long (length samples) (file_bytes (length samples)) room h) (omega arith))
+
+  -- 6: an odd number of them
+  pub export_odd : length samples ≤ max_elements → (length samples % 2 ≡ 0 → ⊥) → export_refusal rate samples room ≡ 6
+  export_odd f h = sym (export_lengths 6 (frames_odd (length samples) (file_bytes (length samples)) room f h) (omega arith))
 
   -- none of these three: the rate and the samples decide
   fits-is : Fits samples room → export_refusal rate samples room ≡ sound_refusal rate samples

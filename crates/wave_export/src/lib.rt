@@ -24,6 +24,7 @@ pub struct Exported {
 }
 
 // Answers why export refuses, by 5, 6, 11, 14 and 13, for a buffer of `room` bytes.
+#[tactic(auto, using(crate::proofs::ExportLaws::export_long, crate::proofs::ExportLaws::export_odd))]
 pub fn export_refusal(rate: u32, samples: &[i32], room: usize) -> Outcome
     ensures { outcome_number result ≡ export_refusal rate samples.now room }
 {

@@ -28,6 +28,7 @@ pub struct StereoDecodeState {
 
 // Whether a run length stands before a word, from the medians of both channels, in any order, and
 // what the words before left. The medians are tested first: in loud payloads they alone decide.
+#[tactic(auto, using(crate::proofs::DueLaws::none_due))]
 pub fn zero_run_eligible(
     one_set: AdaptiveMedians,
     other_set: AdaptiveMedians,

@@ -8,7 +8,7 @@ use native.Mathlib.Omega.{arith}
 use borrow.Author.Tests.{eq-eqb, ne_eqb}
 use Rattle.archive.specs.Block.{check_of, check_in, passes}
 use Rattle.block_faults.proofs.AskedLaws.{asked-fits}
-use Rattle.block_faults.proofs.WrongLaws.{wrong_check, wrong-length, wrong-number, wrong-used}
+use Rattle.block_faults.proofs.WrongLaws.{wrong_check, wrong-number, wrong-used}
 use Rattle.block_faults.proofs.WrongLaws.{wrong-filling, wrong-last, wrong-none, filling-is}
 use Rattle.block_faults.proofs.block_wrong.Goals as goal
 
@@ -21,24 +21,18 @@ returns-then-check_of-number_at c =
     wrong_check _ _ _ _ c.requires.size
     (ne_eqb _ _ (λ e. c.if-check_of-number_at.true (c.check_of.ensures ∙ e ∙ sym c.number_at.ensures.is)))
 
-pub returns-then-announced-gt-MAX_PAYLOAD_BYTES : goal.returns-then-announced-gt-MAX_PAYLOAD_BYTES
-returns-then-announced-gt-MAX_PAYLOAD_BYTES c =
-    wrong-length _ _ _ _ c.requires.size
-    (checked _ _ _ c.check_of.ensures c.number_at.ensures.is c.if-check_of-number_at.false)
-    c.if-announced-gt-MAX_PAYLOAD_BYTES.true
-
 pub returns-then-short_at-before : goal.returns-then-short_at-before
 returns-then-short_at-before c =
     wrong-number _ _ _ _ c.requires.size
     (checked _ _ _ c.check_of.ensures c.number_at.ensures.is c.if-check_of-number_at.false)
-    c.if-announced-gt-MAX_PAYLOAD_BYTES.false
+    (omega arith)
     (λ e. c.if-short_at-before.true (c.short_at.ensures ∙ e))
 
 pub returns-then-used-used_asked : goal.returns-then-used-used_asked
 returns-then-used-used_asked c =
     wrong-used _ _ _ _ c.requires.size
     (checked _ _ _ c.check_of.ensures c.number_at.ensures.is c.if-check_of-number_at.false)
-    c.if-announced-gt-MAX_PAYLOAD_BYTES.false
+    (omega arith)
     (sym c.short_at.ensures ∙ c.if-short_at-before.false)
     (λ e. c.if-used-used_asked.true (c.short_at-used.ensures ∙ e ∙ sym c.used_asked.ensures))
 
@@ -52,7 +46,7 @@ pub returns-then-not-is_clear : goal.returns-then-not-is_clear
 returns-then-not-is_clear c =
     wrong-filling _ _ _ _ c.requires.size
     (checked _ _ _ c.check_of.ensures c.number_at.ensures.is c.if-check_of-number_at.false)
-    c.if-announced-gt-MAX_PAYLOAD_BYTES.false
+    (omega arith)
     (sym c.short_at.ensures ∙ c.if-short_at-before.false)
     (sym c.short_at-used.ensures ∙ c.if-used-used_asked.false ∙ c.used_asked.ensures)
     (filling-is _ _ _ c.short_at-used.ensures c.is_clear.ensures ∙ c.if-not-is_clear.true)
@@ -61,7 +55,7 @@ pub returns-then-last : goal.returns-then-last
 returns-then-last c =
     wrong-last _ _ _ _ c.requires.size
     (checked _ _ _ c.check_of.ensures c.number_at.ensures.is c.if-check_of-number_at.false)
-    c.if-announced-gt-MAX_PAYLOAD_BYTES.false
+    (omega arith)
     (sym c.short_at.ensures ∙ c.if-short_at-before.false)
     (sym c.short_at-used.ensures ∙ c.if-used-used_asked.false ∙ c.used_asked.ensures)
     (filling-is _ _ _ c.short_at-used.ensures c.is_clear.ensures ∙ c.if-not-is_clear.false)
@@ -71,7 +65,7 @@ pub returns : goal.returns
 returns c =
     wrong-none _ _ _ _ c.requires.size
     (checked _ _ _ c.check_of.ensures c.number_at.ensures.is c.if-check_of-number_at.false)
-    c.if-announced-gt-MAX_PAYLOAD_BYTES.false
+    (omega arith)
     (sym c.short_at.ensures ∙ c.if-short_at-before.false)
     (sym c.short_at-used.ensures ∙ c.if-used-used_asked.false ∙ c.used_asked.ensures)
     (filling-is _ _ _ c.short_at-used.ensures c.is_clear.ensures ∙ c.if-not-is_clear.false)

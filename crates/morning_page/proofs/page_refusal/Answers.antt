@@ -3,17 +3,10 @@
 use mathlib.Core.Path.{sym}
 use Prim.Native.Nat.{◌*◌, ◌<◌, ◌≤◌}
 use native.Mathlib.Omega.{arith}
-use Rattle.answers.proofs.ListLaws.{frames_long, frames_odd, frames_room, frames_none}
+use Rattle.answers.proofs.ListLaws.{frames_room, frames_none}
 use Rattle.page_lines.specs.Page.{line_bytes, line_count}
 use Rattle.page_lines.proofs.CountLaws.{lines-few}
 use Rattle.morning_page.proofs.page_refusal.Goals as goal
-
-pub returns-then-elements-gt-MAX_ELEMENTS : goal.returns-then-elements-gt-MAX_ELEMENTS
-returns-then-elements-gt-MAX_ELEMENTS c = sym (frames_long _ _ _ c.if-elements-gt-MAX_ELEMENTS.true)
-
-pub returns-then-elements-ne0 : goal.returns-then-elements-ne0
-returns-then-elements-ne0 c =
-    sym (frames_odd _ _ _ c.if-elements-gt-MAX_ELEMENTS.false c.if-elements-ne0.true)
 
 pub overflow_mul-line_count : goal.overflow_mul-line_count
 overflow_mul-line_count c =

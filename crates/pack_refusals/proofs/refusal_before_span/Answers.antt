@@ -2,22 +2,20 @@
 -- Assumes nothing.
 use mathlib.Core.Path.{◌≡◌, sym, ap, ◌∙◌}
 use mathlib.Core.List.{List}
+use native.Mathlib.Omega.{arith}
 use Prim.Native.Nat.{ℕ}
 use Rattle.answers.specs.declared.Outcome.{Outcome}
 use Rattle.answers.specs.Numbers.{outcome_number}
 use Rattle.entropy.specs.Seed.{seed_refusal}
-use Rattle.packing.proofs.RefusalLaws.{before_frames, before-list, before-seeds, before-room, before-none}
+use Rattle.packing.proofs.RefusalLaws.{before-list, before-seeds, before-room, before-none}
 use Rattle.pack_refusals.proofs.refusal_before_span.Goals as goal
 
-pub returns-then-frames-gt-MAX_FRAMES : goal.returns-then-frames-gt-MAX_FRAMES
-returns-then-frames-gt-MAX_FRAMES c = before_frames _ _ _ _ c.if-frames-gt-MAX_FRAMES.true
-
 pub returns-then-elements-frames : goal.returns-then-elements-frames
-returns-then-elements-frames c = before-list _ _ _ _ c.if-frames-gt-MAX_FRAMES.false c.if-elements-frames.true
+returns-then-elements-frames c = before-list _ _ _ _ (omega arith) c.if-elements-frames.true
 
 pub returns-in_default : goal.returns-in_default
 returns-in_default c =
-    before-seeds _ _ _ _ c.if-frames-gt-MAX_FRAMES.false c.if-elements-frames.false _ _ c.in_default.is
+    before-seeds _ _ _ _ (omega arith) c.if-elements-frames.false _ _ c.in_default.is
     c.stereo_pair_from_entropy-seed.ensures.outcome
 
 -- the entropy payload is accepted
@@ -27,7 +25,7 @@ seeded entropy a e = sym (ap outcome_number a) ∙ e
 
 pub returns-then-room-frames : goal.returns-then-room-frames
 returns-then-room-frames c =
-    before-room _ _ _ _ c.if-frames-gt-MAX_FRAMES.false c.if-elements-frames.false
+    before-room _ _ _ _ (omega arith) c.if-elements-frames.false
     (seeded c.args.entropy.now c.in-Accepted.is c.stereo_pair_from_entropy-seed.ensures.outcome)
     c.if-room-frames.true
 
@@ -35,7 +33,7 @@ pub returns : goal.returns
 returns c =
     before-none _ _ _ _
     (record {
-      frames_few = c.if-frames-gt-MAX_FRAMES.false;
+      frames_few = omega arith;
       list-is = c.if-elements-frames.false;
       seeded = seeded c.args.entropy.now c.in-Accepted.is c.stereo_pair_from_entropy-seed.ensures.outcome;
       enough = c.if-room-frames.false;

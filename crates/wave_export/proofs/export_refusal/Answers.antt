@@ -2,18 +2,9 @@
 -- Assumes nothing.
 use mathlib.Core.Path.{sym, ◌∙◌}
 use native.Mathlib.Omega.{arith}
-use Rattle.answers.proofs.ListLaws.{frames_long, frames_odd, frames_room}
+use Rattle.answers.proofs.ListLaws.{frames_room}
 use Rattle.wave_export.proofs.ExportLaws.{export_lengths, export_rate, export_span, export_none}
 use Rattle.wave_export.proofs.export_refusal.Goals as goal
-
-pub returns-then-samples-gt-MAX_ELEMENTS : goal.returns-then-samples-gt-MAX_ELEMENTS
-returns-then-samples-gt-MAX_ELEMENTS c =
-    export_lengths _ _ _ 5 (frames_long _ _ _ c.if-samples-gt-MAX_ELEMENTS.true) (omega arith)
-
-pub returns-then-samples-ne0 : goal.returns-then-samples-ne0
-returns-then-samples-ne0 c =
-    export_lengths _ _ _ 6 (frames_odd _ _ _ c.if-samples-gt-MAX_ELEMENTS.false c.if-samples-ne0.true)
-    (omega arith)
 
 pub returns-then-room-samples : goal.returns-then-room-samples
 returns-then-room-samples c = export_lengths _ _ _ 11

