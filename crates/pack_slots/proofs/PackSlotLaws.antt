@@ -1,6 +1,6 @@
 -- What the call of packing leaves, each way out by a law; the bits written fit 32 bits.
 -- Assumes nothing.
-use mathlib.Core.Path.{◌≡◌, ap}
+use mathlib.Core.Path.{◌≡◌, refl, sym, ap}
 use mathlib.Core.List.{List}
 use Prim.Native.Nat.{ℕ, ◌*◌, ◌≤◌, ◌<◌}
 use lib.IntN.{ℤ}
@@ -29,6 +29,10 @@ module _ (residuals : List ℤ) (entropy : List ℕ) (frames : ℕ) (buffer : Li
         → record { refusal = r; bytes = buffer; answer = answer } ≡ pack_call residuals entropy frames buffer answer
     unfolding pack_call
     pack-short r e h = rw (lt-ltb (length answer) 7 h, e)
+
+    pub pack_few : length answer < 7
+        → pack_call residuals entropy frames buffer answer ≡ record { refusal = 6; bytes = buffer; answer = answer }
+    pack_few h = sym (pack-short 6 refl h)
 
     -- what packing told
     pub pack-laid : (x : PackAnswer) (bytes : List ℕ) (r : ℕ) (after : List ℕ) → view_packing x bytes ≡ pack_entry residuals entropy frames buffer

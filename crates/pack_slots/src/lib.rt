@@ -11,6 +11,7 @@ use median_slots::lay_counts;
 use pack_entry::encode_packed_samples_stereo_from_entropy;
 
 // `wv_pack`: the packed bytes, and into 7 slots bits written, left medians and right medians.
+#[tactic(auto, using(crate::proofs::PackSlotLaws::pack_few))]
 pub fn pack_call(
     residuals: &[i32],
     entropy: &[u8],

@@ -1,6 +1,6 @@
 -- The answers of each call, by what its entry told.
 -- Assumes nothing.
-use mathlib.Core.Path.{◌≡◌, ap, ◌∙◌}
+use mathlib.Core.Path.{◌≡◌, refl, sym, ap, ◌∙◌}
 use mathlib.Core.List.{List, [], ◌∷◌}
 use Prim.Native.Nat.{ℕ, ◌≤◌, ◌<◌}
 use lib.IntN.{ℤ}
@@ -41,6 +41,9 @@ module _ (file : List ℕ) (samples : List ℤ) (answer : List ℕ) where
       → record { refusal = r; list = samples; answer = answer } ≡ import_call file samples answer
   unfolding import_call
   import_short r e h = fill-short 2 samples _ answer _ _ r e h
+
+  pub import_few : length answer < 2 → import_call file samples answer ≡ record { refusal = 6; list = samples; answer = answer }
+  import_few h = sym (import_short 6 refl h)
 
   pub import_refused : (o : Outcome) (x : Refusal) (rate w r : ℕ) (after : List ℤ) → 2 ≤ length answer
       → record { refusal = outcome_number o; rate = rate; written = w; samples = after }

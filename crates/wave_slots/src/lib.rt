@@ -32,6 +32,7 @@ pub fn export_call(rate: u32, samples: &[i32], out: &mut [u8], answer: &mut [u32
 
 // `wv_wave_import`: the samples of the file into `samples`, and into 2 slots its rate and how many
 // samples it has. Refuses 6 for `answer`, then 5, 14 and 11.
+#[tactic(auto, using(crate::proofs::WaveSlotLaws::import_few))]
 pub fn import_call(file: &[u8], samples: &mut [i32], answer: &mut [u32]) -> u32
     ensures { record { refusal = result; list = samples.new; answer = answer.new }
         ≡ import_call file.now samples.old answer.old }

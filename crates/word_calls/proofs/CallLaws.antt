@@ -1,6 +1,6 @@
 -- What the calls of reading and of one word leave, each way out by a law.
 -- Assumes nothing.
-use mathlib.Core.Path.{◌≡◌}
+use mathlib.Core.Path.{◌≡◌, refl, sym}
 use mathlib.Core.Bool.{true, ◌||◌}
 use mathlib.Core.List.{List, ◌∷◌}
 use Prim.Native.Nat.{ℕ, ◌≤◌, ◌<◌}
@@ -40,6 +40,10 @@ module _ (entropy payload : List ℕ) (frames : ℕ) (samples : List ℤ) (answe
       → record { refusal = r; samples = samples; answer = answer } ≡ read_call entropy payload frames samples answer
   unfolding read_call
   read_short r e h = rw (lt-ltb (length answer) 10 h, e)
+
+  pub read_few : length answer < 10
+      → read_call entropy payload frames samples answer ≡ record { refusal = 6; samples = samples; answer = answer }
+  read_few h = sym (read_short 6 refl h)
 
   -- what reading told: bits and medians, and behind them the count and both totals
   pub read-laid : (x : ReadAnswer) (list : List ℤ) (r : ℕ) (first after : List ℕ)

@@ -17,6 +17,7 @@ use word_slots::lay_word;
 
 // `wv_read`: the samples, and into 10 slots bits used, left medians, right medians, samples written,
 // bits of left and bits of right.
+#[tactic(auto, using(crate::proofs::CallLaws::read_few))]
 pub fn read_call(
     entropy: &[u8],
     payload: &[u8],

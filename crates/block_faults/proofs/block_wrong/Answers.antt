@@ -34,7 +34,7 @@ returns-then-used-used_asked c =
     (checked _ _ _ c.check_of.ensures c.number_at.ensures.is c.if-check_of-number_at.false)
     (omega arith)
     (sym c.short_at.ensures ∙ c.if-short_at-before.false)
-    (λ e. c.if-used-used_asked.true (c.short_at-used.ensures ∙ e ∙ sym c.used_asked.ensures))
+    (λ e. omega (arith, c.short_at-used.ensures, e, c.used_asked.ensures))
 
 pub overflow_add-used : goal.overflow_add-used
 overflow_add-used c = omega (arith, asked-fits c.args.announced c.args.before)

@@ -2,20 +2,14 @@
 -- 32 bits.
 -- Assumes nothing.
 use native.Mathlib.Omega.{arith}
-use Rattle.pack_slots.proofs.PackSlotLaws.{pack-short, pack-fits, pack-laid}
+use Rattle.pack_slots.proofs.PackSlotLaws.{pack-fits, pack-laid}
 use Rattle.pack_slots.proofs.pack_call.Goals as goal
-
-pub returns-then-answer-lt7 : goal.returns-then-answer-lt7
-returns-then-answer-lt7 c =
-    pack-short c.args.residuals.now c.args.entropy.now c.args.frames c.args.out.now c.args.answer.now _
-    c.number.ensures
-    (omega (arith, c.if-answer-lt7.true))
 
 pub returns : goal.returns
 returns c =
     pack-laid c.args.residuals.now c.args.entropy.now c.args.frames c.args.out.now c.args.answer.now
     c.encode_packed_samples_stereo_from_entropy-packed.result _ _ _
-    c.encode_packed_samples_stereo_from_entropy-packed.ensures c.if-answer-lt7.false
+    c.encode_packed_samples_stereo_from_entropy-packed.ensures (omega arith)
     c.outcome_number.ensures c.lay_counts.ensures
 
 pub lay_counts-requires-clause-bits : goal.lay_counts-requires-clause-bits

@@ -2,13 +2,8 @@
 -- counts fit 32 bits.
 -- Assumes nothing.
 use native.Mathlib.Omega.{arith}
-use Rattle.word_calls.proofs.CallLaws.{read_short, read-laid, read_counts}
+use Rattle.word_calls.proofs.CallLaws.{read-laid, read_counts}
 use Rattle.word_calls.proofs.read_call.Goals as goal
-
-pub returns-then-answer-lt10 : goal.returns-then-answer-lt10
-returns-then-answer-lt10 c =
-    read_short c.args.entropy.now c.args.payload.now c.args.frames c.args.samples.now c.args.answer.now _
-    c.number.ensures c.if-answer-lt10.true
 
 pub lay_counts-requires-clause-bits : goal.lay_counts-requires-clause-bits
 lay_counts-requires-clause-bits c =
@@ -50,6 +45,6 @@ pub returns : goal.returns
 returns c =
     read-laid c.args.entropy.now c.args.payload.now c.args.frames c.args.samples.now c.args.answer.now
     c.decode_packed_samples_stereo_from_entropy-read.result
-    _ _ _ _ c.decode_packed_samples_stereo_from_entropy-read.ensures c.if-answer-lt10.false
+    _ _ _ _ c.decode_packed_samples_stereo_from_entropy-read.ensures (omega arith)
     c.outcome_number.ensures c.lay_counts.ensures
     c.lay_words.ensures
