@@ -106,6 +106,11 @@ module _ (text : List ℕ) where
             (ltb 0 (length text)),
       ))
 
+  pub too_large : (value i : ℕ) → Typed text value i → i < length text
+      → 4294967296 ≤ 10 * value + (get_or text i 0 - 48)
+      → threshold_in text ≡ record { valid = false; value = 0 }
+  too_large value i t h l = sym (typed_large value i h t l)
+
   -- a text of digits and a small number is a threshold, but for the empty one, whose number is 0
   all_digits_lem : (value : ℕ) → all_digits text ≡ true → value ≡ read_digits 0 text → value < 4294967296
       → record { valid = ltb 0 (length text); value = value } ≡ threshold_in text

@@ -23,6 +23,7 @@ fn is_digit(byte: u8) -> bool
 }
 
 // Reads a threshold: decimal digits alone, of a number below 2 to the 32. Any other text has none.
+#[tactic(auto, using(crate::proofs::ThresholdLaws::too_large))]
 pub fn threshold_of(text: &[u8]) -> Threshold
     ensures { result ≡ threshold_in text.now }
 {

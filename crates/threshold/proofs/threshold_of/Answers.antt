@@ -8,7 +8,7 @@ use mathlib.Core.List.{List}
 use native.Mathlib.Omega.{arith}
 use lib.ListN.{length, get_or}
 use Rattle.threshold.specs.Threshold.{is_digit}
-use Rattle.threshold.proofs.ThresholdLaws.{Typed, typed_more, typed_other, typed_large}
+use Rattle.threshold.proofs.ThresholdLaws.{Typed, typed_more, typed_other}
 use Rattle.threshold.proofs.ThresholdLaws.{typed_all, digit_low}
 use Rattle.threshold.proofs.threshold_of.Goals as goal
 
@@ -31,17 +31,11 @@ digit text value i h t e =
     let b = digit_low _ e in
     record { within = h; typed = t; is_one = e; low = b.0; high = b.1 }
 
-pub returns-then-value-ge4294967296 : goal.returns-then-value-ge4294967296
-returns-then-value-ge4294967296 c =
-    let d = digit _ _ _ c.loop-i-test.true c.loop-i.invariant
-    (sym c.is_digit.ensures ∙ c.if-not-is_digit.false) in
-    typed_large _ _ _ d.within d.typed c.if-value-ge4294967296.true
-
 pub loop-i-preserved : goal.loop-i-preserved
 loop-i-preserved c =
     let d = digit _ _ _ c.loop-i-test.true c.loop-i.invariant
     (sym c.is_digit.ensures ∙ c.if-not-is_digit.false) in
-    typed_more _ _ _ d.within d.typed d.is_one c.if-value-ge4294967296.false
+    typed_more _ _ _ d.within d.typed d.is_one (omega arith)
 
 pub overflow_sub-value : goal.overflow_sub-value
 overflow_sub-value c = (digit_low _ (sym c.is_digit.ensures ∙ c.if-not-is_digit.false)).0
