@@ -4,7 +4,7 @@ use mathlib.Core.Path.{◌≡◌, sym, ap, ◌∙◌}
 use Prim.Native.Nat.{ℕ, ◌<◌}
 use native.Mathlib.Omega.{arith}
 use Rattle.answers.specs.declared.Refusal.{Refusal}
-use Rattle.answers.specs.declared.Outcome.{Outcome}
+use Rattle.std.specs.Prelude.{Result, Ok, Err}
 use Rattle.answers.specs.Guard.{or_else}
 use Rattle.answers.specs.Numbers.{number_of, outcome_number}
 use Rattle.answers.proofs.GuardLaws.{refused-first}
@@ -31,14 +31,16 @@ number-positive Refusal.LogWordOutOfReach = omega arith
 number-positive Refusal.BadBlock = omega arith
 number-positive Refusal.RecordingTwice = omega arith
 
--- nor is a refused outcome's
-pub refused-positive : (o : Outcome) (r : Refusal) → o ≡ Outcome.Refused r → 0 < outcome_number o
-refused-positive o r e = rw e (number-positive r)
+module _ {T : Type 0} where
+  -- nor is a refused answer's
+  pub refused-positive : (o : Result T Refusal) (r : Refusal) → o ≡ Err r → 0 < outcome_number o
+  refused-positive o r e = rw e (number-positive r)
 
--- of two outcomes a refusal of the first is told
-pub first-refuses : (o : Outcome) (q : Refusal) (m later : ℕ) → o ≡ Outcome.Refused q → outcome_number o ≡ m → outcome_number o ≡ or_else m later
-first-refuses o q m later s e = rw (← e) (sym (refused-first (outcome_number o) later (refused-positive o q s)))
+  -- of two answers a refusal of the first is told
+  pub first-refuses : (o : Result T Refusal) (q : Refusal) (m later : ℕ) → o ≡ Err q → outcome_number o ≡ m → outcome_number o ≡ or_else m later
+  first-refuses o q m later s e = rw (← e) (sym (refused-first (outcome_number o) later (refused-positive o q s)))
 
 -- where the first refuses nothing, the second decides
-pub second_decides : (o r : Outcome) (m later : ℕ) → o ≡ Outcome.Accepted → outcome_number o ≡ m → outcome_number r ≡ later → outcome_number r ≡ or_else m later
-second_decides o r m later s e t = let z : m ≡ 0 = sym e ∙ ap outcome_number s in rw z t
+pub second_decides : {T U : Type 0} (o : Result T Refusal) (r : Result U Refusal) (v : T) (m later : ℕ) → o ≡ Ok v → outcome_number o ≡ m
+    → outcome_number r ≡ later → outcome_number r ≡ or_else m later
+second_decides o r v m later s e t = let z : m ≡ 0 = sym e ∙ ap outcome_number s in rw z t

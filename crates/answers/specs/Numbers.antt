@@ -1,9 +1,8 @@
 -- Document 01, "Why each operation says no", and document 02: the refusal numbers. The promises of
 -- all entries use these two definitions.
 -- Assumes nothing.
-use Rattle.std.specs.Prelude.{ℕ}
+use Rattle.std.specs.Prelude.{ℕ, Result, Ok, Err}
 use Rattle.answers.specs.declared.Refusal.{Refusal}
-use Rattle.answers.specs.declared.Outcome.{Outcome}
 
 -- the number of a refusal
 abbrev pub number_of : Refusal → ℕ
@@ -27,7 +26,7 @@ number_of Refusal.LogWordOutOfReach = 17
 number_of Refusal.BadBlock = 18
 number_of Refusal.RecordingTwice = 19
 
--- the number of an outcome: 0 means accepted
-abbrev pub outcome_number : Outcome → ℕ
-outcome_number Outcome.Accepted = 0
-outcome_number (Outcome.Refused refusal) = number_of refusal
+-- the number of an answer: 0 means accepted
+abbrev pub outcome_number : {T : Type 0} → Result T Refusal → ℕ
+outcome_number (Ok value) = 0
+outcome_number (Err refusal) = number_of refusal

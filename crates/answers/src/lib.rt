@@ -1,6 +1,6 @@
 // Implements document 01, "Why each operation says no", and the numbers that document 02 adds: one
-// enum for all of them, and what an entry answers. Every entry answers with an `Outcome`; none
-// refuses for a reason that is not listed here.
+// enum for all of them. An entry answers with a `Result`, of which the error is a `Refusal`; none refuses
+// for a reason that is not listed here.
 
 #![tactic(auto)]
 
@@ -11,7 +11,7 @@ ghost use Rattle.answers.specs.Numbers.{number_of, outcome_number};
 pub mod limits;
 
 // A reason to refuse. The order is that of the numbers 1 to 19.
-#[derive(Clone, Copy)]
+#[derive(Clone, Copy, Debug, PartialEq, Eq)]
 pub enum Refusal {
     // The entropy payload is neither 6 nor 12 bytes long.
     EntropyLength,
@@ -53,13 +53,6 @@ pub enum Refusal {
     RecordingTwice,
 }
 
-// What an entry says: that it accepted its input, or why not.
-#[derive(Clone, Copy)]
-pub enum Outcome {
-    Accepted,
-    Refused(Refusal),
-}
-
 // The number of a refusal, 1 to 19.
 pub fn number(refusal: Refusal) -> u32
     ensures { result ≡ number_of refusal }
@@ -87,22 +80,19 @@ pub fn number(refusal: Refusal) -> u32
     }
 }
 
-// The number of an outcome: 0 where the input was accepted.
-pub fn outcome_number(outcome: Outcome) -> u32
-    ensures { result ≡ outcome_number outcome }
+// The number of an answer: 0 where the input was accepted.
+pub fn outcome_number<T>(answer: &Result<T, Refusal>) -> u32
+    ensures { result ≡ outcome_number answer.now }
 {
-    match outcome {
-        Outcome::Accepted => 0,
-        Outcome::Refused(refusal) => number(refusal),
+    match answer {
+        Ok(_) => 0,
+        Err(refusal) => number(*refusal),
     }
 }
 
 // The first of two outcomes that is a refusal.
-pub fn or_else(first: Outcome, later: Outcome) -> Outcome
+pub fn or_else(first: Result<(), Refusal>, later: Result<(), Refusal>) -> Result<(), Refusal>
     ensures { outcome_number result ≡ or_else (outcome_number first) (outcome_number later) }
 {
-    let Outcome::Accepted = first else {
-        return first;
-    };
-    later
+    first.and(later)
 }
