@@ -43,10 +43,8 @@ pub fn is_within(list: &[i32], span: u32) -> bool
     ensures { result ≡ within span list.now }
 {
     let mut outside: u32 = 0;
-    let mut i: usize = 0;
-    while i < list.len() {
-        outside = outside + excess(list[i], span);
-        i = i + 1;
+    for number in list {
+        outside += excess(*number, span);
     }
     outside == 0
 }
