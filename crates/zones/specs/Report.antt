@@ -1,8 +1,7 @@
 -- Document 01 (Z1): what a word reports, and the report that an enum of zones is.
 -- Assumes nothing.
-use Rattle.std.specs.Prelude.{ℕ, zero, suc}
+use Rattle.std.specs.Prelude.{ℕ, zero, suc, Option, None, Some}
 use Rattle.zones.specs.declared.Zone.{Zone}
-use Rattle.zones.specs.declared.MaybeZone.{MaybeZone}
 
 -- document 01 (Z1): "A word's report holds its zone, the overflow zone with its count; a zero out
 -- of a run and a refused word report none"
@@ -28,6 +27,6 @@ report_of_zone Zone.Zone2 = zone2
 report_of_zone (Zone.Zone2Overflow k) = over k
 
 -- and none
-abbrev pub report_of : MaybeZone → Report
-report_of MaybeZone.None = none
-report_of (MaybeZone.Some z) = report_of_zone z
+abbrev pub report_of : Option Zone → Report
+report_of None = none
+report_of (Some zone) = report_of_zone zone

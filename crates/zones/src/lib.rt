@@ -19,28 +19,17 @@ impl Zone {
     pub fn from_ones_count(ones_count: u32) -> Zone
         ensures { report_of_zone result ≡ zone_of ones_count }
     {
-        if ones_count == 0 {
-            return Zone::Zone0;
+        match ones_count {
+            0 => Zone::Zone0,
+            1 => Zone::Zone1,
+            2 => Zone::Zone2,
+            _ => Zone::Zone2Overflow { ones_count },
         }
-        if ones_count == 1 {
-            return Zone::Zone1;
-        }
-        if ones_count == 2 {
-            return Zone::Zone2;
-        }
-        Zone::Zone2Overflow { ones_count }
     }
 }
 
-// A zone, or none: for a zero out of a run and for a refused word.
-#[derive(Clone, Copy)]
-pub enum MaybeZone {
-    None,
-    Some(Zone),
-}
-
-// What a word reports to the viewer.
+// What a word reports to the viewer: its zone, or none for a zero out of a run and for a refused word.
 #[derive(Clone, Copy)]
 pub struct WordReport {
-    pub zone: MaybeZone,
+    pub zone: Option<Zone>,
 }
