@@ -7,7 +7,7 @@ use Prim.Native.Nat.{ℕ, ◌≤◌, ◌<◌}
 use lib.IntN.{ℤ}
 use lib.ListN.{length}
 use borrow.Author.Tests.{lt-ltb, le-ltb}
-use Rattle.answers.specs.declared.Outcome.{Outcome}
+use Rattle.std.specs.Prelude.{Result, Err}
 use Rattle.answers.specs.declared.Refusal.{Refusal}
 use Rattle.answers.specs.Guard.{or_else}
 use Rattle.answers.specs.Numbers.{outcome_number}
@@ -26,7 +26,7 @@ module _ (n number : ℕ) (values slots : List ℤ) where
   call-short r e h = rw (lt-ltb (length slots) n h, e) (refl, refl)
 
   -- an input that is refused
-  pub call-refused : (r : ℕ) (o : Outcome) (refusal : Refusal) → r ≡ outcome_number o → o ≡ Outcome.Refused refusal → outcome_number o ≡ number
+  pub call-refused : {T : Type 0} (r : ℕ) (o : Result T Refusal) (refusal : Refusal) → r ≡ outcome_number o → o ≡ Err refusal → outcome_number o ≡ number
       → n ≤ length slots → Called r slots
   call-refused r o refusal e f g h =
       rw (le-ltb (length slots) n h) (e ∙ g, sym (guard_refused r (λ _. slots) (overlay slots 0 values) (rw (e, f) (number-positive refusal))))

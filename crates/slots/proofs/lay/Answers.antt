@@ -1,27 +1,23 @@
--- `slots::lay` meets its contract. The loop's invariant: the first i values are copied, and the
--- list has its length. The measure is what is left of the values.
+-- `slots::lay` meets its contract: what stands before the values and behind them is kept.
 -- Assumes nothing.
-use mathlib.Core.Path.{◌∙◌}
-use native.Mathlib.Numerals.{add-one}
+use mathlib.Core.Path.{◌≡◌, ap, ◌∙◌}
+use mathlib.Core.List.{List, append_assoc}
+use Prim.Native.Nat.{ℕ, ◌+◌, ◌-◌}
 use native.Mathlib.Omega.{arith}
-use lib.IntN.{pos}
-use lib.ListN.{get_or, length-set}
-use lib.Seq.{paste-suc}
-use mir.Syntax.{w32}
-use mir.ValLaws.{to_z-of_z}
-use borrow.Author.Rules.{rules}
-use Rattle.overlay.proofs.OverlayLaws.{overlay_copied}
+use lib.ListN.{length, take}
+use lib.Seq.{drop-drop}
+use borrow.Rule.Slice.PartMut.{put_mid}
+use Rattle.overlay.specs.Overlay.{overlay}
 use Rattle.slots.proofs.lay.Goals as goal
 
-pub loop-i-preserved : goal.loop-i-preserved
-loop-i-preserved c =
-    let a = c.args in
-    let vs = c.args.values.now in
-    let t = c.loop-i in
-    (omega arith, simp length-set c.loop-i.invariant.1, rw (to_z-of_z w32 (get_or vs c.loop-i.i (pos 0)) (search rules), c.loop-i.invariant.2, add-one c.loop-i.i) (paste-suc c.args.slots.now c.args.at vs c.loop-i.i (pos 0) (omega arith) (omega arith)))
+-- values in the place of as many slots
+laid : {A : Type 0} (slots values : List A) (at n : ℕ) → n ≡ length values → put_mid at n slots values ≡ overlay slots at values
+unfolding overlay
+laid slots values at n e = rw (e, drop-drop (length values) at slots, append_assoc (take at slots) values _)
 
 pub returns : goal.returns
-returns c =
-    let a = c.args in
-    let t = c.loop-i in
-    c.loop-i.invariant.2 ∙ overlay_copied c.args.slots.now c.args.values.now c.args.at c.loop-i.i (omega arith)
+returns g c =
+    let n = length c.args.values.now in
+    let at = c.args.at in
+    ap (put_mid at (at + n - at) c.args.slots.now) c.copy_from_slice.ensures.after
+    ∙ laid c.args.slots.now c.args.values.now at (at + n - at) (omega arith)
