@@ -17,9 +17,9 @@ use Rattle.bits.specs.Bits.{bit_of, low, num, ones}
 use Rattle.bits.specs.BitByBit.{BitByBit, one_more}
 use Rattle.bits.specs.Fields.{get_bits, unary, and_then}
 use Rattle.bits.specs.Window.{Window}
-use Rattle.bits.specs.declared.Field.TheVariants.{Value, Truncated}
+use Rattle.std.specs.Prelude.{Option, Some, None}
 use Rattle.bits.proofs.BitLaws.{length-low, low-shifted}
-use Rattle.bits.proofs.ReadLaws.{bits-yes, bits_no, unary-yes, unary_no, unary-missing}
+use Rattle.bits.proofs.ReadLaws.{same-field, bits-yes, bits_no, unary-yes, unary_no, unary-missing}
 
 -- ---- the ones of joined bits
 
@@ -134,46 +134,47 @@ passed_on {bits} {at} {p} {j} {n} q d c h e = rw e (record {
 
 -- a window with a zero ends the count
 pub passed-stop : {bits : List Bool} {at p j n : ℕ} → Passed bits at p → Counted bits p j n → n < j
-    → unary bits at ≡ Value (p + n - at) (p + n + 1)
+    → unary bits at ≡ Some (p + n - at, p + n + 1)
 passed-stop {bits} {at} {p} {j} {n} d c h =
     let z = c.stop h in
     unary-yes bits at (omega (arith, d.since, d.left, d.ones_are, c.left))
-    ∙ ap₂ Value (omega (arith, d.since, d.ones_are)) (omega (arith, d.since, d.ones_are))
+    ∙ ap₂ (λ (v q : ℕ). Some (v, q)) (omega (arith, d.since, d.ones_are)) (omega (arith, d.since, d.ones_are))
 
 -- at the payload's end no zero was found
 pub passed-end : {bits : List Bool} {at p : ℕ} → Passed bits at p → length (drop p bits) ≡ 0
-    → unary bits at ≡ Truncated
+    → unary bits at ≡ None
 passed-end {bits} {at} {p} d h = unary_no bits at (omega (arith, d.since, d.left, d.ones_are))
 
 -- a count from p on and the ones passed before it are the count from at on, which ends inside the
 -- payload
 pub record Whole (bits : List Bool) (at p n q : ℕ) : Type 0 where
   pub inside : at + (p - at + n) < length bits
-  pub same : unary bits at ≡ Value (p - at + n) q
+  pub same : unary bits at ≡ Some (p - at + n, q)
 
-pub passed-whole : {bits : List Bool} {at p n q : ℕ} → Passed bits at p → unary bits p ≡ Value n q
+pub passed-whole : {bits : List Bool} {at p n q : ℕ} → Passed bits at p → unary bits p ≡ Some (n, q)
     → Whole bits at p n q
 passed-whole {bits} {at} {p} {n} {q} d e = go (dec_lt (ones (drop p bits)) (length (drop p bits)))
   where
     go : Dec (ones (drop p bits) < length (drop p bits)) → Whole bits at p n q
     go (yes h) =
-        let f : Value (ones (drop p bits)) (p + ones (drop p bits) + 1) ≡ Value n q =
+        let f : ◌≡◌ {A = Option (ℕ × ℕ)} (Some (ones (drop p bits), p + ones (drop p bits) + 1)) (Some (n, q)) =
         sym (unary-yes bits p h) ∙ e in
-        let a : ones (drop p bits) ≡ n = cc in
-        let b : p + ones (drop p bits) + 1 ≡ q = cc in
+        let s = same-field f in
+        let a : ones (drop p bits) ≡ n = s.0 in
+        let b : p + ones (drop p bits) + 1 ≡ q = s.1 in
         record {
           inside = omega (arith, d.since, length-drop p bits);
           same =
               unary-yes bits at (omega (arith, d.left, d.ones_are))
-              ∙ ap₂ Value (omega (arith, d.since, d.ones_are)) (omega (arith, d.ones_are));
+              ∙ ap₂ (λ (v q : ℕ). Some (v, q)) (omega (arith, d.since, d.ones_are)) (omega (arith, d.ones_are));
         }
     go (no h) =
-        let f : Truncated ≡ Value n q = sym (unary_no bits p (omega arith)) ∙ e in
+        let f : ◌≡◌ {A = Option (ℕ × ℕ)} None (Some (n, q)) = sym (unary_no bits p (omega arith)) ∙ e in
         let z : ◌≡◌ {A = ℕ} 0 1 = cc in absurd (omega arith)
 
 -- where none is found from p on, none is from at on
-pub passed-missing : {bits : List Bool} {at p : ℕ} → Passed bits at p → unary bits p ≡ Truncated
-    → unary bits at ≡ Truncated
+pub passed-missing : {bits : List Bool} {at p : ℕ} → Passed bits at p → unary bits p ≡ None
+    → unary bits at ≡ None
 passed-missing {bits} {at} {p} d e =
     unary_no bits at (omega (arith, d.since, d.left, d.ones_are, unary-missing bits p e))
 
@@ -198,7 +199,7 @@ one_more_lem bits p t e = go (dec_lt (ones (drop (p + 1) bits)) (length (drop (p
         → unary bits p ≡ one_more (unary bits (p + 1))
     go (yes h) =
         rw (unary-yes bits (p + 1) h, unary-yes bits p (omega (arith, o, l)))
-        (ap₂ Value (omega (arith, o)) (omega (arith, o)))
+        (ap₂ (λ (v q : ℕ). Some (v, q)) (omega (arith, o)) (omega (arith, o)))
     go (no h) = rw (unary_no bits (p + 1) (omega arith), unary_no bits p (omega (arith, o, l)))
 
 -- Q3.1: every count is that of counting bit by bit
@@ -208,13 +209,13 @@ bit_by_bit bits p = go (drop p bits) refl
   where
     go : (l : List Bool) → drop p bits ≡ l
         → unary bits p ≡ and_then (get_bits bits p 1)
-        (λ bit next. cond (eqb bit 0) (Value 0 next) (one_more (unary bits next)))
+        (λ bit next. cond (eqb bit 0) (Some (0, next)) (one_more (unary bits next)))
     go [] e = rw (unary_no bits p (omega (arith, ap length e)), bits_no bits p 1 (omega (arith, ap length e)))
     go (false ∷ t) e =
         let v : num (take 1 (drop p bits)) ≡ 0 = ap (λ (x : List Bool). num (take 1 x)) e in
         rw (bits-yes bits p 1 (omega (arith, ap length e)), v)
         (unary-yes bits p (omega (arith, ap length e, ap ones e))
-        ∙ ap₂ Value (ap ones e) (omega (arith, ap ones e)))
+        ∙ ap₂ (λ (v q : ℕ). Some (v, q)) (ap ones e) (omega (arith, ap ones e)))
     go (true ∷ t) e =
         let v : num (take 1 (drop p bits)) ≡ 1 = ap (λ (x : List Bool). num (take 1 x)) e in
         rw (bits-yes bits p 1 (omega (arith, ap length e)), v) (one_more_lem bits p t e)

@@ -10,7 +10,7 @@ use lib.ListN.{length, take, drop, replicate, length-append}
 use lib.Seq.{drop-drop, drop-append_seam, take-append_seam}
 use Rattle.bits.specs.Bits.{low, num, ones}
 use Rattle.bits.specs.Fields.{get_bits, unary, unary_field}
-use Rattle.bits.specs.declared.Field.TheVariants.{Value}
+use Rattle.std.specs.Prelude.{Some}
 use Rattle.bits.proofs.BitLaws.{length-low, num-low}
 use Rattle.bits.proofs.ReadLaws.{bits-yes, unary-yes}
 
@@ -36,13 +36,13 @@ at_second {bits} {p} f g a = record {
 }
 
 -- bits are read as their number
-pub bits_at : {bits : List Bool} {p : ℕ} {f : List Bool} → At bits p f → get_bits bits p (length f) ≡ Value (num f) (p + length f)
+pub bits_at : {bits : List Bool} {p : ℕ} {f : List Bool} → At bits p f → get_bits bits p (length f) ≡ Some (num f, p + length f)
 bits_at {bits} {p} {f} a =
     bits-yes bits p (length f) (omega (arith, ap length a.stands, length-append f a.rest))
-    ∙ ap (λ (v : ℕ). Value v (p + length f)) (ap num (ap (take (length f)) a.stands ∙ take-append_seam f a.rest))
+    ∙ ap (λ (v : ℕ). Some (v, p + length f)) (ap num (ap (take (length f)) a.stands ∙ take-append_seam f a.rest))
 
 -- the low bits of a number are read as its value modulo 2 ^ k
-pub low-at : {bits : List Bool} {p : ℕ} (k n : ℕ) → At bits p (low k n) → get_bits bits p k ≡ Value (n % 2 ^ k) (p + k)
+pub low-at : {bits : List Bool} {p : ℕ} (k n : ℕ) → At bits p (low k n) → get_bits bits p k ≡ Some (n % 2 ^ k, p + k)
 low-at {bits} {p} k n a = rw (length-low, num-low) at (bits_at a)
 
 -- c ones and a zero begin with c ones, whatever follows, and are not all ones
@@ -58,9 +58,9 @@ length-unary zero = refl
 length-unary (suc c) = omega (arith, length-unary c)
 
 -- c ones and a zero are read as c
-pub unary-at : {bits : List Bool} {p : ℕ} (c : ℕ) → At bits p (unary_field c) → unary bits p ≡ Value c (p + length (unary_field c))
+pub unary-at : {bits : List Bool} {p : ℕ} (c : ℕ) → At bits p (unary_field c) → unary bits p ≡ Some (c, p + length (unary_field c))
 unfolding unary_field
 unary-at {bits} {p} c a =
     let h = ones-field c a.rest in
     let o : ones (drop p bits) ≡ c = ap ones a.stands ∙ h.0 in
-    unary-yes bits p (omega (arith, ap length a.stands, h.1)) ∙ ap₂ Value o (omega (arith, length-unary c))
+    unary-yes bits p (omega (arith, ap length a.stands, h.1)) ∙ ap₂ (λ (v q : ℕ). Some (v, q)) o (omega (arith, length-unary c))

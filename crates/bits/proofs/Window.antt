@@ -14,7 +14,7 @@ use lib.Seq.{drop-drop, drop-append-le, take-append-le, length-take-le, take-add
 use Rattle.bits.specs.Bits.{low, num, bits_of}
 use Rattle.bits.specs.Fields.{get_bits}
 use Rattle.bits.specs.Window.{Window}
-use Rattle.bits.specs.declared.Field.TheVariants.{Value}
+use Rattle.std.specs.Prelude.{Some}
 use Rattle.bits.proofs.BitLaws.{length-low, length-bits, drop-bytes, drop-low, take-low, num-low, num_lt, num_append, low-num}
 use Rattle.bits.proofs.ReadLaws.{bits-yes}
 use Rattle.bits.proofs.LaidLaws.{bits_append}
@@ -41,13 +41,13 @@ window s i n k w h l e =
     }
 
 -- at most j bits are read out of a window of j
-pub window-bits : (bits : List Bool) (p j x m : ℕ) → Window bits p j x → m ≤ j → get_bits bits p m ≡ Value (x % 2 ^ m) (p + m)
+pub window-bits : (bits : List Bool) (p j x m : ℕ) → Window bits p j x → m ≤ j → get_bits bits p m ≡ Some (x % 2 ^ m, p + m)
 window-bits bits p j x m v h =
     let w : j ≡ m + (j - m) = omega arith in
     let t : take m (drop p bits) ≡ low m x =
     ap (take m) v.stands ∙ take-append-le m (low j x) (drop (p + j) bits) (omega (arith, length-low j x))
     ∙ ap (λ (n : ℕ). take m (low n x)) w ∙ take-low m (j - m) x in
-    bits-yes bits p m (omega (arith, length-drop p bits, v.room)) ∙ ap (λ (n : ℕ). Value n (p + m)) (ap num t ∙ num-low m x)
+    bits-yes bits p m (omega (arith, length-drop p bits, v.room)) ∙ ap (λ (n : ℕ). Some (n, p + m)) (ap num t ∙ num-low m x)
 
 -- ---- bytes gathered into one number
 

@@ -1,31 +1,28 @@
 -- What the entries tell for any slice, place and width: document 01's number of the answer, 0 for
 -- accepted, and then the values of its case. The limit is that of "Why each operation says no" (5).
 -- Assumes nothing.
-use Rattle.std.specs.Prelude.{cond, List, [], ◌∷◌, ℕ, ◌+◌, ◌*◌, ltb, leb, length}
+use Rattle.std.specs.Prelude.{cond, Option, Some, None, Result, Ok, Err, List, [], ◌∷◌, ℕ, ◌+◌, ◌*◌, ltb, leb, length}
 use Rattle.answers.specs.Limits.{max_payload_bytes}
 use Rattle.bits.specs.Bits.{low, bits_of}
 use Rattle.bits.specs.Fields.{get_bits, unary}
 use Rattle.bits.specs.Laid.{put}
-use Rattle.bits.specs.declared.Field.{Field}
-use Rattle.bits.specs.declared.BitAnswer.{BitAnswer}
-use Rattle.bits.specs.declared.PutAnswer.{PutAnswer}
+use Rattle.answers.specs.Numbers.{number_of}
+use Rattle.answers.specs.declared.Refusal.{Refusal}
 
 -- a field: its value and the next place; 3 where a bit is missing
-abbrev pub field_told : Field → List ℕ
-field_told (Field.Value v next) = 0 ∷ v ∷ next ∷ []
-field_told Field.Truncated = 3 ∷ []
+abbrev pub field_told : Option (ℕ × ℕ) → List ℕ
+field_told (Some (v, next)) = 0 ∷ v ∷ next ∷ []
+field_told None = 3 ∷ []
 
--- what an entry that reads answers; 5 where the payload or the field is too large
-abbrev pub told : BitAnswer → List ℕ
-told (BitAnswer.Value v next) = 0 ∷ v ∷ next ∷ []
-told BitAnswer.Truncated = 3 ∷ []
-told BitAnswer.TooLarge = 5 ∷ []
+-- what an entry that reads answers: the value and the next place, or the refusal's number
+abbrev pub told : Result (ℕ × ℕ) Refusal → List ℕ
+told (Ok (v, next)) = 0 ∷ v ∷ next ∷ []
+told (Err refusal) = number_of refusal ∷ []
 
--- a field that was laid: the next place; 11 where the buffer is too short
-abbrev pub put_told : PutAnswer → List ℕ
-put_told (PutAnswer.Next next) = 0 ∷ next ∷ []
-put_told PutAnswer.OutputTooShort = 11 ∷ []
-put_told PutAnswer.TooLarge = 5 ∷ []
+-- what laying a field answers: the next place, or the refusal's number
+abbrev pub put_told : Result ℕ Refusal → List ℕ
+put_told (Ok next) = 0 ∷ next ∷ []
+put_told (Err refusal) = number_of refusal ∷ []
 
 -- the answer to a payload over the limit or a field over 32 bits
 abbrev pub too_large : List ℕ
