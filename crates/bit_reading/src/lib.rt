@@ -11,22 +11,20 @@ ghost use Rattle.bits.specs.Bits.{bits_of};
 ghost use Rattle.bits.specs.Fields.{get_bits};
 
 use bit_windows::load::window;
-use bits::Field;
-use wrapping::casts::u8_to_u32;
 
 // The bit at `at`, as a field of one bit.
-pub fn get_bit(s: &[u8], at: usize) -> Field
+pub fn get_bit(s: &[u8], at: usize) -> Option<(u32, usize)>
     requires limit { length s.now ≤ max_payload_bytes }
     ensures { result ≡ get_bits (bits_of s.now) at 1 }
 {
     if at / 8 >= s.len() {
-        return Field::Truncated;
+        return None;
     }
-    Field::Value(u8_to_u32((s[at / 8] >> (at % 8)) % 2), at + 1)
+    Some((u32::from((s[at / 8] >> (at % 8)) % 2), at + 1))
 }
 
 // The number of `count` bits at `at`, low bit first. No bits are found at every place.
-pub fn get_bits(s: &[u8], at: usize, count: u32) -> Field
+pub fn get_bits(s: &[u8], at: usize, count: u32) -> Option<(u32, usize)>
     requires limit { length s.now ≤ max_payload_bytes }
     requires width { count ≤ 32 }
     ensures { result ≡ get_bits (bits_of s.now) at count }
@@ -34,14 +32,14 @@ pub fn get_bits(s: &[u8], at: usize, count: u32) -> Field
     let i = at / 8;
     if i >= s.len() {
         if count == 0 {
-            return Field::Value(0, at);
+            return Some((0, at));
         }
-        return Field::Truncated;
+        return None;
     }
     let k = at % 8;
     if count as usize > 8 * (s.len() - i) - k {
-        return Field::Truncated;
+        return None;
     }
     let x = (window(s, i) >> k) % (1 << count);
-    Field::Value(x as u32, at + count as usize)
+    Some((x as u32, at + count as usize))
 }

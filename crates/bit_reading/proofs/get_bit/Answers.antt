@@ -15,4 +15,4 @@ returns-then-at-s c =
 
 pub returns : goal.returns
 returns c =
-    rw c.u8_to_u32.ensures (sym (bit_read_lem c.args.s.now c.args.at (omega arith)))
+    rw c.from.ensures (sym (bit_read_lem c.args.s.now c.args.at (omega arith)))

@@ -8,7 +8,7 @@ use Prim.Native.Nat.{◌+◌, ◌-◌, ◌*◌, ◌/◌, ◌%◌, ◌^◌, min}
 use lib.ListN.{length, length-drop}
 use Rattle.bits.specs.Bits.{bits_of}
 use Rattle.bits.specs.Fields.{get_bits}
-use Rattle.bits.specs.declared.Field.TheVariants.{Value}
+use Rattle.std.specs.Prelude.{Some}
 use Rattle.bits.proofs.BitLaws.{shl_one, length-bits}
 use Rattle.bits.proofs.ReadLaws.{bits_none, bits_no}
 use Rattle.bits.proofs.Window.{tail-window, window-bits}
@@ -30,7 +30,7 @@ returns-then-count-s c =
 
 read : (c : goal.After-window) →
     get_bits (bits_of c.args.s.now) c.args.at c.args.count
-    ≡ Value (c.window.result / 2 ^ (c.args.at % 8) % 2 ^ c.args.count) (c.args.at + c.args.count)
+    ≡ Some (c.window.result / 2 ^ (c.args.at % 8) % 2 ^ c.args.count, c.args.at + c.args.count)
 read c =
     let s = c.args.s.now in
     window-bits _ _ (8 * min 8 (length s - c.args.at / 8) - c.args.at % 8) _ c.args.count
