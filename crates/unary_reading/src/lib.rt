@@ -11,11 +11,10 @@ ghost use Rattle.bits.specs.Bits.{bits_of};
 ghost use Rattle.bits.specs.Fields.{unary};
 
 use bit_windows::load::eight;
-use bits::Field;
 
 // How many ones stand at `at` up to a zero, which is read too: a byte at a time, for the last bytes
 // of a payload. The shift leaves zeros above a byte's bits, so no bit that is missing counts.
-fn get_unary_in_bytes(s: &[u8], at: usize) -> Field
+fn get_unary_in_bytes(s: &[u8], at: usize) -> Option<(u32, usize)>
     requires limit { length s.now ≤ max_payload_bytes }
     ensures { result ≡ unary (bits_of s.now) at }
 {
@@ -24,16 +23,16 @@ fn get_unary_in_bytes(s: &[u8], at: usize) -> Field
         let k = p % 8;
         let n = u8::trailing_zeros(!(s[p / 8] >> k)) as usize;
         if n + k < 8 {
-            return Field::Value((p + n - at) as u32, p + n + 1);
+            return Some(((p + n - at) as u32, p + n + 1));
         }
         p = p + n;
     }
-    Field::Truncated
+    None
 }
 
 // How many ones stand at `at` up to a zero, which is read too: eight bytes at a time while so many
 // are left.
-pub fn get_unary(s: &[u8], at: usize) -> Field
+pub fn get_unary(s: &[u8], at: usize) -> Option<(u32, usize)>
     requires limit { length s.now ≤ max_payload_bytes }
     ensures { result ≡ unary (bits_of s.now) at }
 {
@@ -42,12 +41,10 @@ pub fn get_unary(s: &[u8], at: usize) -> Field
         let k = p % 8;
         let n = u64::trailing_zeros(!(eight(s, p / 8) >> k)) as usize;
         if n + k < 64 {
-            return Field::Value((p + n - at) as u32, p + n + 1);
+            return Some(((p + n - at) as u32, p + n + 1));
         }
         p = p + 64 - k;
     }
-    let Field::Value(n, next) = get_unary_in_bytes(s, p) else {
-        return Field::Truncated;
-    };
-    Field::Value((p - at) as u32 + n, next)
+    let (n, next) = get_unary_in_bytes(s, p)?;
+    Some(((p - at) as u32 + n, next))
 }

@@ -31,19 +31,17 @@ loop-p-preserved c =
     let h = here c.args.s.now c.loop-p.p c.eight.result (omega arith) c.eight.ensures in
     passed_on _ c.loop-p.invariant h (omega arith) (omega arith)
 
-pub returns-in_default : goal.returns-in_default
-returns-in_default c =
-    sym (passed-missing c.loop-p.invariant
-    (sym c.get_unary_in_bytes.ensures ∙ c.in_default.is))
+pub returns-in_err-n : goal.returns-in_err-n
+returns-in_err-n c =
+    rw c.from_residual.ensures (sym (passed-missing c.loop-p.invariant
+    (sym c.get_unary_in_bytes.ensures ∙ c.in_err-n.was)))
 
 -- the whole count, where the last bytes have a zero, and how many bits there are
-whole : (c : goal.In-Value) →
-    Whole (bits_of c.args.s.now) c.args.at c.loop-p.p c.in-Value.n
-    c.in-Value.next
+whole : (c : goal.In_ok-n) →
+    Whole (bits_of c.args.s.now) c.args.at c.loop-p.p c.in_ok-n.n c.in_ok-n.next
     × (length (bits_of c.args.s.now) ≡ 8 * length c.args.s.now)
 whole c = (
-  passed-whole c.loop-p.invariant
-      (sym c.get_unary_in_bytes.ensures ∙ c.in-Value.is),
+  passed-whole c.loop-p.invariant (sym c.get_unary_in_bytes.ensures ∙ c.in_ok-n.was),
   length-bits c.args.s.now,
 )
 
