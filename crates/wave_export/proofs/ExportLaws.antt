@@ -7,11 +7,10 @@ use Prim.Native.Nat.{ℕ, zero, suc, ◌+◌, ◌*◌, ◌%◌, ◌<◌, ◌≤�
 use native.Mathlib.Omega.{arith}
 use lib.IntN.{ℤ}
 use lib.ListN.{length}
-use Rattle.answers.specs.declared.Outcome.{Outcome}
 use Rattle.answers.specs.declared.Refusal.{Refusal}
 use Rattle.answers.specs.Guard.{or_else, unless_refused}
 use Rattle.answers.specs.Lists.{frames_refusal}
-use Rattle.answers.specs.Numbers.{outcome_number}
+use Rattle.answers.specs.Numbers.{number_of}
 use Rattle.answers.proofs.GuardLaws.{refused-first, refused-later, neither-refused, guard_refused}
 use Rattle.answers.proofs.GuardLaws.{guard_accepted}
 use Rattle.answers.specs.Limits.{max_elements}
@@ -92,14 +91,13 @@ module _ (rate : ℕ) (samples : List ℤ) (room : ℕ) where
 
 module _ (rate : ℕ) (samples : List ℤ) (out : List ℕ) where
   -- a refusal leaves the buffer
-  pub export_refused : (o : Outcome) (x : Refusal) → o ≡ Outcome.Refused x
-      → outcome_number o ≡ export_refusal rate samples (length out)
-      → record { refusal = outcome_number o; written = 0; bytes = out } ≡ export_entry rate samples out
+  pub export_refused : (x : Refusal) → number_of x ≡ export_refusal rate samples (length out)
+      → record { refusal = number_of x; written = 0; bytes = out } ≡ export_entry rate samples out
   unfolding export_entry
-  export_refused o x q e =
+  export_refused x e =
       ap (refuse_export out) e
       ∙ sym (guard_refused (export_refusal rate samples (length out)) (refuse_export out)
-      (tell_export out (wave_file rate samples)) (rw (sym e ∙ ap outcome_number q) (number-positive x)))
+      (tell_export out (wave_file rate samples)) (rw (← e) (number-positive x)))
 
   -- the number that is told is that of the first refusal that applies
   pub export_number : (export_entry rate samples out).refusal ≡ export_refusal rate samples (length out)

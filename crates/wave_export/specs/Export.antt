@@ -1,13 +1,13 @@
 -- Document 02 §1: what export answers, and what the lent buffer then holds.
 -- Assumes nothing.
-use Rattle.std.specs.Prelude.{ℕ, cond, List, ℤ, length}
+use Rattle.std.specs.Prelude.{ℕ, cond, List, ℤ, length, Result, Ok, Err}
 use Rattle.answers.specs.Guard.{or_else, unless_refused}
 use Rattle.answers.specs.Lists.{frames_refusal}
-use Rattle.answers.specs.Numbers.{outcome_number}
+use Rattle.answers.specs.Numbers.{number_of}
+use Rattle.answers.specs.declared.Refusal.{Refusal}
 use Rattle.overlay.specs.Overlay.{overlay}
 use Rattle.wave_data.specs.Data.{within16, file_bytes}
 use Rattle.wave_file.specs.File.{rate_taken, wave_file}
-use Rattle.wave_export.specs.declared.Exported.{Exported}
 
 -- the refusal's number (0: accepted), bytes written; and the bytes of the lent buffer
 pub record ExportTold : Type 0 where
@@ -15,9 +15,10 @@ pub record ExportTold : Type 0 where
   pub written : ℕ
   pub bytes : List ℕ
 
--- the answer that the entry's struct holds, with the lent buffer as it is left
-abbrev pub view_export : Exported → List ℕ → ExportTold
-view_export r bytes = record { refusal = outcome_number r.outcome; written = r.written; bytes = bytes }
+-- what the entry's answer tells, with the lent buffer as it is left; a refusal tells of no byte written
+abbrev pub view_export : Result ℕ Refusal → List ℕ → ExportTold
+view_export (Ok written) bytes = record { refusal = 0; written = written; bytes = bytes }
+view_export (Err refusal) bytes = record { refusal = number_of refusal; written = 0; bytes = bytes }
 
 -- "14, .. on export a rate outside its span, which is tested before 13"; "13, a sample outside
 -- -32,768 to 32,767" (Q1.3)

@@ -9,10 +9,9 @@ use borrow.Author.Tests.{lt-ltb, le-ltb, ltb-false}
 use lib.Dec.{ltb}
 use lib.IntN.{ℤ}
 use lib.ListN.{length}
-use Rattle.answers.specs.declared.Outcome.{Outcome}
 use Rattle.answers.specs.declared.Refusal.{Refusal}
 use Rattle.answers.specs.Guard.{unless_refused}
-use Rattle.answers.specs.Numbers.{outcome_number}
+use Rattle.answers.specs.Numbers.{number_of}
 use Rattle.answers.proofs.GuardLaws.{guard_refused, guard_accepted}
 use Rattle.answers.proofs.NumberLaws.{number-positive}
 use Rattle.overlay.specs.Overlay.{overlay}
@@ -80,15 +79,14 @@ module _ (file : List ℕ) (room : ℕ) where
 
 module _ (file : List ℕ) (list : List ℤ) where
   -- a refusal leaves the list
-  pub import_refused : (o : Outcome) (x : Refusal) → o ≡ Outcome.Refused x
-      → outcome_number o ≡ import_refusal file (length list)
-      → record { refusal = outcome_number o; rate = 0; written = 0; samples = list } ≡ import_entry file list
+  pub import_refused : (x : Refusal) → number_of x ≡ import_refusal file (length list)
+      → record { refusal = number_of x; rate = 0; written = 0; samples = list } ≡ import_entry file list
   unfolding import_entry
-  import_refused o x q e =
+  import_refused x e =
       ap (refuse_import list) e
       ∙ sym (guard_refused (import_refusal file (length list)) (refuse_import list)
       (tell_import list (file_rate file) (file_samples file))
-      (rw (sym e ∙ ap outcome_number q) (number-positive x)))
+      (rw (← e) (number-positive x)))
 
   -- the number that is told is that of the first refusal that applies
   pub import_number : (import_entry file list).refusal ≡ import_refusal file (length list)

@@ -1,8 +1,9 @@
 -- Document 02 §1: what import answers, and what the lent list then holds.
 -- Assumes nothing.
-use Rattle.std.specs.Prelude.{ℕ, cond, List, ltb, ℤ, length}
+use Rattle.std.specs.Prelude.{ℕ, cond, List, ltb, ℤ, length, Result, Ok, Err}
 use Rattle.answers.specs.Guard.{unless_refused}
-use Rattle.answers.specs.Numbers.{outcome_number}
+use Rattle.answers.specs.Numbers.{number_of}
+use Rattle.answers.specs.declared.Refusal.{Refusal}
 use Rattle.overlay.specs.Overlay.{overlay}
 use Rattle.wave_data.specs.Data.{file_samples}
 use Rattle.wave_file.specs.File.{max_file_bytes}
@@ -16,10 +17,12 @@ pub record ImportTold : Type 0 where
   pub written : ℕ
   pub samples : List ℤ
 
--- the answer that the entry's struct holds, with the lent list as it is left
-abbrev pub view_import : Imported → List ℤ → ImportTold
-view_import r samples =
-    record { refusal = outcome_number r.outcome; rate = r.rate; written = r.written; samples = samples }
+-- what the entry's answer tells, with the lent list as it is left; a refusal tells of no rate and of no
+-- sample written
+abbrev pub view_import : Result Imported Refusal → List ℤ → ImportTold
+view_import (Ok r) samples = record { refusal = 0; rate = r.rate; written = r.written; samples = samples }
+view_import (Err refusal) samples =
+    record { refusal = number_of refusal; rate = 0; written = 0; samples = samples }
 
 -- "a file of over 524,332 bytes is 5, first"; 14 for what is no such file; "a lent list shorter
 -- than the file's samples is 11, after 14" (Q1.4)

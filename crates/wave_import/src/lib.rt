@@ -7,53 +7,44 @@ ghost use Rattle.std.specs.Prelude.{◌≡◌};
 ghost use Rattle.answers.specs.Numbers.{outcome_number};
 ghost use Rattle.wave_import.specs.Import.{import_refusal, view_import, import_entry};
 
-use answers::{Outcome, Refusal};
+use answers::Refusal;
 use wave_data::take_samples;
 use wave_file::{HEADER_BYTES, MAX_FILE_BYTES};
 use wave_header::{is_wave, rate_of};
 
-// What import answers: the rate, and the samples written; both 0 on refusal.
+// What import answers of a file that it takes: the rate, and the samples written.
 #[derive(Clone, Copy)]
 pub struct Imported {
-    pub outcome: Outcome,
     pub rate: u32,
     pub written: u32,
 }
 
 // Answers why import refuses, by 5, 14 and 11, for a list of `room` samples.
-pub fn import_refusal(file: &[u8], room: usize) -> Outcome
+pub fn import_refusal(file: &[u8], room: usize) -> Result<(), Refusal>
     ensures { outcome_number result ≡ import_refusal file.now room }
 {
     if file.len() > MAX_FILE_BYTES {
-        return Outcome::Refused(Refusal::TooLarge);
+        return Err(Refusal::TooLarge);
     }
     if !is_wave(file) {
-        return Outcome::Refused(Refusal::NotWave);
+        return Err(Refusal::NotWave);
     }
     if room < (file.len() - HEADER_BYTES) / 2 {
-        return Outcome::Refused(Refusal::OutputTooShort);
+        return Err(Refusal::OutputTooShort);
     }
-    Outcome::Accepted
+    Ok(())
 }
 
 // Writes the samples of a sound file, left then right, from the first place of the list on; answers
 // its rate and how many samples it has. Refuses with 5, 14 and 11; the list then keeps its samples.
-pub fn import_wave(file: &[u8], samples: &mut [i32]) -> Imported
+pub fn import_wave(file: &[u8], samples: &mut [i32]) -> Result<Imported, Refusal>
     ensures { view_import result samples.new
         ≡ import_entry file.now samples.old }
 {
-    let outcome = import_refusal(file, samples.len());
-    let Outcome::Accepted = outcome else {
-        return Imported {
-            outcome: outcome,
-            rate: 0,
-            written: 0,
-        };
-    };
+    import_refusal(file, samples.len())?;
     take_samples(file, samples);
-    Imported {
-        outcome: Outcome::Accepted,
+    Ok(Imported {
         rate: rate_of(file),
         written: ((file.len() - HEADER_BYTES) / 2) as u32,
-    }
+    })
 }
