@@ -8,11 +8,11 @@ use Prim.Native.Nat.{ℕ, ◌≤◌}
 use native.Mathlib.Omega.{arith}
 use lib.ListN.{length, take}
 use lib.Seq.{take-take}
+use Rattle.std.specs.Prelude.{Option, Some, None, Result, Ok, Err}
+use Rattle.answers.specs.declared.Refusal.{Refusal}
+use Rattle.answers.specs.declared.Refusal.TheVariants.{Truncated, EndOfStream}
 use Rattle.bits.specs.Fields.{and_then}
-use Rattle.bits.specs.declared.Field.{Field}
-use Rattle.bits.specs.declared.Field.TheVariants.{Value, Truncated}
 use Rattle.fields.specs.Counts.{then_prefix}
-use Rattle.fields.specs.declared.Prefix.{Prefix}
 
 -- where an answer ends: at a place, or nowhere, where it was refused
 pub data Ended : Type 0 where
@@ -20,15 +20,14 @@ pub data Ended : Type 0 where
   never : Ended
 
 -- the place after a field
-abbrev pub field_end : Field → Ended
-field_end (Value v q) = at q
-field_end Truncated = never
+abbrev pub field_end : Option (ℕ × ℕ) → Ended
+field_end (Some (v, q)) = at q
+field_end None = never
 
 -- the place after a prefix
-abbrev pub prefix_end : Prefix → Ended
-prefix_end (Prefix.Value v q) = at q
-prefix_end Prefix.EndOfStream = never
-prefix_end Prefix.Truncated = never
+abbrev pub prefix_end : Result (ℕ × ℕ) Refusal → Ended
+prefix_end (Ok (v, q)) = at q
+prefix_end (Err refusal) = never
 
 -- a reader from p on: it ends at p or behind, within the payload, and any payload with the same
 -- bits up to there gives the same answer
@@ -83,14 +82,14 @@ local_then {A} {B} end-b end-a then split p f k lf lk = record { on = on; inside
         go (stop h) = clash e (h (k a))
 
 -- a field before a field
-pub field-field : (x : Field) → Split field_end field_end and_then x
-field-field (Value v q) = part v q refl (λ k. refl)
-field-field Truncated = stop (λ k. refl)
+pub field-field : (x : Option (ℕ × ℕ)) → Split field_end field_end and_then x
+field-field (Some (v, q)) = part v q refl (λ k. refl)
+field-field None = stop (λ k. refl)
 
 -- a field before a prefix
-pub field-prefix : (x : Field) → Split field_end prefix_end then_prefix x
-field-prefix (Value v q) = part v q refl (λ k. refl)
-field-prefix Truncated = stop (λ k. refl)
+pub field-prefix : (x : Option (ℕ × ℕ)) → Split field_end prefix_end then_prefix x
+field-prefix (Some (v, q)) = part v q refl (λ k. refl)
+field-prefix None = stop (λ k. refl)
 
 -- the first or the second, by a test on numbers that are known
 pub local-cond : {A : Type 0} (end : A → Ended) (t : Bool) (p : ℕ) (f g : List Bool → A) → Local end p f → Local end p g
@@ -99,21 +98,21 @@ local-cond end true p f g x y = x
 local-cond end false p f g x y = y
 
 -- a value at the place itself, and none
-pub value-here : (p v : ℕ) → Local field_end p (λ a. Value v p)
-value-here p v = local-still field_end p (Value v p) (λ q e. let z : p ≡ q = cc in sym z)
+pub value-here : (p v : ℕ) → Local field_end p (λ a. Some (v, p))
+value-here p v = local-still field_end p (Some (v, p)) (λ q e. let z : p ≡ q = cc in sym z)
 
 -- no value reads nothing on
-pub value_none : (p : ℕ) → Local field_end p (λ a. Truncated)
-value_none p = local-still field_end p Truncated (λ q e. clash e refl)
+pub value_none : (p : ℕ) → Local field_end p (λ a. None)
+value_none p = local-still field_end p None (λ q e. clash e refl)
 
 -- a prefix that is known at its place
-pub prefix_here : (p v : ℕ) → Local prefix_end p (λ a. Prefix.Value v p)
-prefix_here p v = local-still prefix_end p (Prefix.Value v p) (λ q e. let z : p ≡ q = cc in sym z)
+pub prefix_here : (p v : ℕ) → Local prefix_end p (λ a. Ok (v, p))
+prefix_here p v = local-still prefix_end p (Ok (v, p)) (λ q e. let z : p ≡ q = cc in sym z)
 
 -- no prefix
-pub prefix_truncated : (p : ℕ) → Local prefix_end p (λ a. Prefix.Truncated)
-prefix_truncated p = local-still prefix_end p Prefix.Truncated (λ q e. clash e refl)
+pub prefix_truncated : (p : ℕ) → Local prefix_end p (λ a. Err Truncated)
+prefix_truncated p = local-still prefix_end p (Err Truncated) (λ q e. clash e refl)
 
 -- the end of the stream
-pub prefix-ended : (p : ℕ) → Local prefix_end p (λ a. Prefix.EndOfStream)
-prefix-ended p = local-still prefix_end p Prefix.EndOfStream (λ q e. clash e refl)
+pub prefix-ended : (p : ℕ) → Local prefix_end p (λ a. Err EndOfStream)
+prefix-ended p = local-still prefix_end p (Err EndOfStream) (λ q e. clash e refl)

@@ -10,16 +10,15 @@ use native.Mathlib.Omega.{arith}
 use borrow.Author.Tests.{lt-ltb, ltb-true, ltb-false, ne_eqb}
 use lib.Dec.{ltb}
 use lib.Pow.{pow_pos}
+use Rattle.std.specs.Prelude.{Option, Some, Ok}
 use Rattle.bits.specs.Bits.{low, ones}
 use Rattle.bits.specs.Window.{Window}
-use Rattle.bits.specs.declared.Field.TheVariants.{Value}
 use Rattle.bits.proofs.OnesLaws.{counted, trailing_ones, passed_none, passed-stop}
 use Rattle.bits.proofs.ReadLaws.{bits_none}
 use Rattle.bits.proofs.RegisterLaws.{window_shift}
 use Rattle.bits.proofs.Window.{window-bits}
 use Rattle.fields.specs.Code.{bit_length, code_of, truncated_binary, CodeIn}
 use Rattle.fields.specs.Counts.{prefix}
-use Rattle.fields.specs.declared.Prefix.{Prefix}
 use Rattle.fields.proofs.CodeLaws.{code-long-most}
 use Rattle.fields.proofs.LengthLaws.{Long, long, long_le}
 
@@ -67,7 +66,7 @@ wide M b h e =
 -- both cases of a code of b bits, of which x are short
 code_cases : (bits : List Bool) (p j v b x : ℕ) → Window bits p j v → 0 < b → b ≤ j
     → let s = v % 2 ^ (b - 1) in
-    code_of bits p b x ≡ Value (cond (ltb s x) s (2 * s - x + v / 2 ^ (b - 1) % 2)) (p + (b - 1 + cond (ltb s x) 0 1))
+    code_of bits p b x ≡ Some (cond (ltb s x) s (2 * s - x + v / 2 ^ (b - 1) % 2), p + (b - 1 + cond (ltb s x) 0 1))
 unfolding code_of
 code_cases bits p j v b x y h l =
     rw (
@@ -76,9 +75,9 @@ code_cases bits p j v b x y h l =
     )
     (go (v % 2 ^ (b - 1)) (v / 2 ^ (b - 1) % 2) (ltb (v % 2 ^ (b - 1)) x))
   where
-    go : (s t : ℕ) (c : Bool) → cond c (Value s (p + (b - 1))) (Value (2 * s - x + t) (p + (b - 1) + 1)) ≡ Value (cond c s (2 * s - x + t)) (p + (b - 1 + cond c 0 1))
-    go s t true = ap (Value s) (omega arith)
-    go s t false = ap (Value (2 * s - x + t)) (omega arith)
+    go : (s t : ℕ) (c : Bool) → cond {A = Option (ℕ × ℕ)} c (Some (s, p + (b - 1))) (Some (2 * s - x + t, p + (b - 1) + 1)) ≡ Some (cond c s (2 * s - x + t), p + (b - 1 + cond c 0 1))
+    go s t true = ap (λ (q : ℕ). Some (s, q)) (omega arith)
+    go s t false = ap (λ (q : ℕ). Some (2 * s - x + t, q)) (omega arith)
 
 -- the code of an interval of one number, as a code that has no bits
 no_bits_lem : (bits : List Bool) (p M b : ℕ) → M ≡ 0 → b ≡ 1 → truncated_binary bits p M ≡ code_of bits p b (2 ^ b - M - 1)
@@ -142,7 +141,7 @@ code_in v M b h w =
 -- ---- a prefix
 
 -- fewer than 16 ones at the start of a window of 64 bits
-pub few_ones : (bits : List Bool) (p w n : ℕ) → Window bits p 64 w → n ≡ ones (low 64 w) → n < 16 → prefix bits p ≡ Prefix.Value n (p + n + 1)
+pub few_ones : (bits : List Bool) (p w n : ℕ) → Window bits p 64 w → n ≡ ones (low 64 w) → n < 16 → prefix bits p ≡ Ok (n, p + n + 1)
 unfolding prefix
 few_ones bits p w n v e h =
     let k = trailing_ones 64 w v.small in

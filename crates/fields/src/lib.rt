@@ -1,21 +1,12 @@
 // The fields of a word, as document 01 has them: run length, prefix and the code inside an interval,
 // as "One word" reads them and as "Packing" writes them: the definitions in specs/ and their laws in
-// proofs/, what reading a prefix finds, bits gathered to be laid, and the one number that readers and
-// writers both work out. They stand in `count_reading`, `code_reading` and `field_writing`.
+// proofs/, bits gathered to be laid, and the one number that readers and writers both work out. The
+// fields are read and written in `count_reading`, `code_reading` and `field_writing`.
 
 #![tactic(auto)]
 
 ghost use Rattle.std.specs.Prelude.{◌≡◌};
 ghost use Rattle.fields.specs.Code.{bit_length};
-
-// What reading a prefix finds: its value and the place after it, the second count that ends a
-// stream, or that a bit is missing or a count or the value is over its cap.
-#[derive(Clone, Copy)]
-pub enum Prefix {
-    Value(u32, usize),
-    EndOfStream,
-    Truncated,
-}
 
 // Bits as a number, low bit first, and how many they are.
 #[derive(Clone, Copy)]
