@@ -1,2 +1,2 @@
--- What the proofs of both functions cite.
+-- What the proof of `copy` cites.
 pub mod ListLaws

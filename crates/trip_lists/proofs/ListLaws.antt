@@ -1,6 +1,6 @@
--- Lists copied and compared element by element.
+-- Lists copied element by element.
 -- Assumes nothing.
-use mathlib.Core.Path.{◌≡◌, refl, sym, ap, ap₂, ◌∙◌}
+use mathlib.Core.Path.{◌≡◌, refl, sym, ap, ◌∙◌}
 use mathlib.Core.List.{List, [], ◌∷◌, ◌++◌}
 use Prim.Native.Nat.{ℕ, suc, ◌+◌, ◌≤◌, ◌<◌}
 use native.Mathlib.Numerals.{add-one}
@@ -51,12 +51,3 @@ copied-end from before to i h e c = record {
   copied = sym (take_all i to (omega (arith, c.same))) ∙ c.front ∙ take_all i from h;
   fit = all_fit from (λ j k. c.fits j (omega arith));
 }
-
--- two lists are the same so far, and in one element more
-pub same_step : (a b : List ℤ) (i : ℕ) → i < length a → length a ≡ length b → take i a ≡ take i b → get_or a i (pos 0) ≡ get_or b i (pos 0) → take (i + 1) a ≡ take (i + 1) b
-same_step a b i h e t g =
-    rw (add-one i) (take-suc a i (pos 0) h ∙ ap₂ (λ (l : List ℤ) (x : ℤ). l ++ x ∷ []) t g ∙ sym (take-suc b i (pos 0) (omega arith)))
-
--- two lists are the same in all elements
-pub same_end : (a b : List ℤ) (i : ℕ) → length a ≤ i → length a ≡ length b → take i a ≡ take i b → a ≡ b
-same_end a b i h e t = sym (take_all i a h) ∙ t ∙ take_all i b (omega arith)
