@@ -14,8 +14,9 @@ use mir.ValLaws.{to_z-of_z}
 use Rattle.wrapping.proofs.ReadBack.{reread}
 use Rattle.passes.specs.Terms.{term_of, is_valid, is_cross, is_lag}
 use Rattle.passes.specs.Making.{seed_count, ordered, padded, seeded, too_short, seed_length, making_refusal, no_pass, Made, made}
-use Rattle.passes.specs.declared.SeedLength.{SeedLength}
-use Rattle.passes.specs.declared.SeedLength.TheVariants.{Enough, TooShort}
+use Rattle.std.specs.Prelude.{Result, Ok, Err}
+use Rattle.answers.specs.Numbers.{number_of}
+use Rattle.answers.specs.declared.Refusal.{Refusal}
 use Rattle.passes.specs.declared.Term.{Term}
 use Rattle.passes.specs.declared.Term.TheVariants.{Lag, Seventeen, Eighteen, Invalid}
 
@@ -45,11 +46,12 @@ pub not-true : (b : Bool) → not b ≡ true → b ≡ false
 not-true true e = cc
 not-true false e = refl
 
-short-told : (b : Bool) → cond b TooShort Enough ≡ TooShort → b ≡ true
-short-told true e = refl
+-- what a test of a seed tells
+short-told : {x : Refusal} (b : Bool) → ◌≡◌ {A = Result Unit Refusal} (cond b (Err Refusal.SeedTooShort) (Ok tt)) (Err x) → (b ≡ true) × (x ≡ Refusal.SeedTooShort)
+short-told true e = (refl, cc)
 short-told false e = cc
 
-enough-told : (b : Bool) → cond b TooShort Enough ≡ Enough → b ≡ false
+enough-told : (b : Bool) → ◌≡◌ {A = Result Unit Refusal} (cond b (Err Refusal.SeedTooShort) (Ok tt)) (Ok tt) → b ≡ false
 enough-told true e = cc
 enough-told false e = refl
 
@@ -67,28 +69,30 @@ module _ (term delta wa wb : ℤ) (sa sb : List ℤ) where
   made_invalid et ev e = let f : is_valid (term_of term) ≡ false = cc in rw f
 
   -- an A seed that is too short
-  pub made-short-a : {t : Term} {v : Bool} {n : ℕ} {a : SeedLength} → Known term t v n → a ≡ seed_length false n (length sa) → a ≡ TooShort
-      → ◌≡◌ {A = Made} (record { refusal = 8; pass = no_pass }) (made term delta wa wb sa sb)
+  pub made-short-a : {t : Term} {v : Bool} {n : ℕ} {a : Result Unit Refusal} {x : Refusal} → Known term t v n → a ≡ seed_length false n (length sa) → a ≡ Err x
+      → ◌≡◌ {A = Made} (record { refusal = number_of x; pass = no_pass }) (made term delta wa wb sa sb)
   unfolding made making_refusal
-  made-short-a k ea e =
+  made-short-a {x = x} k ea e =
       let f : is_valid (term_of term) ≡ true = cc in
-      let g : seed_length false (seed_count (term_of term)) (length sa) ≡ TooShort = rw (← k.term_is, ← k.count-is, ← ea) e in
-      rw (f, short-told (too_short false (seed_count (term_of term)) (length sa)) g)
+      let g : seed_length false (seed_count (term_of term)) (length sa) ≡ Err x = rw (← k.term_is, ← k.count-is, ← ea) e in
+      let s = short-told (too_short false (seed_count (term_of term)) (length sa)) g in
+      rw (s.1, f, s.0)
 
   -- a B seed that is too short
-  pub made-short-b : {t : Term} {v c : Bool} {n : ℕ} {a b : SeedLength} → Known term t v n → a ≡ seed_length false n (length sa) → a ≡ Enough
-      → c ≡ is_cross t → b ≡ seed_length (c && ltb 0 (length sa)) n (length sb) → b ≡ TooShort
-      → ◌≡◌ {A = Made} (record { refusal = 8; pass = no_pass }) (made term delta wa wb sa sb)
+  pub made-short-b : {t : Term} {v c : Bool} {n : ℕ} {a b : Result Unit Refusal} {x : Refusal} → Known term t v n → a ≡ seed_length false n (length sa) → a ≡ Ok tt
+      → c ≡ is_cross t → b ≡ seed_length (c && ltb 0 (length sa)) n (length sb) → b ≡ Err x
+      → ◌≡◌ {A = Made} (record { refusal = number_of x; pass = no_pass }) (made term delta wa wb sa sb)
   unfolding made making_refusal
-  made-short-b k ea e ec eb j =
+  made-short-b {x = x} k ea e ec eb j =
       let f : is_valid (term_of term) ≡ true = cc in
-      let g : seed_length false (seed_count (term_of term)) (length sa) ≡ Enough = rw (← k.term_is, ← k.count-is, ← ea) e in
-      let h : seed_length (is_cross (term_of term) && ltb 0 (length sa)) (seed_count (term_of term)) (length sb) ≡ TooShort = rw (← k.term_is, ← k.count-is, ← ec, ← eb) j in
-      rw (f, enough-told (too_short false (seed_count (term_of term)) (length sa)) g, short-told (too_short (is_cross (term_of term) && ltb 0 (length sa)) (seed_count (term_of term)) (length sb)) h)
+      let g : seed_length false (seed_count (term_of term)) (length sa) ≡ Ok tt = rw (← k.term_is, ← k.count-is, ← ea) e in
+      let h : seed_length (is_cross (term_of term) && ltb 0 (length sa)) (seed_count (term_of term)) (length sb) ≡ Err x = rw (← k.term_is, ← k.count-is, ← ec, ← eb) j in
+      let s = short-told (too_short (is_cross (term_of term) && ltb 0 (length sa)) (seed_count (term_of term)) (length sb)) h in
+      rw (s.1, f, enough-told (too_short false (seed_count (term_of term)) (length sa)) g, s.0)
 
   -- a pass that is made
-  pub made-accepted : {t : Term} {v c r : Bool} {n : ℕ} {a b : SeedLength} {ha hb : List ℤ} → Known term t v n → a ≡ seed_length false n (length sa) → a ≡ Enough
-      → c ≡ is_cross t → b ≡ seed_length (c && ltb 0 (length sa)) n (length sb) → b ≡ Enough
+  pub made-accepted : {t : Term} {v c r : Bool} {n : ℕ} {a b : Result Unit Refusal} {ha hb : List ℤ} → Known term t v n → a ≡ seed_length false n (length sa) → a ≡ Ok tt
+      → c ≡ is_cross t → b ≡ seed_length (c && ltb 0 (length sa)) n (length sb) → b ≡ Ok tt
       → r ≡ is_lag t → ha ≡ padded (ordered r (take n sa)) → hb ≡ padded (ordered r (take n sb))
       → SFits w8 term → SFits w32 delta → SFits w32 wa → SFits w32 wb
       → ◌≡◌ {A = Made}
@@ -97,6 +101,6 @@ module _ (term delta wa wb : ℤ) (sa sb : List ℤ) where
   unfolding made making_refusal seeded
   made-accepted k ea e ec eb j er eha ehb ft fd fa fb =
       let f : is_valid (term_of term) ≡ true = cc in
-      let g : seed_length false (seed_count (term_of term)) (length sa) ≡ Enough = rw (← k.term_is, ← k.count-is, ← ea) e in
-      let h : seed_length (is_cross (term_of term) && ltb 0 (length sa)) (seed_count (term_of term)) (length sb) ≡ Enough = rw (← k.term_is, ← k.count-is, ← ec, ← eb) j in
+      let g : seed_length false (seed_count (term_of term)) (length sa) ≡ Ok tt = rw (← k.term_is, ← k.count-is, ← ea) e in
+      let h : seed_length (is_cross (term_of term) && ltb 0 (length sa)) (seed_count (term_of term)) (length sb) ≡ Ok tt = rw (← k.term_is, ← k.count-is, ← ec, ← eb) j in
       rw (f, enough-told (too_short false (seed_count (term_of term)) (length sa)) g, enough-told (too_short (is_cross (term_of term) && ltb 0 (length sa)) (seed_count (term_of term)) (length sb)) h, eha, ehb, er, k.count-is, k.term_is, to_z-of_z w8 term ft, to_z-of_z w32 delta fd, to_z-of_z w32 wa fa, to_z-of_z w32 wb fb)

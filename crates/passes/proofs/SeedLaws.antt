@@ -12,8 +12,8 @@ use lib.IntN.{ℤ, pos}
 use lib.ListN.{length, get_or, set, take, replicate, length-append, length-replicate, length-reverse, length-take, get_or-append}
 use lib.Seq.{take-suc, take_all, take-suc-set, get_or-take}
 use Rattle.passes.specs.Making.{ordered, padded, seed_length}
-use Rattle.passes.specs.declared.SeedLength.{SeedLength}
-use Rattle.passes.specs.declared.SeedLength.TheVariants.{Enough, TooShort}
+use Rattle.std.specs.Prelude.{Result, Ok, Err}
+use Rattle.answers.specs.declared.Refusal.{Refusal}
 
 zeros : (k j : ℕ) → get_or (replicate k (pos 0)) j (pos 0) ≡ pos 0
 zeros zero j = refl
@@ -76,12 +76,12 @@ slot_filled history placed j x h k e t = rw (add-one j, take-suc-set history j x
 pub all_filled : (history placed : List ℤ) (j : ℕ) → length history ≤ j → length placed ≤ j → take j history ≡ take j placed → history ≡ placed
 all_filled history placed j h k e = sym (take_all j history h) ∙ e ∙ take_all j placed k
 
-enough_cases : (needed some less : Bool) → cond ((needed || some) && less) TooShort Enough ≡ Enough → some ≡ true → less ≡ false
+enough_cases : (needed some less : Bool) → ◌≡◌ {A = Result Unit Refusal} (cond ((needed || some) && less) (Err Refusal.SeedTooShort) (Ok tt)) (Ok tt) → some ≡ true → less ≡ false
 enough_cases needed some false e f = refl
 enough_cases true true true e f = cc
 enough_cases false true true e f = cc
 enough_cases needed false true e f = cc
 
 -- a seed that has enough, and is not empty, has what the term takes
-pub enough-long : (needed : Bool) (count len : ℕ) {a : SeedLength} → a ≡ seed_length needed count len → a ≡ Enough → 0 < len → count ≤ len
+pub enough-long : (needed : Bool) (count len : ℕ) {a : Result Unit Refusal} → a ≡ seed_length needed count len → a ≡ Ok tt → 0 < len → count ≤ len
 enough-long needed count len ea e h = ltb-false len count (enough_cases needed (ltb 0 len) (ltb len count) (sym ea ∙ e) (lt-ltb 0 len h))

@@ -1,11 +1,11 @@
 -- Document 01, "Passes": the making of a pass from its seeds, and why it is refused. Assumes
 -- nothing.
 use Rattle.std.specs.Prelude.{Bool, true, false, cond, ◌&&◌, ◌||◌, List, ◌++◌, reverse, ℕ, ◌-◌, ltb, ℤ, pos, length, take, replicate}
+use Rattle.std.specs.Prelude.{Result, Ok, Err}
 use Rattle.answers.specs.Guard.{unless_refused}
+use Rattle.answers.specs.declared.Refusal.{Refusal}
 use Rattle.passes.specs.Terms.{term_of, is_valid, is_cross, is_lag}
 use Rattle.passes.specs.declared.DecorrPass.{DecorrPass}
-use Rattle.passes.specs.declared.SeedLength.{SeedLength}
-use Rattle.passes.specs.declared.SeedLength.TheVariants.{Enough, TooShort}
 use Rattle.passes.specs.declared.Term.{Term}
 use Rattle.passes.specs.declared.Term.TheVariants.{Lag, Seventeen, Eighteen, MinusOne, MinusTwo, MinusThree, Invalid}
 
@@ -38,8 +38,8 @@ abbrev pub too_short : Bool → ℕ → ℕ → Bool
 too_short needed count len = (needed || ltb 0 len) && ltb len count
 
 -- whether a seed has enough
-abbrev pub seed_length : Bool → ℕ → ℕ → SeedLength
-seed_length needed count len = cond (too_short needed count len) TooShort Enough
+abbrev pub seed_length : Bool → ℕ → ℕ → Result Unit Refusal
+seed_length needed count len = cond (too_short needed count len) (Err Refusal.SeedTooShort) (Ok tt)
 
 -- "Pass making: 7, term; 8, A seed too short, then B" (X4)
 unfoldable pub making_refusal : ℤ → List ℤ → List ℤ → ℕ

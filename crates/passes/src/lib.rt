@@ -5,12 +5,12 @@
 #![tactic(auto)]
 
 ghost use Rattle.std.specs.Prelude.{◌≡◌, ◌<◌, ◌≤◌, pos, length, take, get_or};
+ghost use Rattle.std.specs.Result.{result_unwrap_or};
 ghost use Rattle.answers.specs.Numbers.{outcome_number};
-ghost use Rattle.answers.specs.declared.Outcome.{Outcome};
 ghost use Rattle.passes.specs.Terms.{term_of, is_valid, is_cross, is_lag};
 ghost use Rattle.passes.specs.Making.{seed_count, ordered, padded, seed_length, no_pass, made};
 
-use answers::{Outcome, Refusal};
+use answers::Refusal;
 
 // One pass: its term, the step of its weights, and for each channel the weight and the history.
 #[derive(Clone, Copy)]
@@ -44,20 +44,6 @@ pub enum Term {
     Invalid,
 }
 
-// Whether a seed has the samples that a term takes.
-#[derive(Clone, Copy)]
-pub enum SeedLength {
-    Enough,
-    TooShort,
-}
-
-// What pass making answers: on refusal the pass is all zero.
-#[derive(Clone, Copy)]
-pub struct PassAnswer {
-    pub outcome: Outcome,
-    pub pass: DecorrPass,
-}
-
 // The term of a number.
 pub fn term_of(term: i8) -> Term
     ensures { result ≡ term_of term }
@@ -68,14 +54,7 @@ pub fn term_of(term: i8) -> Term
         -3 => Term::MinusThree,
         17 => Term::Seventeen,
         18 => Term::Eighteen,
-        1 => Term::Lag(1),
-        2 => Term::Lag(2),
-        3 => Term::Lag(3),
-        4 => Term::Lag(4),
-        5 => Term::Lag(5),
-        6 => Term::Lag(6),
-        7 => Term::Lag(7),
-        8 => Term::Lag(8),
+        1..=8 => Term::Lag(term as usize),
         _ => Term::Invalid,
     }
 }
@@ -84,45 +63,21 @@ pub fn term_of(term: i8) -> Term
 pub fn is_valid(t: Term) -> bool
     ensures { result ≡ is_valid t }
 {
-    match t {
-        Term::Lag(_) => true,
-        Term::Seventeen => true,
-        Term::Eighteen => true,
-        Term::MinusOne => true,
-        Term::MinusTwo => true,
-        Term::MinusThree => true,
-        Term::Invalid => false,
-    }
+    !matches!(t, Term::Invalid)
 }
 
 // Whether a term predicts one channel from the other.
 fn is_cross(t: Term) -> bool
     ensures { result ≡ is_cross t }
 {
-    match t {
-        Term::Lag(_) => false,
-        Term::Seventeen => false,
-        Term::Eighteen => false,
-        Term::MinusOne => true,
-        Term::MinusTwo => true,
-        Term::MinusThree => true,
-        Term::Invalid => false,
-    }
+    matches!(t, Term::MinusOne | Term::MinusTwo | Term::MinusThree)
 }
 
 // Whether a term is a fixed lag.
 fn is_lag(t: Term) -> bool
     ensures { result ≡ is_lag t }
 {
-    match t {
-        Term::Lag(_) => true,
-        Term::Seventeen => false,
-        Term::Eighteen => false,
-        Term::MinusOne => false,
-        Term::MinusTwo => false,
-        Term::MinusThree => false,
-        Term::Invalid => false,
-    }
+    matches!(t, Term::Lag(_))
 }
 
 // How many seed samples a term takes for each channel.
@@ -131,25 +86,21 @@ fn seed_count(t: Term) -> usize
 {
     match t {
         Term::Lag(n) => n,
-        Term::Seventeen => 2,
-        Term::Eighteen => 2,
-        Term::MinusOne => 1,
-        Term::MinusTwo => 1,
-        Term::MinusThree => 1,
+        Term::Seventeen | Term::Eighteen => 2,
+        Term::MinusOne | Term::MinusTwo | Term::MinusThree => 1,
         Term::Invalid => 0,
     }
 }
 
-// Whether a seed of `len` samples has the `count` that its term takes; an empty one that is not
-// needed has.
-fn seed_length(needed: bool, count: usize, len: usize) -> SeedLength
+// Refuses a seed of `len` samples that has fewer than the `count` that its term takes (8); an empty
+// one that is not needed has enough.
+fn seed_length(needed: bool, count: usize, len: usize) -> Result<(), Refusal>
     ensures { result ≡ seed_length needed count len }
 {
     if (needed | (0 < len)) & (len < count) {
-        SeedLength::TooShort
-    } else {
-        SeedLength::Enough
+        return Err(Refusal::SeedTooShort);
     }
+    Ok(())
 }
 
 // Slot j of a history that is seeded with the first n samples of a seed.
@@ -170,36 +121,25 @@ fn seed_history(reversed: bool, count: usize, seed: &[i32]) -> [i32; 8]
     ensures { result ≡ padded (ordered reversed (take count seed.now)) }
 {
     let mut history = [0i32; 8];
-    if seed.len() == 0 {
-        return history;
-    }
-    let mut j: usize = 0;
-    while j < 8 {
-        let x = seed_slot(reversed, count, seed, j);
-        history[j] = x;
-        j += 1;
+    if !seed.is_empty() {
+        for j in 0..8 {
+            history[j] = seed_slot(reversed, count, seed, j);
+        }
     }
     history
 }
 
-// A refusal: no pass results.
-fn refused(refusal: Refusal) -> PassAnswer
-    ensures { result ≡ record { outcome = Outcome.Refused refusal; pass = no_pass } }
-{
-    PassAnswer {
-        outcome: Outcome::Refused(refusal),
-        pass: DecorrPass {
-            term: 0,
-            delta: 0,
-            weight_a: 0,
-            weight_b: 0,
-            history_a: [0i32; 8],
-            history_b: [0i32; 8],
-        },
-    }
-}
-
 impl DecorrPass {
+    // What stands for a pass where there is none: all zero.
+    pub const NONE: DecorrPass = DecorrPass {
+        term: 0,
+        delta: 0,
+        weight_a: 0,
+        weight_b: 0,
+        history_a: [0; 8],
+        history_b: [0; 8],
+    };
+
     // A pass with its histories seeded. Refuses an invalid term (7), then an A seed and then a B
     // seed that is too short (8). Any weights and any delta are taken.
     pub fn new(
@@ -209,33 +149,26 @@ impl DecorrPass {
         weight_b: i32,
         seed_a: &[i32],
         seed_b: &[i32],
-    ) -> PassAnswer
-        ensures { record { refusal = outcome_number result.outcome; pass = result.pass }
+    ) -> Result<DecorrPass, Refusal>
+        ensures { record { refusal = outcome_number result; pass = result_unwrap_or result no_pass }
             ≡ made term delta weight_a weight_b seed_a.now seed_b.now }
     {
         let t = term_of(term);
         if !is_valid(t) {
-            return refused(Refusal::InvalidTerm);
+            return Err(Refusal::InvalidTerm);
         }
         let count = seed_count(t);
-        let SeedLength::Enough = seed_length(false, count, seed_a.len()) else {
-            return refused(Refusal::SeedTooShort);
-        };
+        seed_length(false, count, seed_a.len())?;
         let paired = is_cross(t) & (0 < seed_a.len());
-        let SeedLength::Enough = seed_length(paired, count, seed_b.len()) else {
-            return refused(Refusal::SeedTooShort);
-        };
+        seed_length(paired, count, seed_b.len())?;
         let reversed = is_lag(t);
-        PassAnswer {
-            outcome: Outcome::Accepted,
-            pass: DecorrPass {
-                term: term,
-                delta: delta,
-                weight_a: weight_a,
-                weight_b: weight_b,
-                history_a: seed_history(reversed, count, seed_a),
-                history_b: seed_history(reversed, count, seed_b),
-            },
-        }
+        Ok(DecorrPass {
+            term,
+            delta,
+            weight_a,
+            weight_b,
+            history_a: seed_history(reversed, count, seed_a),
+            history_b: seed_history(reversed, count, seed_b),
+        })
     }
 }
