@@ -2,25 +2,43 @@
 // in decimal. A space comes before each number, and a semicolon or the line's end after a list.
 ghost use Rattle.std.specs.Prelude.{◌≤◌, length};
 
-use crate::numbers::read_byte;
+use crate::numbers::Stored;
 use crate::printing::print;
 use std::io;
 use std::io::Read;
 
 // A number without its sign, whether it is negative, and whether it ends a list.
 #[derive(Clone, Copy)]
-struct Entry {
+pub struct Entry {
     size: u32,
     negative: bool,
     last: bool,
 }
 
+impl From<Entry> for u8 {
+    fn from(entry: Entry) -> u8 {
+        (entry.size % 256) as u8
+    }
+}
+
+// The number as its size and its sign say.
+impl From<Entry> for i32 {
+    fn from(entry: Entry) -> i32 {
+        let value = wrapping::narrow(i64::from(entry.size));
+        if entry.negative {
+            wrapping::wrapping_neg(value)
+        } else {
+            value
+        }
+    }
+}
+
 // The first letter of the next line's word, which is read to the space after it; 0 where the file
 // ends. No word has more than 20 letters.
 pub fn read_kind<R: Read>(file: &mut R) -> u8 {
-    let kind = read_byte(file);
+    let kind = u8::read_from(file);
     for _ in 0..20u32 {
-        if read_byte(file) == b' ' {
+        if u8::read_from(file) == b' ' {
             break;
         }
     }
@@ -30,9 +48,8 @@ pub fn read_kind<R: Read>(file: &mut R) -> u8 {
 // Prints the name of a case, and the colon after it. No name has more than 80 letters.
 pub fn print_name<R: Read>(rt: &impl Print, file: &mut R) -> io::Result<()> {
     for _ in 0..80u32 {
-        let byte = read_byte(file);
-        let text = [byte];
-        print(rt, &text)?;
+        let byte = u8::read_from(file);
+        print(rt, &[byte])?;
         if byte == b':' {
             break;
         }
@@ -42,18 +59,18 @@ pub fn print_name<R: Read>(rt: &impl Print, file: &mut R) -> io::Result<()> {
 
 // The next number of a list, after the space before it: a sign or none, and up to nine digits.
 fn read_entry<R: Read>(file: &mut R) -> Entry {
-    let mut byte = read_byte(file);
+    let mut byte = u8::read_from(file);
     let negative = byte == b'-';
     if negative {
-        byte = read_byte(file);
+        byte = u8::read_from(file);
     }
     let mut size: u32 = 0;
     for _ in 0..9u32 {
-        if byte < b'0' || byte > b'9' {
+        if !byte.is_ascii_digit() {
             break;
         }
-        size = size % 100000000 * 10 + (byte - b'0') as u32;
-        byte = read_byte(file);
+        size = size % 100000000 * 10 + u32::from(byte - b'0');
+        byte = u8::read_from(file);
     }
     Entry {
         size,
@@ -62,48 +79,18 @@ fn read_entry<R: Read>(file: &mut R) -> Entry {
     }
 }
 
-// Reads a list of bytes to the start of another, and answers how many there are.
-pub fn read_bytes<R: Read>(file: &mut R, list: &mut [u8]) -> usize
-    ensures { result ≤ length list.new }
-{
-    let mut last = read_byte(file) != b' ';
-    let mut i = 0;
-    while i < list.len() {
-        if last {
-            break;
-        }
-        let entry = read_entry(file);
-        list[i] = (entry.size % 256) as u8;
-        i += 1;
-        last = entry.last;
-    }
-    i
-}
-
-// A number as its size and its sign say.
-fn signed(size: u32, negative: bool) -> i32 {
-    let value = wrapping::narrow(size as i64);
-    if negative {
-        wrapping::wrapping_neg(value)
-    } else {
-        value
-    }
-}
-
 // Reads a list of numbers to the start of another, and answers how many there are.
-pub fn read_list<R: Read>(file: &mut R, list: &mut [i32]) -> usize
+pub fn read_list<T: Copy + From<Entry>, R: Read>(file: &mut R, list: &mut [T]) -> usize
     ensures { result ≤ length list.new }
 {
-    let mut last = read_byte(file) != b' ';
-    let mut i = 0;
-    while i < list.len() {
+    let mut last = u8::read_from(file) != b' ';
+    for (i, place) in list.iter_mut().enumerate() {
         if last {
-            break;
+            return i;
         }
         let entry = read_entry(file);
-        list[i] = signed(entry.size, entry.negative);
-        i += 1;
+        *place = T::from(entry);
         last = entry.last;
     }
-    i
+    list.len()
 }

@@ -7,124 +7,88 @@ use inputs::read_full;
 use little_endian::{number, signed_word};
 use std::io::Read;
 
-// The next number, or that the file ends before one.
-#[derive(Clone, Copy)]
-pub enum Next {
-    Number(u32),
-    End,
+// A kind of number that a file holds.
+pub trait Stored: Copy + PartialEq {
+    // The next number of this kind.
+    fn read_from<R: Read>(file: &mut R) -> Self;
 }
 
-// The next number of four bytes, if there is one.
-pub fn next_number<R: Read>(file: &mut R) -> Next {
+impl Stored for u8 {
+    fn read_from<R: Read>(file: &mut R) -> u8 {
+        let mut bytes = [0u8; 1];
+        read_full(file, &mut bytes);
+        bytes[0]
+    }
+}
+
+impl Stored for i16 {
+    fn read_from<R: Read>(file: &mut R) -> i16 {
+        let low = u8::read_from(file);
+        let high = u8::read_from(file);
+        signed_word(low, high)
+    }
+}
+
+impl Stored for u32 {
+    fn read_from<R: Read>(file: &mut R) -> u32 {
+        next_number(file).unwrap_or(0)
+    }
+}
+
+impl Stored for i32 {
+    fn read_from<R: Read>(file: &mut R) -> i32 {
+        wrapping::narrow(i64::from(u32::read_from(file)))
+    }
+}
+
+// The next number of four bytes, if the file does not end before it.
+pub fn next_number<R: Read>(file: &mut R) -> Option<u32> {
     let mut bytes = [0u8; 4];
     if read_full(file, &mut bytes) < 4 {
-        return Next::End;
+        return None;
     }
-    Next::Number(number(bytes[0], bytes[1], bytes[2], bytes[3]))
-}
-
-// The next number of four bytes.
-pub fn read_number<R: Read>(file: &mut R) -> u32 {
-    match next_number(file) {
-        Next::Number(number) => number,
-        Next::End => 0,
-    }
-}
-
-// The same, signed.
-pub fn read_signed<R: Read>(file: &mut R) -> i32 {
-    wrapping::narrow(read_number(file) as i64)
-}
-
-// The next byte.
-pub fn read_byte<R: Read>(file: &mut R) -> u8 {
-    let mut bytes = [0u8; 1];
-    read_full(file, &mut bytes);
-    bytes[0]
-}
-
-// The next number of two bytes, signed.
-pub fn read_word<R: Read>(file: &mut R) -> i16 {
-    let low = read_byte(file);
-    let high = read_byte(file);
-    signed_word(low, high)
+    Some(number(bytes[0], bytes[1], bytes[2], bytes[3]))
 }
 
 // The next number of two bytes, as a size.
 pub fn read_size<R: Read>(file: &mut R) -> usize {
-    let low = read_byte(file);
-    let high = read_byte(file);
-    low as usize + 256 * (high as usize)
+    let low = u8::read_from(file);
+    let high = u8::read_from(file);
+    usize::from(low) + 256 * usize::from(high)
 }
 
 // Fills a list with the next numbers.
-pub fn load<R: Read>(file: &mut R, list: &mut [u32]) {
+pub fn load<T: Stored, R: Read>(file: &mut R, list: &mut [T]) {
     for number in list.iter_mut() {
-        *number = read_number(file);
-    }
-}
-
-// Fills a list with the next signed numbers.
-pub fn load_signed<R: Read>(file: &mut R, list: &mut [i32]) {
-    for number in list.iter_mut() {
-        *number = read_signed(file);
+        *number = T::read_from(file);
     }
 }
 
 // Reads this many signed numbers of two bytes to the start of a list, as many as it has room for.
 pub fn load_words<R: Read>(file: &mut R, list: &mut [i32], count: usize) {
     for number in list.iter_mut().take(count) {
-        *number = read_word(file) as i32;
+        *number = i32::from(i16::read_from(file));
     }
 }
 
 // Reads this many bytes to the start of a list. False where the list or the file has fewer.
 pub fn fill<R: Read>(file: &mut R, bytes: &mut [u8], count: usize) -> bool {
-    if count > bytes.len() {
-        return false;
+    match bytes.get_mut(..count) {
+        Some(part) => read_full(file, part) == count,
+        None => false,
     }
-    read_full(file, &mut bytes[..count]) == count
 }
 
 // Whether the next numbers are those of a list.
-pub fn holds<R: Read>(file: &mut R, list: &[u32]) -> bool {
+pub fn holds<T: Stored, R: Read>(file: &mut R, list: &[T]) -> bool {
     let mut same = true;
     for number in list {
-        same = same & (read_number(file) == *number);
+        same &= T::read_from(file) == *number;
     }
     same
 }
 
-// Whether the next signed numbers are those of a list.
-pub fn holds_signed<R: Read>(file: &mut R, list: &[i32]) -> bool {
-    let mut same = true;
-    for number in list {
-        same = same & (read_signed(file) == *number);
-    }
-    same
-}
-
-// Whether the next bytes are those of a list.
-pub fn holds_bytes<R: Read>(file: &mut R, list: &[u8]) -> bool {
-    let mut same = true;
-    for byte in list {
-        same = same & (read_byte(file) == *byte);
-    }
-    same
-}
-
-// The first bytes of a list, all of them where it has fewer.
-pub fn part(bytes: &[u8], count: usize) -> &[u8] {
-    if count < bytes.len() {
-        return &bytes[..count];
-    }
-    bytes
-}
-
-// The first numbers of a list, all of them where it has fewer.
-pub fn part_signed(list: &[i32], count: usize) -> &[i32] {
-    if count < list.len() {
-        return &list[..count];
-    }
-    list
+// The first elements of a list, all of them where it has fewer.
+pub fn part<T>(list: &[T], count: usize) -> &[T] {
+    list.get(..count).unwrap_or(list)
 }
