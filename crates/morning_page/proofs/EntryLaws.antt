@@ -7,28 +7,26 @@ use native.Mathlib.Nat.{zero-add}
 use native.Mathlib.Omega.{arith}
 use lib.IntN.{ℤ}
 use lib.ListN.{length, drop, length-append}
-use Rattle.answers.specs.declared.Outcome.{Outcome}
 use Rattle.answers.specs.declared.Refusal.{Refusal}
+use Rattle.std.specs.Prelude.{Result, Ok}
 use Rattle.answers.specs.Guard.{unless_refused}
-use Rattle.answers.specs.Numbers.{outcome_number}
+use Rattle.answers.specs.Numbers.{number_of}
 use Rattle.answers.proofs.GuardLaws.{guard_refused, guard_accepted}
 use Rattle.answers.proofs.NumberLaws.{number-positive}
 use Rattle.decimal.specs.TextPut.{TextPut}
 use Rattle.overlay.proofs.OverlayLaws.{overlay_first}
 use Rattle.page_lines.specs.Page.{page}
 use Rattle.morning_page.specs.Entry.{PageTold, view_page, page_refusal, refuse_page, tell_page, page_entry}
-use Rattle.morning_page.specs.declared.PageAnswer.{PageAnswer}
 
 module _ (t : ℕ) (samples : List ℤ) (storage : List ℕ) where
   -- a refusal leaves the storage
-  pub page-refused : (o : Outcome) (x : Refusal) → o ≡ Outcome.Refused x
-      → outcome_number o ≡ page_refusal (length samples) (length storage)
-      → record { refusal = outcome_number o; written = 0; bytes = storage } ≡ page_entry t samples storage
+  pub page-refused : (x : Refusal) → number_of x ≡ page_refusal (length samples) (length storage)
+      → record { refusal = number_of x; written = 0; bytes = storage } ≡ page_entry t samples storage
   unfolding page_entry
-  page-refused o x q e =
+  page-refused x e =
       ap (refuse_page storage) e
       ∙ sym (guard_refused (page_refusal (length samples) (length storage)) (refuse_page storage)
-      (tell_page storage (page t samples)) (rw (sym e ∙ ap outcome_number q) (number-positive x)))
+      (tell_page storage (page t samples)) (rw (← e) (number-positive x)))
 
   -- the number that is told is that of the first refusal that applies
   pub page-number : (page_entry t samples storage).refusal ≡ page_refusal (length samples) (length storage)
@@ -69,7 +67,7 @@ page-within t samples storage = go (page_refusal (length samples) (length storag
     go zero = rw (overlay_first storage text) (omega (arith, length-append text (drop (length text) storage)))
     go (suc n) = omega arith
 
--- and so of the struct that a call answers
-pub answer-within : (r : PageAnswer) (after : List ℕ) (told : PageTold) → view_page r after ≡ told
-    → Within told → r.written ≤ length after
-answer-within r after told e w = rw (← e) at w
+-- and so of what an accepted call answers
+pub answer-within : (r : Result ℕ Refusal) (written : ℕ) (after : List ℕ) (told : PageTold)
+    → r ≡ Ok written → view_page r after ≡ told → Within told → written ≤ length after
+answer-within r written after told o e w = rw (← e, o) at w

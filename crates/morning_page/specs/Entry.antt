@@ -1,12 +1,12 @@
 -- Document 02 §5: what the entry answers, and what the lent storage then holds.
 -- Assumes nothing.
-use Rattle.std.specs.Prelude.{List, ℕ, ◌*◌, ℤ, length}
+use Rattle.std.specs.Prelude.{List, ℕ, ◌*◌, ℤ, length, Result, Ok, Err}
 use Rattle.answers.specs.Guard.{unless_refused}
 use Rattle.answers.specs.Lists.{frames_refusal}
-use Rattle.answers.specs.Numbers.{outcome_number}
+use Rattle.answers.specs.Numbers.{number_of}
+use Rattle.answers.specs.declared.Refusal.{Refusal}
 use Rattle.overlay.specs.Overlay.{overlay}
 use Rattle.page_lines.specs.Page.{line_bytes, line_count, page}
-use Rattle.morning_page.specs.declared.PageAnswer.{PageAnswer}
 
 -- the refusal's number (0: accepted), bytes written; and the bytes of the lent storage
 pub record PageTold : Type 0 where
@@ -14,9 +14,10 @@ pub record PageTold : Type 0 where
   pub written : ℕ
   pub bytes : List ℕ
 
--- the answer that the entry's struct holds, with the storage as it is left
-abbrev pub view_page : PageAnswer → List ℕ → PageTold
-view_page r bytes = record { refusal = outcome_number r.outcome; written = r.written; bytes = bytes }
+-- what the entry's answer tells, with the storage as it is left; a refusal tells of no byte written
+abbrev pub view_page : Result ℕ Refusal → List ℕ → PageTold
+view_page (Ok written) bytes = record { refusal = 0; written = written; bytes = bytes }
+view_page (Err refusal) bytes = record { refusal = number_of refusal; written = 0; bytes = bytes }
 
 -- "List faults are 5 and 6, short page storage 11" (Q5.6)
 abbrev pub page_refusal : ℕ → ℕ → ℕ
