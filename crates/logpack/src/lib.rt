@@ -7,22 +7,16 @@
 
 mod exp2_table;
 
-ghost use Rattle.std.specs.Prelude.{◌≡◌, ◌≤◌, nat_abs};
+ghost use Rattle.std.specs.Prelude.{◌≡◌, ◌≤◌, nat_abs, pos};
+ghost use Rattle.std.specs.Result.{result_unwrap_or};
 ghost use Rattle.answers.specs.Numbers.{outcome_number};
 ghost use Rattle.little_endian.specs.LittleEndian.{signed_word};
 ghost use Rattle.logpack.specs.LogWord.{magnitude, log_word};
 ghost use Rattle.logpack.specs.Reach.{out_of_reach, log_word_refusal, log_word_told};
 
-use answers::{Outcome, Refusal};
+use answers::Refusal;
 use exp2_table::mantissa;
 use little_endian::signed_word;
-
-// What expanding a log word answers; on refusal the value is 0.
-#[derive(Clone, Copy)]
-pub struct LogWordAnswer {
-    pub outcome: Outcome,
-    pub value: i32,
-}
 
 // The value of a word that is not negative. The left shift loses bits only of words that are
 // refused.
@@ -58,27 +52,21 @@ fn is_out_of_reach(word: i16) -> bool
 
 // Answers the signed 32-bit value of a log word. Refuses with 17 where the word is 8192 or more, or
 // -8192 or less.
-pub fn wp_exp2s(word: i16) -> LogWordAnswer
-    ensures outcome { outcome_number result.outcome ≡ log_word_refusal word }
-    ensures value { result.value ≡ log_word_told word }
+pub fn wp_exp2s(word: i16) -> Result<i32, Refusal>
+    ensures outcome { outcome_number result ≡ log_word_refusal word }
+    ensures value { result_unwrap_or result (pos 0) ≡ log_word_told word }
 {
     if is_out_of_reach(word) {
-        return LogWordAnswer {
-            outcome: Outcome::Refused(Refusal::LogWordOutOfReach),
-            value: 0,
-        };
+        return Err(Refusal::LogWordOutOfReach);
     }
-    LogWordAnswer {
-        outcome: Outcome::Accepted,
-        value: expand(word as i32),
-    }
+    Ok(expand(i32::from(word)))
 }
 
 // Answers the value of the log word whose low byte is `lo` and whose high byte is `hi`. Refuses
 // with 17 as `wp_exp2s` does.
-pub fn expand_log_word(lo: u8, hi: u8) -> LogWordAnswer
-    ensures outcome { outcome_number result.outcome ≡ log_word_refusal (signed_word lo hi) }
-    ensures value { result.value ≡ log_word_told (signed_word lo hi) }
+pub fn expand_log_word(lo: u8, hi: u8) -> Result<i32, Refusal>
+    ensures outcome { outcome_number result ≡ log_word_refusal (signed_word lo hi) }
+    ensures value { result_unwrap_or result (pos 0) ≡ log_word_told (signed_word lo hi) }
 {
     wp_exp2s(signed_word(lo, hi))
 }
