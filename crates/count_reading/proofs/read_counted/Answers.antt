@@ -10,7 +10,7 @@ use lib.Pow.{pow_mono}
 use Rattle.bits.specs.Bits.{bits_of}
 use Rattle.bits.specs.Fields.{get_bits}
 use Rattle.fields.specs.Counts.{counted}
-use Rattle.bits.specs.declared.Field.TheVariants.{Value}
+use Rattle.std.specs.Prelude.{Some}
 use Rattle.bits.proofs.BitLaws.{shl_one}
 use Rattle.bits.proofs.ReadLaws.{bits_lt}
 use Rattle.count_reading.proofs.read_counted.Goals as goal
@@ -19,17 +19,15 @@ pub returns-then-ones-lt2 : goal.returns-then-ones-lt2
 unfolding counted
 returns-then-ones-lt2 c = rw (lt-ltb _ _ c.if-ones-lt2.true)
 
-pub returns-in_default : goal.returns-in_default
+pub returns-in_err-low : goal.returns-in_err-low
 unfolding counted
-returns-in_default c =
-    rw (le-ltb _ _ c.if-ones-lt2.false, sym c.get_bits.ensures ∙ c.in_default.is)
+returns-in_err-low c =
+    rw (c.from_residual.ensures, le-ltb _ _ c.if-ones-lt2.false, sym c.get_bits.ensures ∙ c.in_err-low.was)
 
-read : (c : goal.In-Value) →
-    let a = c.args in
-    get_bits (bits_of c.args.payload.now) c.args.place (c.args.ones - 1)
-    ≡ Value c.in-Value.low c.in-Value.next
+read : (c : goal.In_ok-low) →
+    get_bits (bits_of c.args.payload.now) c.args.place (c.args.ones - 1) ≡ Some (c.in_ok-low.low, c.in_ok-low.next)
 read c =
-    sym c.get_bits.ensures ∙ c.in-Value.is
+    sym c.get_bits.ensures ∙ c.in_ok-low.was
 
 pub overflow_add-result : goal.overflow_add-result
 overflow_add-result c =

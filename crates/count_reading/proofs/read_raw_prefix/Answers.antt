@@ -8,33 +8,48 @@ use mathlib.Core.List.{List}
 use Prim.Native.Nat.{ℕ, ◌+◌, ◌≤◌}
 use lib.Dec.{leb}
 use borrow.Author.Tests.{lt-ltb, le-ltb, le-leb, lt-leb, eq-eqb, ne_eqb}
+use Rattle.std.specs.Prelude.{Option, Some, None, Result, Ok, Err}
+use Rattle.std.specs.Option.{ok_or}
+use Rattle.std.specs.Result.{IsErrAnd}
+use Rattle.std.proofs.lemmas.Result.{err_from_is_err_and}
 use Rattle.bits.specs.Fields.{unary}
 use Rattle.fields.specs.Counts.{counted, escaped, prefix}
-use Rattle.fields.specs.declared.Prefix.{Prefix}
-use Rattle.bits.specs.declared.Field.TheVariants.{Value}
+use Rattle.answers.specs.declared.Refusal.{Refusal}
+use Rattle.answers.specs.declared.Refusal.TheVariants.{Truncated}
 use Rattle.count_reading.proofs.read_raw_prefix.Goals as goal
 
-pub returns-in_default : goal.returns-in_default
+-- what a missing part makes of the whole: the refusal that it was given
+missing : (r : Result (ℕ × ℕ) Refusal) (o : Option (ℕ × ℕ)) {x : Refusal} → IsErrAnd r (λ y. y ≡ x)
+    → ◌≡◌ {A = Result (ℕ × ℕ) Refusal} (Err x) (ok_or o Truncated) → o ≡ None → r ≡ Err Truncated
+missing r o h e n =
+    let p = err_from_is_err_and r h in
+    rw (p.1, p.2) (e ∙ rw n)
+
+pub returns-in_err-first : goal.returns-in_err-first
 unfolding prefix
-returns-in_default c = rw (sym c.get_unary.ensures ∙ c.in_default.is)
+returns-in_err-first c =
+    let e = c.in_err-first.ensures in
+    rw (missing _ _ c.from_residual.ensures.1 e.value e.ok_part, sym c.get_unary.ensures ∙ e.ok_part)
 
 pub returns-then-first-lt16 : goal.returns-then-first-lt16
 unfolding prefix
-returns-then-first-lt16 c = rw (sym c.get_unary.ensures ∙ c.in-Value.is, lt-ltb _ _ c.if-first-lt16.true)
+returns-then-first-lt16 c = rw (sym c.get_unary.ensures ∙ c.in_ok-first.ensures.ok_part, lt-ltb _ _ c.if-first-lt16.true)
 
-pub returns-in_default-get_unary : goal.returns-in_default-get_unary
+pub returns-in_err-second : goal.returns-in_err-second
 unfolding prefix
-returns-in_default-get_unary c =
+returns-in_err-second c =
+    let e = c.in_err-second.ensures in
     rw (
-      sym c.get_unary.ensures ∙ c.in-Value.is,
+      missing _ _ c.from_residual-in_err-second.ensures.1 e.value e.ok_part,
+      sym c.get_unary.ensures ∙ c.in_ok-first.ensures.ok_part,
       le-ltb _ _ c.if-first-lt16.false,
-      sym c.get_unary-2.ensures ∙ c.in_default-get_unary.is,
+      sym c.get_unary-2.ensures ∙ e.ok_part,
     )
 
 -- past both counts
-past : (bits : List Bool) (p : ℕ) {first behind second digits : ℕ} → unary bits p ≡ Value first behind
+past : (bits : List Bool) (p : ℕ) {first behind second digits : ℕ} → unary bits p ≡ Some (first, behind)
     → 16 ≤ first
-    → unary bits behind ≡ Value second digits → prefix bits p ≡ escaped bits second digits
+    → unary bits behind ≡ Some (second, digits) → prefix bits p ≡ escaped bits second digits
 unfolding prefix
 past bits p e h f = rw (e, le-ltb _ _ h, f)
 
@@ -42,58 +57,60 @@ pub returns-then-second-eq33 : goal.returns-then-second-eq33
 unfolding escaped
 returns-then-second-eq33 c =
     rw (
-      past _ _ (sym c.get_unary.ensures ∙ c.in-Value.is) c.if-first-lt16.false
-          (sym c.get_unary-2.ensures ∙ c.in-Value-get_unary.is),
-      eq-eqb c.in-Value-get_unary.second 33 (omega arith),
+      past _ _ (sym c.get_unary.ensures ∙ c.in_ok-first.ensures.ok_part) c.if-first-lt16.false
+          (sym c.get_unary-2.ensures ∙ c.in_ok-second.ensures.ok_part),
+      eq-eqb c.in_ok-second.second 33 (omega arith),
     )
 
 pub returns-then-second-gt33 : goal.returns-then-second-gt33
 unfolding escaped
 returns-then-second-gt33 c =
-    let n = c.in-Value-get_unary.second in
+    let n = c.in_ok-second.second in
     rw (
-      past _ _ (sym c.get_unary.ensures ∙ c.in-Value.is) c.if-first-lt16.false
-          (sym c.get_unary-2.ensures ∙ c.in-Value-get_unary.is),
+      past _ _ (sym c.get_unary.ensures ∙ c.in_ok-first.ensures.ok_part) c.if-first-lt16.false
+          (sym c.get_unary-2.ensures ∙ c.in_ok-second.ensures.ok_part),
       ne_eqb n 33 (omega arith),
       lt-ltb 33 n (omega arith),
     )
 
-pub returns-in_default-read_counted : goal.returns-in_default-read_counted
+pub returns-in_err-rest : goal.returns-in_err-rest
 unfolding escaped
-returns-in_default-read_counted c =
-    let n = c.in-Value-get_unary.second in
+returns-in_err-rest c =
+    let n = c.in_ok-second.second in
+    let e = c.in_err-rest.ensures in
     rw (
-      past _ _ (sym c.get_unary.ensures ∙ c.in-Value.is) c.if-first-lt16.false
-          (sym c.get_unary-2.ensures ∙ c.in-Value-get_unary.is),
+      missing _ _ c.from_residual-in_err-rest.ensures.1 e.value e.ok_part,
+      past _ _ (sym c.get_unary.ensures ∙ c.in_ok-first.ensures.ok_part) c.if-first-lt16.false
+          (sym c.get_unary-2.ensures ∙ c.in_ok-second.ensures.ok_part),
       ne_eqb n 33 (omega arith),
       le-ltb 33 n (omega arith),
-      sym c.read_counted.ensures ∙ c.in_default-read_counted.is,
+      sym c.read_counted.ensures ∙ e.ok_part,
     )
 
 -- past the number behind the second count
 third : (bits : List Bool) (p second digits : ℕ) {rest next : ℕ}
     → prefix bits p ≡ escaped bits second digits → (second ≡ 33 → ⊥) → second ≤ 33
-    → counted bits digits second ≡ Value rest next
-    → prefix bits p ≡ cond (leb (16 + rest) 4294967295) (Prefix.Value (16 + rest) next) Prefix.Truncated
+    → counted bits digits second ≡ Some (rest, next)
+    → prefix bits p ≡ cond (leb (16 + rest) 4294967295) (Ok (16 + rest, next)) (Err Truncated)
 unfolding escaped
 third bits p second digits e h k f = rw (e, ne_eqb _ _ h, le-ltb _ _ k, f)
 
 pub returns-then-rest-gt4294967279 : goal.returns-then-rest-gt4294967279
 returns-then-rest-gt4294967279 c =
-    let e = past _ _ (sym c.get_unary.ensures ∙ c.in-Value.is) c.if-first-lt16.false
-    (sym c.get_unary-2.ensures ∙ c.in-Value-get_unary.is) in
+    let e = past _ _ (sym c.get_unary.ensures ∙ c.in_ok-first.ensures.ok_part) c.if-first-lt16.false
+    (sym c.get_unary-2.ensures ∙ c.in_ok-second.ensures.ok_part) in
     rw (
-      third _ _ c.in-Value-get_unary.second _ e (omega arith) (omega arith)
-          (sym c.read_counted.ensures ∙ c.in-Value-read_counted.is),
-      lt-leb (16 + c.in-Value-read_counted.rest) 4294967295 (omega arith),
+      third _ _ c.in_ok-second.second _ e (omega arith) (omega arith)
+          (sym c.read_counted.ensures ∙ c.in_ok-rest.ensures.ok_part),
+      lt-leb (16 + c.in_ok-rest.rest) 4294967295 (omega arith),
     )
 
 pub returns : goal.returns
 returns c =
-    let e = past _ _ (sym c.get_unary.ensures ∙ c.in-Value.is) c.if-first-lt16.false
-    (sym c.get_unary-2.ensures ∙ c.in-Value-get_unary.is) in
+    let e = past _ _ (sym c.get_unary.ensures ∙ c.in_ok-first.ensures.ok_part) c.if-first-lt16.false
+    (sym c.get_unary-2.ensures ∙ c.in_ok-second.ensures.ok_part) in
     rw (
-      third _ _ c.in-Value-get_unary.second _ e (omega arith) (omega arith)
-          (sym c.read_counted.ensures ∙ c.in-Value-read_counted.is),
-      le-leb (16 + c.in-Value-read_counted.rest) 4294967295 (omega arith),
+      third _ _ c.in_ok-second.second _ e (omega arith) (omega arith)
+          (sym c.read_counted.ensures ∙ c.in_ok-rest.ensures.ok_part),
+      le-leb (16 + c.in_ok-rest.rest) 4294967295 (omega arith),
     )
