@@ -12,7 +12,6 @@ ghost use Rattle.bits.specs.Bits.{bits_of};
 ghost use Rattle.fields.specs.Code.{code_of, truncated_binary, CodeIn};
 
 use bit_reading::{get_bit, get_bits};
-use bits::Field;
 use fields::bit_length;
 
 // A code out of a window, and how many bits it takes.
@@ -59,32 +58,28 @@ pub fn code_in_window(v: u64, last: u32) -> WindowCode
 }
 
 // A code of `width` bits, or of one bit less where it is below `extras`.
-fn read_code(payload: &[u8], place: usize, width: u32, extras: u32) -> Field
+fn read_code(payload: &[u8], place: usize, width: u32, extras: u32) -> Option<(u32, usize)>
     requires limit { length payload.now ≤ max_payload_bytes }
     requires width { (0 < width) × (width ≤ 31) }
     ensures { result ≡ code_of (bits_of payload.now) place width extras }
 {
-    let Field::Value(short, next) = get_bits(payload, place, width - 1) else {
-        return Field::Truncated;
-    };
+    let (short, next) = get_bits(payload, place, width - 1)?;
     if short < extras {
-        return Field::Value(short, next);
+        return Some((short, next));
     }
-    let Field::Value(extra, after) = get_bit(payload, next) else {
-        return Field::Truncated;
-    };
-    Field::Value(2 * short - extras + extra, after)
+    let (extra, after) = get_bit(payload, next)?;
+    Some((2 * short - extras + extra, after))
 }
 
 // The code at a place inside an interval whose last code is `last`; where that is 0, no bit is
-// read. Truncated where a bit is missing.
-pub fn read_truncated_binary(payload: &[u8], place: usize, last: u32) -> Field
+// read. None where a bit is missing.
+pub fn read_truncated_binary(payload: &[u8], place: usize, last: u32) -> Option<(u32, usize)>
     requires limit { length payload.now ≤ max_payload_bytes }
     requires interval { last < 2147483648 }
     ensures { result ≡ truncated_binary (bits_of payload.now) place last }
 {
     if last == 0 {
-        return Field::Value(0, place);
+        return Some((0, place));
     }
     let width = bit_length(last);
     read_code(payload, place, width, (1 << width) - last - 1)
