@@ -8,12 +8,12 @@ use Rattle.entropy.specs.Medians.{Medians, Small}
 use Rattle.medians.specs.Adaptation.{hold, up, down, adapt}
 
 -- the clause for a count of 3 or more, at a count that is known only by its order
-pub adapt-many : (m : Medians) (k : ℕ) → 3 ≤ k → adapt m k ≡ record { m0 = up 128 m.m0; m1 = up 64 m.m1; m2 = up 32 m.m2 }
+pub adapt_many : (m : Medians) (k : ℕ) → 3 ≤ k → adapt m k ≡ record { m0 = up 128 m.m0; m1 = up 64 m.m1; m2 = up 32 m.m2 }
 unfolding adapt
-adapt-many m zero h = absurd (omega arith)
-adapt-many m (suc zero) h = absurd (omega arith)
-adapt-many m (suc (suc zero)) h = absurd (omega arith)
-adapt-many m (suc (suc (suc j))) h = refl
+adapt_many m zero h = absurd (omega arith)
+adapt_many m (suc zero) h = absurd (omega arith)
+adapt_many m (suc (suc zero)) h = absurd (omega arith)
+adapt_many m (suc (suc (suc j))) h = refl
 
 -- a number divided by 32 or more
 pub div_small : (x d : ℕ) → 32 ≤ d → x / d * 32 ≤ x

@@ -5,7 +5,6 @@ ghost use Rattle.entropy.specs.Medians.{medians_of};
 ghost use Rattle.medians.specs.Interval.{g, wrapped, IntervalIs};
 
 use entropy::AdaptiveMedians;
-use wrapping::casts::u32_to_u64;
 
 // The interval of a count: its first and its last number.
 #[derive(Clone, Copy)]
@@ -20,7 +19,7 @@ fn get_med(median: u32) -> u64
     ensures some { 0 < result }
     ensures most { result ≤ max_width }
 {
-    u32_to_u64(median) / 16 + 1
+    u64::from(median) / 16 + 1
 }
 
 // The interval of `width` numbers from `base` on, cut to 31 bits.
@@ -33,24 +32,24 @@ fn cut(base: u64, width: u64) -> SampleInterval
 {
     let low = (base % 2147483648) as u32;
     let high = ((base + width - 1) % 2147483648) as u32;
-    if high < low {
-        return SampleInterval { low, high: low };
+    SampleInterval {
+        low,
+        high: high.max(low),
     }
-    SampleInterval { low, high }
 }
 
 // The interval of the count `ones_count`. Refuses nothing.
 pub fn sample_interval(medians: AdaptiveMedians, ones_count: u32) -> SampleInterval
     ensures { IntervalIs (medians_of medians) ones_count result.low result.high }
 {
-    let values = medians.values;
-    if ones_count == 0 {
-        return cut(0, get_med(values[0]));
+    let [first, second, third] = medians.values;
+    match ones_count {
+        0 => cut(0, get_med(first)),
+        1 => cut(get_med(first), get_med(second)),
+        _ => {
+            let width = get_med(third);
+            let base = get_med(first) + get_med(second) + u64::from(ones_count - 2) * width;
+            cut(base, width)
+        }
     }
-    if ones_count == 1 {
-        return cut(get_med(values[0]), get_med(values[1]));
-    }
-    let width = get_med(values[2]);
-    let base = get_med(values[0]) + get_med(values[1]) + u32_to_u64(ones_count - 2) * width;
-    cut(base, width)
 }

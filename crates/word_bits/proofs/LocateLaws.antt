@@ -9,7 +9,7 @@ use Rattle.answers.specs.Limits.{residual_span}
 use Rattle.entropy.specs.Medians.{Medians, Small}
 use Rattle.medians.specs.Interval.{g, base, width}
 use Rattle.medians.specs.Adaptation.{up, down, adapt}
-use Rattle.medians.proofs.AdaptationLaws.{adapt-many}
+use Rattle.medians.proofs.AdaptationLaws.{adapt_many}
 use Rattle.word_bits.specs.Counts.{count}
 use Rattle.word_bits.specs.View.{LocatedIs, Above}
 use Rattle.word_bits.specs.declared.Located.{Located}
@@ -96,4 +96,4 @@ module _ (m : Medians) (v rest x y c : ℕ) (a : Above m v rest x y c) (r : Loca
       (closed-many m v (omega (arith, a.past)) ∙ ap (λ (n : ℕ). suc (suc n)) z) (n ∙ omega arith) f
       (e ∙ ap (λ (n : ℕ). g n - 1) a.third)
       (triple _ r.m0 r.m1 r.m2 (p ∙ a.first) (q ∙ a.second) (t ∙ ap (up 32) a.third)
-      ∙ sym (adapt-many m (suc (suc j)) (omega arith)))
+      ∙ sym (adapt_many m (suc (suc j)) (omega arith)))

@@ -10,7 +10,6 @@ ghost use Rattle.word_state.specs.State.{run_due, SmallBits, plus_bits, exceeds}
 ghost use Rattle.word_state.specs.View.{bits_read_of};
 
 use entropy::AdaptiveMedians;
-use wrapping::casts::u32_to_usize;
 
 // The state of the words: the medians of both channels, indexed by channel, and what one word
 // leaves to the next; and the bits read for each channel so far.
@@ -28,7 +27,7 @@ pub struct StereoDecodeState {
 
 // Whether a run length stands before a word, from the medians of both channels, in any order, and
 // what the words before left. The medians are tested first: in loud payloads they alone decide.
-#[tactic(auto, using(crate::proofs::DueLaws::none_due))]
+#[tactic(auto, unfolding(crate::specs::State::run_due))]
 pub fn zero_run_eligible(
     one_set: AdaptiveMedians,
     other_set: AdaptiveMedians,
@@ -39,29 +38,16 @@ pub fn zero_run_eligible(
     ensures { result ≡ (not run_break
         && run_due (medians_of one_set) (medians_of other_set) last_zero last_one) }
 {
-    let one = one_set.values;
-    let other = other_set.values;
-    if one[0] > 1 {
-        return false;
-    }
-    if other[0] > 1 {
-        return false;
-    }
-    if run_break {
-        return false;
-    }
-    if last_zero {
-        return false;
-    }
-    !last_one
+    one_set.values[0] <= 1 && other_set.values[0] <= 1 && !run_break && !last_zero && !last_one
 }
 
 // Whether both totals together exceed a place. A sum of two numbers of 32 bits fits 64.
+#[tactic(auto, unfolding(crate::specs::State::exceeds))]
 pub fn bits_exceed(bits_read: [u32; 2], place: usize) -> bool
     ensures exceeds { result ≡ exceeds (bits_read_of bits_read) place }
     ensures small { SmallBits (bits_read_of bits_read) }
 {
-    u32_to_usize(bits_read[0]) + u32_to_usize(bits_read[1]) > place
+    bits_read[0] as usize + bits_read[1] as usize > place
 }
 
 // The totals with what a word took counted for the channel that was due.
@@ -70,8 +56,7 @@ pub fn charged(bits_read: [u32; 2], channel: u32, took: usize) -> [u32; 2]
     requires fits { get_or bits_read channel 0 + took < 4294967296 }
     ensures { bits_read_of result ≡ plus_bits channel took (bits_read_of bits_read) }
 {
-    let due = channel as usize;
     let mut totals = bits_read;
-    totals[due] = totals[due] + took as u32;
+    totals[channel as usize] += took as u32;
     totals
 }

@@ -2,30 +2,27 @@
 -- by the law `interval_is`.
 -- Assumes nothing.
 use native.Mathlib.Omega.{arith}
-use mathlib.Core.Path.{◌≡◌, refl, sym, ◌∙◌}
+use mathlib.Core.Path.{refl, sym, ◌∙◌}
 use Rattle.entropy.specs.Medians.{medians_of}
 use Rattle.medians.proofs.IntervalLaws.{base-many, width-many, interval_is}
 use Rattle.medians.proofs.interval.sample_interval.Goals as goal
 
-pub returns-then-ones_count-eq0 : goal.returns-then-ones_count-eq0
-returns-then-ones_count-eq0 c =
-    let e : c.args.ones_count ≡ 0 = omega arith in
-    rw e (interval_is (medians_of c.args.medians) 0 _ _ _ _ refl c.get_med.ensures.is
+pub returns-in-0 : goal.returns-in-0
+returns-in-0 c =
+    rw c.in-0.is (interval_is (medians_of c.args.medians) 0 _ _ _ _ refl c.get_med.ensures.is
     (omega arith) c.cut.ensures.low c.cut.ensures.high)
 
-pub returns-then-ones_count-eq1 : goal.returns-then-ones_count-eq1
-returns-then-ones_count-eq1 c =
-    let e : c.args.ones_count ≡ 1 = omega arith in
-    rw e (interval_is (medians_of c.args.medians) 1 _ _ _ _ c.get_med-then-ones_count-eq1.ensures.is
-    c.get_med-then-ones_count-eq1-2.ensures.is (omega arith) c.cut-then-ones_count-eq1.ensures.low
-    c.cut-then-ones_count-eq1.ensures.high)
+pub returns-in-1 : goal.returns-in-1
+returns-in-1 c =
+    rw c.in-1.is (interval_is (medians_of c.args.medians) 1 _ _ _ _ c.get_med-in-1.ensures.is
+    c.get_med-in-1-2.ensures.is (omega arith) c.cut-in-1.ensures.low c.cut-in-1.ensures.high)
 
-pub returns : goal.returns
-returns c =
+pub returns-in_default : goal.returns-in_default
+returns-in_default c =
     let k = c.args.ones_count in
     let m = medians_of c.args.medians in
     let w = c.get_med-width.ensures.is in
-    let b = base-many m k _ _ _ _ (omega arith) c.get_med-2.ensures.is c.get_med-3.ensures.is
-    c.u32_to_u64.ensures w in
+    let b = base-many m k _ _ _ _ (omega arith) c.get_med-in_default.ensures.is
+    c.get_med-in_default-2.ensures.is c.from.ensures w in
     interval_is m k _ _ _ _ b (w ∙ sym (width-many m k (omega arith)))
-    (omega arith) c.cut-2.ensures.low c.cut-2.ensures.high
+    (omega arith) c.cut-in_default.ensures.low c.cut-in_default.ensures.high
