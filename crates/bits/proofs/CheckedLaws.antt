@@ -1,14 +1,22 @@
 -- Which of its answers reading from any slice, and laying a field of any width into any buffer, gives.
 -- Assumes nothing.
-use mathlib.Core.Path.{◌≡◌}
+use mathlib.Core.Path.{◌≡◌, refl}
 use mathlib.Core.List.{List, [], ◌∷◌}
 use Prim.Native.Nat.{ℕ, ◌+◌, ◌*◌, ◌≤◌, ◌<◌}
 use borrow.Author.Tests.{lt-ltb, le-ltb, le-leb, lt-leb}
 use lib.ListN.{length}
 use Rattle.answers.specs.Limits.{max_payload_bytes}
+use Rattle.std.specs.Prelude.{Option, Some, None}
+use Rattle.std.specs.Option.{ok_or}
+use Rattle.answers.specs.declared.Refusal.TheVariants.{Truncated}
 use Rattle.bits.specs.Bits.{low}
-use Rattle.bits.specs.Checked.{too_large, bit_read, bits_read_at, unary_read, refuse_writing, written}
+use Rattle.bits.specs.Checked.{field_told, told, too_large, bit_read, bits_read_at, unary_read, refuse_writing, written}
 use Rattle.bits.specs.Laid.{put}
+
+-- a field that is missing is told as Truncated
+pub field-told : (field : Option (ℕ × ℕ)) → told (ok_or field Truncated) ≡ field_told field
+field-told (Some (v, next)) = refl
+field-told None = refl
 
 -- the payload is over the limit, whatever it holds
 pub read-large : (s : List ℕ) (p count : ℕ) → max_payload_bytes < length s

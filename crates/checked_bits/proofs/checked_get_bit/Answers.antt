@@ -2,20 +2,20 @@
 -- answers.
 -- Assumes nothing.
 use borrow.Author.Tests.{le-ltb}
-use mathlib.Core.Path.{sym, ◌∙◌}
+use mathlib.Core.Path.{sym}
 use Rattle.bits.specs.Checked.{bit_read}
-use Rattle.bits.proofs.CheckedLaws.{read-large}
+use Rattle.bits.proofs.CheckedLaws.{field-told, read-large}
 use Rattle.checked_bits.proofs.checked_get_bit.Goals as goal
 
 pub returns-then-s-gt-MAX_PAYLOAD_BYTES : goal.returns-then-s-gt-MAX_PAYLOAD_BYTES
 returns-then-s-gt-MAX_PAYLOAD_BYTES c = sym (read-large _ _ 0 c.if-s-gt-MAX_PAYLOAD_BYTES.true).0
 
-pub returns-in_default : goal.returns-in_default
-unfolding bit_read
-returns-in_default c =
-    rw (le-ltb _ _ c.if-s-gt-MAX_PAYLOAD_BYTES.false, sym c.get_bit.ensures ∙ c.in_default.is)
-
 pub returns : goal.returns
 unfolding bit_read
 returns c =
-    rw (le-ltb _ _ c.if-s-gt-MAX_PAYLOAD_BYTES.false, sym c.get_bit.ensures ∙ c.in-Value.is)
+    rw (
+      c.ok_or.ensures.value,
+      field-told _,
+      c.get_bit.ensures,
+      le-ltb _ _ c.if-s-gt-MAX_PAYLOAD_BYTES.false,
+    )

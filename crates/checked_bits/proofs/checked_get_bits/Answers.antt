@@ -2,9 +2,9 @@
 -- answers.
 -- Assumes nothing.
 use borrow.Author.Tests.{lt-ltb, le-ltb}
-use mathlib.Core.Path.{sym, ◌∙◌}
+use mathlib.Core.Path.{sym}
 use Rattle.bits.specs.Checked.{bits_read_at}
-use Rattle.bits.proofs.CheckedLaws.{read-large}
+use Rattle.bits.proofs.CheckedLaws.{field-told, read-large}
 use Rattle.checked_bits.proofs.checked_get_bits.Goals as goal
 
 pub returns-then-s-gt-MAX_PAYLOAD_BYTES : goal.returns-then-s-gt-MAX_PAYLOAD_BYTES
@@ -14,20 +14,13 @@ pub returns-then-count-gt32 : goal.returns-then-count-gt32
 unfolding bits_read_at
 returns-then-count-gt32 c = rw (le-ltb _ _ c.if-s-gt-MAX_PAYLOAD_BYTES.false, lt-ltb _ _ c.if-count-gt32.true)
 
-pub returns-in_default : goal.returns-in_default
-unfolding bits_read_at
-returns-in_default c =
-    rw (
-      le-ltb _ _ c.if-s-gt-MAX_PAYLOAD_BYTES.false,
-      le-ltb _ _ c.if-count-gt32.false,
-      sym c.get_bits.ensures ∙ c.in_default.is,
-    )
-
 pub returns : goal.returns
 unfolding bits_read_at
 returns c =
     rw (
+      c.ok_or.ensures.value,
+      field-told _,
+      c.get_bits.ensures,
       le-ltb _ _ c.if-s-gt-MAX_PAYLOAD_BYTES.false,
       le-ltb _ _ c.if-count-gt32.false,
-      sym c.get_bits.ensures ∙ c.in-Value.is,
     )
