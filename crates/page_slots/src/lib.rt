@@ -4,27 +4,28 @@
 #![tactic(auto)]
 
 ghost use Rattle.std.specs.Prelude.{◌≡◌};
+ghost use Rattle.answers.specs.Numbers.{outcome_number};
 ghost use Rattle.page_slots.specs.PageSlots.{page_call};
 
-use answers::{Outcome, Refusal, number, outcome_number};
+use answers::Refusal;
 use morning_page::morning_page;
-use slots::lay_words;
+use slots::lay;
 
 // `wv_morning_page`: the page into `page`, and into 1 slot how many bytes it has. Refuses 6 for
 // `answer`, then 5, 6 and 11.
-pub fn page_call(samples: &[i32], threshold: u32, page: &mut [u8], answer: &mut [u32]) -> u32
-    ensures { record { refusal = result; list = page.new; answer = answer.new }
+pub fn page_call(
+    samples: &[i32],
+    threshold: u32,
+    page: &mut [u8],
+    answer: &mut [u32],
+) -> Result<(), Refusal>
+    ensures { record { refusal = outcome_number result; list = page.new; answer = answer.new }
         ≡ page_call samples.now threshold page.old answer.old }
 {
     if answer.len() < 1 {
-        return number(Refusal::ListLength);
+        return Err(Refusal::ListLength);
     }
-    let told = morning_page(samples, threshold, page);
-    let outcome = told.outcome;
-    let Outcome::Accepted = outcome else {
-        return outcome_number(outcome);
-    };
-    let values = [told.written];
-    lay_words(&values, 0, answer);
-    0
+    let written = morning_page(samples, threshold, page)?;
+    lay(&[written], 0, answer);
+    Ok(())
 }
