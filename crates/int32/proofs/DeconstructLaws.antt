@@ -9,11 +9,10 @@ use borrow.Author.Tests.{lt-ltb, le-ltb, ltb-false}
 use lib.Dec.{ltb}
 use lib.IntN.{ℤ}
 use lib.ListN.{length}
-use Rattle.answers.specs.declared.Outcome.{Outcome}
 use Rattle.answers.specs.declared.Refusal.{Refusal}
 use Rattle.answers.specs.Guard.{unless_refused}
 use Rattle.answers.specs.Limits.{max_elements}
-use Rattle.answers.specs.Numbers.{outcome_number}
+use Rattle.answers.specs.Numbers.{number_of}
 use Rattle.answers.proofs.GuardLaws.{refused-first, refused-later, neither-refused, guard_refused}
 use Rattle.answers.proofs.GuardLaws.{guard_accepted}
 use Rattle.answers.proofs.NumberLaws.{number-positive}
@@ -36,12 +35,11 @@ pub record Divisible (info : Int32Info) (samples : List ℤ) (room : ℕ) : Type
 
 module _ (info : Int32Info) (samples : List ℤ) (room : ℕ) where
   -- 15 and 5 come first
-  pub deconstruct_first : (o : Outcome) (x : Refusal) → o ≡ Outcome.Refused x
-      → outcome_number o ≡ info_refusal info (length samples)
-      → outcome_number o ≡ deconstruct_refusal info samples room
+  pub deconstruct_first : (x : Refusal) → number_of x ≡ info_refusal info (length samples)
+      → number_of x ≡ deconstruct_refusal info samples room
   unfolding deconstruct_refusal
-  deconstruct_first o x q e = e
-      ∙ sym (refused-first (info_refusal info (length samples)) _ (rw (← e, q) (number-positive x)))
+  deconstruct_first x e = e
+      ∙ sym (refused-first (info_refusal info (length samples)) _ (rw (← e) (number-positive x)))
 
   -- 11: storage that is too short
   pub deconstruct_short : info_refusal info (length samples) ≡ 0 → room < 4 * length samples
@@ -82,13 +80,12 @@ module _ (info : Int32Info) (samples : List ℤ) (room : ℕ) where
       short f false q e = image f (ltb-false _ _ q) (all_reinsertable (setting_of info) samples) refl e
 
 module _ (info : Int32Info) (samples : List ℤ) (literal : List ℕ) where
-  pub deconstruct_refused : (o : Outcome) (x : Refusal) → o ≡ Outcome.Refused x
-      → outcome_number o ≡ deconstruct_refusal info samples (length literal)
-      → refuse_deconstruct samples literal (outcome_number o) ≡ deconstruct_entry info samples literal
+  pub deconstruct_refused : (x : Refusal) → number_of x ≡ deconstruct_refusal info samples (length literal)
+      → refuse_deconstruct samples literal (number_of x) ≡ deconstruct_entry info samples literal
   unfolding deconstruct_entry
-  deconstruct_refused o x q e =
+  deconstruct_refused x e =
       ap (refuse_deconstruct samples literal) e
-      ∙ sym (guard_refused _ (refuse_deconstruct samples literal) _ (rw (← e, q) (number-positive x)))
+      ∙ sym (guard_refused _ (refuse_deconstruct samples literal) _ (rw (← e) (number-positive x)))
 
   pub deconstruct_accepted : deconstruct_refusal info samples (length literal) ≡ 0
       → deconstruct_entry info samples literal ≡ tell_deconstruct info samples literal

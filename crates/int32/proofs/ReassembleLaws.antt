@@ -9,11 +9,10 @@ use borrow.Author.Tests.{lt-ltb, le-ltb, ltb-false}
 use lib.Dec.{ltb}
 use lib.IntN.{ℤ}
 use lib.ListN.{length, length-map}
-use Rattle.answers.specs.declared.Outcome.{Outcome}
 use Rattle.answers.specs.declared.Refusal.{Refusal}
 use Rattle.answers.specs.Guard.{unless_refused}
 use Rattle.answers.specs.Limits.{max_elements}
-use Rattle.answers.specs.Numbers.{outcome_number}
+use Rattle.answers.specs.Numbers.{number_of}
 use Rattle.answers.proofs.GuardLaws.{refused-first, refused-later, neither-refused, guard_refused}
 use Rattle.answers.proofs.GuardLaws.{guard_accepted}
 use Rattle.answers.proofs.NumberLaws.{number-positive}
@@ -28,10 +27,9 @@ use Rattle.int32.proofs.WideLaws.{appended-length}
 
 module _ (info : Int32Info) (n room : ℕ) where
   -- 15 and 5 come first
-  pub reassemble_first : (o : Outcome) (x : Refusal) → o ≡ Outcome.Refused x
-      → outcome_number o ≡ info_refusal info n → outcome_number o ≡ reassemble_refusal info n room
+  pub reassemble_first : (x : Refusal) → number_of x ≡ info_refusal info n → number_of x ≡ reassemble_refusal info n room
   unfolding reassemble_refusal
-  reassemble_first o x q e = e ∙ sym (refused-first (info_refusal info n) _ (rw (← e, q) (number-positive x)))
+  reassemble_first x e = e ∙ sym (refused-first (info_refusal info n) _ (rw (← e) (number-positive x)))
 
   -- 3: too few literal bits
   pub reassemble_short : info_refusal info n ≡ 0 → 8 * room < n * info.sent_bits
@@ -67,12 +65,11 @@ reassemble_length info bits xs = length-map (appended info.sent_bits bits xs)
     (reinsert (setting_of info)) ∙ appended-length info.sent_bits bits xs
 
 module _ (info : Int32Info) (samples : List ℤ) (literal : List ℕ) where
-  pub reassemble_refused : (o : Outcome) (x : Refusal) → o ≡ Outcome.Refused x
-      → outcome_number o ≡ reassemble_refusal info (length samples) (length literal)
-      → refuse_reassemble samples (outcome_number o) ≡ reassemble_entry info samples literal
+  pub reassemble_refused : (x : Refusal) → number_of x ≡ reassemble_refusal info (length samples) (length literal)
+      → refuse_reassemble samples (number_of x) ≡ reassemble_entry info samples literal
   unfolding reassemble_entry
-  reassemble_refused o x q e = ap (refuse_reassemble samples) e
-      ∙ sym (guard_refused _ (refuse_reassemble samples) _ (rw (← e, q) (number-positive x)))
+  reassemble_refused x e = ap (refuse_reassemble samples) e
+      ∙ sym (guard_refused _ (refuse_reassemble samples) _ (rw (← e) (number-positive x)))
 
   pub reassemble_accepted : reassemble_refusal info (length samples) (length literal) ≡ 0
       → reassemble_entry info samples literal

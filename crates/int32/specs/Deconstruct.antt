@@ -1,15 +1,16 @@
 -- Document 02 §6: what the way back answers, and what samples and literal storage then hold.
 -- Assumes nothing.
 use Rattle.std.specs.Prelude.{Bool, true, cond, ◌&&◌, List, [], ◌∷◌, ◌++◌, map, ℕ, ◌*◌, ltb, ℤ, length}
+use Rattle.std.specs.Prelude.{Result, Ok, Err}
 use Rattle.answers.specs.Guard.{or_else, unless_refused}
-use Rattle.answers.specs.Numbers.{outcome_number}
+use Rattle.answers.specs.Numbers.{number_of}
+use Rattle.answers.specs.declared.Refusal.{Refusal}
 use Rattle.overlay.specs.Overlay.{overlay}
 use Rattle.bits.specs.Bits.{low}
 use Rattle.bits.specs.Laid.{bytes_holding}
 use Rattle.int32_sample.specs.Sample.{low_bits, above}
 use Rattle.int32_sample.specs.Setting.{Setting, width, reinsertable}
 use Rattle.int32.specs.declared.Int32Info.{Int32Info}
-use Rattle.int32.specs.declared.Int32Answer.{Int32Answer}
 use Rattle.int32.specs.Info.{info_refusal, setting_of}
 
 -- every sample may have been made by the setting (Q6.4)
@@ -33,10 +34,12 @@ pub record DeconstructTold : Type 0 where
   pub samples : List ℤ
   pub literal : List ℕ
 
--- the answer that the entry's struct holds, with both lists as they are left
-abbrev pub view_deconstruct : Int32Answer → List ℤ → List ℕ → DeconstructTold
-view_deconstruct r samples literal =
-    record { refusal = outcome_number r.outcome; bits = r.bits; samples = samples; literal = literal }
+-- what the entry's answer tells, with both lists as they are left; a refusal tells of no bit written
+abbrev pub view_deconstruct : Result ℕ Refusal → List ℤ → List ℕ → DeconstructTold
+view_deconstruct (Ok bits) samples literal =
+    record { refusal = 0; bits = bits; samples = samples; literal = literal }
+view_deconstruct (Err refusal) samples literal =
+    record { refusal = number_of refusal; bits = 0; samples = samples; literal = literal }
 
 -- 15 and 5, "a short lent buffer 11": under 4 bytes a sample; "16, no sample reinserts to this value,
 -- after 11" (Q6.6)

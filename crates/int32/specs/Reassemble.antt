@@ -1,14 +1,15 @@
 -- Document 02 §6: what reassembly answers, and what the samples then are.
 -- Assumes nothing.
 use Rattle.std.specs.Prelude.{Bool, cond, List, [], ◌∷◌, map, ℕ, ◌*◌, ◌≤◌, ltb, ℤ, length, take, drop}
+use Rattle.std.specs.Prelude.{Result, Ok, Err}
 use Rattle.answers.specs.Guard.{or_else, unless_refused}
 use Rattle.answers.specs.Limits.{max_elements}
-use Rattle.answers.specs.Numbers.{outcome_number}
+use Rattle.answers.specs.Numbers.{number_of}
+use Rattle.answers.specs.declared.Refusal.{Refusal}
 use Rattle.bits.specs.Bits.{num, bits_of}
 use Rattle.int32_sample.specs.Sample.{below}
 use Rattle.int32_sample.specs.Setting.{reinsert}
 use Rattle.int32.specs.declared.Int32Info.{Int32Info}
-use Rattle.int32.specs.declared.Int32Answer.{Int32Answer}
 use Rattle.int32.specs.Info.{Fields, info_refusal, setting_of}
 
 -- "each sample first takes sent_bits literal bits below it from a second bit stream" (Q6.1)
@@ -26,9 +27,10 @@ pub record ReassembleTold : Type 0 where
   pub bits : ℕ
   pub samples : List ℤ
 
--- the answer that the entry's struct holds, with the samples as they are left
-abbrev pub view_reassemble : Int32Answer → List ℤ → ReassembleTold
-view_reassemble r samples = record { refusal = outcome_number r.outcome; bits = r.bits; samples = samples }
+-- what the entry's answer tells, with the samples as they are left; a refusal tells of no bit read
+abbrev pub view_reassemble : Result ℕ Refusal → List ℤ → ReassembleTold
+view_reassemble (Ok bits) samples = record { refusal = 0; bits = bits; samples = samples }
+view_reassemble (Err refusal) samples = record { refusal = number_of refusal; bits = 0; samples = samples }
 
 -- 15 and 5, "then short literal bits 3": fewer than samples times sent_bits (Q6.6)
 unfoldable pub reassemble_refusal : Int32Info → ℕ → ℕ → ℕ

@@ -1,6 +1,6 @@
 // Document 02 §6, after int32.rs: recordings of samples wider than the words. Each sample is completed
 // by literal bits of a second bit stream and by redundant bits, and the way back takes both out. Here
-// are the fields that say how, what both entries answer, and the tests that they share.
+// are the fields that say how, and the tests that both entries share.
 
 #![tactic(auto)]
 
@@ -8,8 +8,8 @@ ghost use Rattle.std.specs.Prelude.{◌≡◌};
 ghost use Rattle.answers.specs.Numbers.{outcome_number};
 ghost use Rattle.int32.specs.Info.{info_refusal};
 
+use answers::Refusal;
 use answers::limits::MAX_ELEMENTS;
-use answers::{Outcome, Refusal};
 
 // The largest number that a field may hold.
 const MAX_BITS: u32 = 31;
@@ -24,31 +24,24 @@ pub struct Int32Info {
     pub dups: u32,
 }
 
-// What both entries answer: the literal bits read or written, 0 on refusal.
-#[derive(Clone, Copy)]
-pub struct Int32Answer {
-    pub outcome: Outcome,
-    pub bits: u32,
-}
-
 // Answers 15 for a field above 31, then 5 for over 262,144 samples.
-pub fn info_refusal(info: Int32Info, samples: usize) -> Outcome
+pub fn info_refusal(info: Int32Info, samples: usize) -> Result<(), Refusal>
     ensures { outcome_number result ≡ info_refusal info samples }
 {
     if info.sent_bits > MAX_BITS {
-        return Outcome::Refused(Refusal::FieldAbove31);
+        return Err(Refusal::FieldAbove31);
     }
     if info.zeros > MAX_BITS {
-        return Outcome::Refused(Refusal::FieldAbove31);
+        return Err(Refusal::FieldAbove31);
     }
     if info.ones > MAX_BITS {
-        return Outcome::Refused(Refusal::FieldAbove31);
+        return Err(Refusal::FieldAbove31);
     }
     if info.dups > MAX_BITS {
-        return Outcome::Refused(Refusal::FieldAbove31);
+        return Err(Refusal::FieldAbove31);
     }
     if samples > MAX_ELEMENTS {
-        return Outcome::Refused(Refusal::TooLarge);
+        return Err(Refusal::TooLarge);
     }
-    Outcome::Accepted
+    Ok(())
 }

@@ -8,27 +8,24 @@ ghost use Rattle.answers.specs.Numbers.{outcome_number};
 ghost use Rattle.int32_sample.specs.Sample.{above};
 ghost use Rattle.int32.specs.Deconstruct.{deconstruct_refusal, view_deconstruct, deconstruct_entry};
 
-use answers::{Outcome, Refusal};
-use int32::{Int32Answer, Int32Info, info_refusal};
+use answers::Refusal;
+use int32::{Int32Info, info_refusal};
 use int32_images::is_reinsertable;
 use int32_laying::lay_literals;
 use int32_sample::{redundancy_of, shifted};
 
 // Answers why the way back refuses, by 15, 5, 11 and 16, for so many literal bytes.
-pub fn deconstruct_refusal(info: Int32Info, samples: &[i32], room: usize) -> Outcome
+pub fn deconstruct_refusal(info: Int32Info, samples: &[i32], room: usize) -> Result<(), Refusal>
     ensures { outcome_number result ≡ deconstruct_refusal info samples.now room }
 {
-    let outcome = info_refusal(info, samples.len());
-    let Outcome::Accepted = outcome else {
-        return outcome;
-    };
+    info_refusal(info, samples.len())?;
     if room < 4 * samples.len() {
-        return Outcome::Refused(Refusal::OutputTooShort);
+        return Err(Refusal::OutputTooShort);
     }
     if !is_reinsertable(samples, info.zeros, info.ones, info.dups) {
-        return Outcome::Refused(Refusal::NotReinsertable);
+        return Err(Refusal::NotReinsertable);
     }
-    Outcome::Accepted
+    Ok(())
 }
 
 // Shifts each sample right, past its redundant bits and then past its literal ones.
@@ -48,22 +45,17 @@ fn shorten(samples: &mut [i32], shift: u32, count: u32)
 // Takes the redundant bits out of each sample, and its literal bits into storage of 4 bytes a
 // sample, from the first bit on; answers how many literal bits were written. Refuses with 15, 5, 11
 // and 16; samples and storage then stay as they were.
-pub fn deconstruct_int32(info: Int32Info, samples: &mut [i32], literal: &mut [u8]) -> Int32Answer
+pub fn deconstruct_int32(
+    info: Int32Info,
+    samples: &mut [i32],
+    literal: &mut [u8],
+) -> Result<u32, Refusal>
     ensures { view_deconstruct result samples.new literal.new
         ≡ deconstruct_entry info samples.old literal.old }
 {
-    let outcome = deconstruct_refusal(info, samples, literal.len());
-    let Outcome::Accepted = outcome else {
-        return Int32Answer {
-            outcome: outcome,
-            bits: 0,
-        };
-    };
+    deconstruct_refusal(info, samples, literal.len())?;
     let put = redundancy_of(info.zeros, info.ones, info.dups);
     lay_literals(samples, put.count, info.sent_bits, literal);
     shorten(samples, put.count, info.sent_bits);
-    Int32Answer {
-        outcome: Outcome::Accepted,
-        bits: samples.len() as u32 * info.sent_bits,
-    }
+    Ok(samples.len() as u32 * info.sent_bits)
 }

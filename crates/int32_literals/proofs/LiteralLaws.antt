@@ -15,8 +15,7 @@ use mir.Syntax.{w32}
 use mir.Val.{Fits}
 use Rattle.bits.specs.Bits.{num, bits_of}
 use Rattle.bits.specs.Fields.{get_bits}
-use Rattle.bits.specs.declared.Field.{Field}
-use Rattle.bits.specs.declared.Field.TheVariants.{Value, Truncated}
+use Rattle.std.specs.Prelude.{Option, Some, None}
 use Rattle.bits.proofs.BitLaws.{length-bits}
 use Rattle.bits.proofs.ReadLaws.{bits-yes}
 use Rattle.bits.proofs.Window.{tail-window, window-bits}
@@ -29,9 +28,9 @@ none : num [] ≡ 0
 unfolding num
 none = refl
 
-abbrev value_of : Field → ℕ
-value_of (Value v q) = v
-value_of Truncated = 0
+abbrev value_of : Option (ℕ × ℕ) → ℕ
+value_of (Some (v, q)) = v
+value_of None = 0
 
 -- a few bits of any number are a number of 32 bits
 pub cut_fits : (x k : ℕ) → k ≤ 31 → Fits w32 (x % 2 ^ k)
@@ -46,7 +45,7 @@ literal-bits s at (suc k) w h l e =
     let bits = bits_of s in
     let j = 8 * min 8 (length s - at / 8) - at % 8 in
     let v = tail-window s at w (omega arith) e in
-    let g : get_bits bits at (suc k) ≡ Value (w / 2 ^ (at % 8) % 2 ^ suc k) (at + suc k) =
+    let g : get_bits bits at (suc k) ≡ Some (w / 2 ^ (at % 8) % 2 ^ suc k, at + suc k) =
     window-bits bits at j (w / 2 ^ (at % 8)) (suc k) v (omega arith) in
     sym (ap value_of g) ∙ ap value_of
     (bits-yes bits at (suc k) (omega (arith, length-drop at bits, length-bits s)))

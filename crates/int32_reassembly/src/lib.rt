@@ -10,24 +10,21 @@ ghost use Rattle.bits.specs.Bits.{bits_of};
 ghost use Rattle.int32.specs.Reassemble.{Readable, reassembled};
 ghost use Rattle.int32.specs.Reassemble.{reassemble_refusal, view_reassemble, reassemble_entry};
 
-use answers::{Outcome, Refusal};
-use int32::{Int32Answer, Int32Info, info_refusal};
+use answers::Refusal;
+use int32::{Int32Info, info_refusal};
 use int32_literals::append_literals;
 use int32_redundancy::reinsert_redundancy;
 use int32_sample::redundancy_of;
 
 // Answers why reassembly refuses, by 15, 5 and 3, for so many samples and literal bytes.
-pub fn reassemble_refusal(info: Int32Info, samples: usize, room: usize) -> Outcome
+pub fn reassemble_refusal(info: Int32Info, samples: usize, room: usize) -> Result<(), Refusal>
     ensures { outcome_number result ≡ reassemble_refusal info samples room }
 {
-    let outcome = info_refusal(info, samples);
-    let Outcome::Accepted = outcome else {
-        return outcome;
-    };
+    info_refusal(info, samples)?;
     if room < (samples * info.sent_bits as usize + 7) / 8 {
-        return Outcome::Refused(Refusal::Truncated);
+        return Err(Refusal::Truncated);
     }
-    Outcome::Accepted
+    Ok(())
 }
 
 // Both, where there are any.
@@ -50,20 +47,15 @@ fn put_in(info: Int32Info, samples: &mut [i32], literal: &[u8])
 
 // Completes each sample by literal bits, from the first one on, and by redundant bits; answers how
 // many literal bits were read. Refuses with 15, 5 and 3; the samples then stay as they were.
-pub fn reassemble_int32(info: Int32Info, samples: &mut [i32], literal: &[u8]) -> Int32Answer
+pub fn reassemble_int32(
+    info: Int32Info,
+    samples: &mut [i32],
+    literal: &[u8],
+) -> Result<u32, Refusal>
     ensures { view_reassemble result samples.new
         ≡ reassemble_entry info samples.old literal.now }
 {
-    let outcome = reassemble_refusal(info, samples.len(), literal.len());
-    let Outcome::Accepted = outcome else {
-        return Int32Answer {
-            outcome: outcome,
-            bits: 0,
-        };
-    };
+    reassemble_refusal(info, samples.len(), literal.len())?;
     put_in(info, samples, literal);
-    Int32Answer {
-        outcome: Outcome::Accepted,
-        bits: samples.len() as u32 * info.sent_bits,
-    }
+    Ok(samples.len() as u32 * info.sent_bits)
 }

@@ -5,7 +5,7 @@ use mathlib.Core.Path.{◌≡◌, sym, ap, ◌∙◌}
 use mathlib.Core.List.{map}
 use native.Mathlib.Omega.{arith}
 use lib.ListN.{length, length-map}
-use Rattle.answers.specs.Numbers.{outcome_number}
+use Rattle.std.proofs.lemmas.Result.{err_from_is_err_and}
 use Rattle.int32_sample.specs.declared.Redundancy.{Redundancy}
 use Rattle.int32_sample.specs.Sample.{above}
 use Rattle.int32_sample.specs.Setting.{width}
@@ -15,28 +15,29 @@ use Rattle.int32.proofs.InfoLaws.{info_width, few_bits}
 use Rattle.int32.proofs.DeconstructLaws.{divisible, deconstruct_refused, deconstruct_told}
 use Rattle.int32_deconstruction.proofs.deconstruct_int32.Goals as goal
 
-pub returns-in_default : goal.returns-in_default
-returns-in_default c =
-    deconstruct_refused _ _ _ _ _ c.in_default.is c.deconstruct_refusal-outcome.ensures
+pub returns-in_err-deconstruct_refusal : goal.returns-in_err-deconstruct_refusal
+returns-in_err-deconstruct_refusal c =
+    let p = err_from_is_err_and c.from_residual.result c.from_residual.ensures.1 in
+    rw (p.1, p.2) (deconstruct_refused _ _ _ _ c.in_err-deconstruct_refusal.ensures)
 
 pub redundancy_of-put-requires : goal.redundancy_of-put-requires
 redundancy_of-put-requires c =
     let none : deconstruct_refusal c.args.info c.args.samples.now (length c.args.literal.now) ≡ 0 =
-    sym c.deconstruct_refusal-outcome.ensures ∙ ap outcome_number c.in-Accepted.is in
+    sym c.in_ok-deconstruct_refusal.ensures in
     let ready = divisible _ _ _ none in
     let f = ready.fields in (f.zeros, f.ones, f.dups)
 
 pub lay_literals-requires-clause-room : goal.lay_literals-requires-clause-room
 lay_literals-requires-clause-room c =
     let none : deconstruct_refusal c.args.info c.args.samples.now (length c.args.literal.now) ≡ 0 =
-    sym c.deconstruct_refusal-outcome.ensures ∙ ap outcome_number c.in-Accepted.is in
+    sym c.in_ok-deconstruct_refusal.ensures in
     let ready = divisible _ _ _ none in
     (ready.enough, ready.few)
 
 pub lay_literals-requires-clause-widths : goal.lay_literals-requires-clause-widths
 lay_literals-requires-clause-widths c =
     let none : deconstruct_refusal c.args.info c.args.samples.now (length c.args.literal.now) ≡ 0 =
-    sym c.deconstruct_refusal-outcome.ensures ∙ ap outcome_number c.in-Accepted.is in
+    sym c.in_ok-deconstruct_refusal.ensures in
     let ready = divisible _ _ _ none in
     let count : c.redundancy_of-put.result.count ≡ width (setting_of c.args.info) =
     ap (λ (r : Redundancy). r.count) c.redundancy_of-put.ensures in
@@ -45,7 +46,7 @@ lay_literals-requires-clause-widths c =
 pub shorten-requires : goal.shorten-requires
 shorten-requires c =
     let none : deconstruct_refusal c.args.info c.args.samples.now (length c.args.literal.now) ≡ 0 =
-    sym c.deconstruct_refusal-outcome.ensures ∙ ap outcome_number c.in-Accepted.is in
+    sym c.in_ok-deconstruct_refusal.ensures in
     let ready = divisible _ _ _ none in
     let count : c.redundancy_of-put.result.count ≡ width (setting_of c.args.info) =
     ap (λ (r : Redundancy). r.count) c.redundancy_of-put.ensures in
@@ -54,7 +55,7 @@ shorten-requires c =
 pub overflow_cast-result : goal.overflow_cast-result
 overflow_cast-result c =
     let none : deconstruct_refusal c.args.info c.args.samples.now (length c.args.literal.now) ≡ 0 =
-    sym c.deconstruct_refusal-outcome.ensures ∙ ap outcome_number c.in-Accepted.is in
+    sym c.in_ok-deconstruct_refusal.ensures in
     let ready = divisible _ _ _ none in
     -- the samples are as many as before
     let as_many : length c.shorten.new.samples ≡ length c.args.samples.now =
@@ -66,7 +67,7 @@ overflow_cast-result c =
 pub overflow_mul-result : goal.overflow_mul-result
 overflow_mul-result c =
     let none : deconstruct_refusal c.args.info c.args.samples.now (length c.args.literal.now) ≡ 0 =
-    sym c.deconstruct_refusal-outcome.ensures ∙ ap outcome_number c.in-Accepted.is in
+    sym c.in_ok-deconstruct_refusal.ensures in
     let ready = divisible _ _ _ none in
     -- the samples are as many as before
     let as_many : length c.shorten.new.samples ≡ length c.args.samples.now =
@@ -78,7 +79,7 @@ overflow_mul-result c =
 pub returns : goal.returns
 returns c =
     let none : deconstruct_refusal c.args.info c.args.samples.now (length c.args.literal.now) ≡ 0 =
-    sym c.deconstruct_refusal-outcome.ensures ∙ ap outcome_number c.in-Accepted.is in
+    sym c.in_ok-deconstruct_refusal.ensures in
     let count : c.redundancy_of-put.result.count ≡ width (setting_of c.args.info) =
     ap (λ (r : Redundancy). r.count) c.redundancy_of-put.ensures in
     -- the samples are as many as before
