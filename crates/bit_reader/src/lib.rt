@@ -8,7 +8,7 @@
 ghost use Rattle.std.specs.Prelude.{◌≡◌};
 ghost use Rattle.bits.specs.Checked.{told, bits_read_at, unary_read};
 
-use bits::BitAnswer;
+use answers::Refusal;
 use checked_bits::{checked_get_bits, checked_get_unary};
 
 // The payload, and how many of its bits lie before the next one.
@@ -37,14 +37,14 @@ impl<'a> BitReader<'a> {
     }
 
     // The number of the next `count` bits; the Rust's `get_bit` is that of one bit.
-    pub fn get_bits(self, count: u32) -> BitAnswer
+    pub fn get_bits(self, count: u32) -> Result<(u32, usize), Refusal>
         ensures { told result ≡ bits_read_at self.entry.payload.now self.entry.place count }
     {
         checked_get_bits(self.payload, self.place, count)
     }
 
     // The ones up to the next zero.
-    pub fn get_unary(self) -> BitAnswer
+    pub fn get_unary(self) -> Result<(u32, usize), Refusal>
         ensures { told result ≡ unary_read self.entry.payload.now self.entry.place }
     {
         checked_get_unary(self.payload, self.place)
@@ -52,7 +52,7 @@ impl<'a> BitReader<'a> {
 }
 
 // The number of `count` bits at a place of a payload, through a reader: for callers that hold none.
-pub fn field_at(payload: &[u8], place: usize, count: u32) -> BitAnswer
+pub fn field_at(payload: &[u8], place: usize, count: u32) -> Result<(u32, usize), Refusal>
     ensures { told result ≡ bits_read_at payload.now place count }
 {
     BitReader::new(payload).moved_to(place).get_bits(count)
