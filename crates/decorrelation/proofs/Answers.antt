@@ -2,23 +2,24 @@
 use mathlib.Core.Path.{◌≡◌, refl, sym, ap, ◌∙◌}
 use mathlib.Core.Bool.{Bool, true, false, cond}
 use mathlib.Core.List.{List}
-use Prim.Native.Nat.{ℕ, zero, suc, ◌<◌}
+use Prim.Native.Nat.{ℕ, zero, suc, ◌<◌, ◌≤◌}
 use native.Mathlib.Omega.{arith}
-use borrow.Author.Tests.{lt-ltb}
+use borrow.Author.Tests.{lt-ltb, ltb-false}
 use lib.Dec.{ltb}
 use lib.IntN.{ℤ}
 use lib.ListN.{length, take, drop}
 use Rattle.answers.specs.Guard.{unless_refused}
 use Rattle.answers.specs.Limits.{max_elements, max_passes}
-use Rattle.answers.specs.Numbers.{outcome_number}
-use Rattle.answers.specs.declared.Outcome.{Outcome}
+use Rattle.answers.specs.Numbers.{number_of, outcome_number}
+use Rattle.answers.specs.declared.Refusal.{Refusal}
+use Rattle.std.specs.Prelude.{Result, Ok, Err}
 use Rattle.answers.proofs.NumberLaws.{number-positive}
 use Rattle.answers.proofs.GuardLaws.{guard_refused}
 use Rattle.passes.specs.Run.{Chain}
 use Rattle.passes.specs.declared.DecorrPass.{DecorrPass}
 use Rattle.passes.specs.declared.Direction.{Direction}
 use Rattle.passes.specs.declared.Direction.TheVariants.{Decorrelation, Analysis}
-use Rattle.list_tests.specs.Tests.{all_valid, list_number, accepted_by}
+use Rattle.list_tests.specs.Tests.{all_valid, list_number}
 use Rattle.list_runs.specs.Chained.{chained}
 use Rattle.decorrelation.specs.Lists.{number_by, done, refuse_list, listed, followed, array_answer}
 
@@ -32,39 +33,30 @@ pub refusal-told : (n : ℕ) (c : Chain) (ps : List DecorrPass) (l : List ℤ) �
 refusal-told zero c ps l = refl
 refusal-told (suc n) c ps l = refl
 
-refused-positive : (r : Outcome) → accepted_by r ≡ false → 0 < outcome_number r
-refused-positive Outcome.Accepted a = absurd (let z : ◌≡◌ {A = ℕ} 0 1 = cc in omega arith)
-refused-positive (Outcome.Refused x) a = number-positive x
+-- an answer that refuses tells what it was given
+told-kept : (r : Result Unit Refusal) (q : Refusal) (n : ℕ) (ps : List DecorrPass) (l : List ℤ) (c : Chain) → outcome_number r ≡ n → r ≡ Err q
+    → record { refusal = number_of q; passes = ps; buffer = l } ≡ unless_refused n (refuse_list ps l) (done c)
+told-kept r q n ps l c e f = rw (← e, f) (sym (guard_refused (number_of q) (refuse_list ps l) (done c) (number-positive q)))
 
-accepted-zero : (r : Outcome) → accepted_by r ≡ true → outcome_number r ≡ 0
-accepted-zero Outcome.Accepted a = refl
-accepted-zero (Outcome.Refused x) a = cc
+-- one that accepts tells what the run left
+told-done : (r : Result Unit Refusal) (n : ℕ) (ps : List DecorrPass) (l : List ℤ) (c : Chain) {zs : List DecorrPass} {cs : List ℤ} → outcome_number r ≡ n → r ≡ Ok tt
+    → record { passes = zs; buffer = cs } ≡ c → record { refusal = 0; passes = zs; buffer = cs } ≡ unless_refused n (refuse_list ps l) (done c)
+told-done r n ps l c e f g = rw (← e, f) (ap done g)
 
-module _ (ps : List DecorrPass) (l : List ℤ) (r : Outcome) (n : ℕ) (e : outcome_number r ≡ n) (c : Chain) where
-  -- an accepted list answers what its run left
-  told-done : {zs : List DecorrPass} {cs : List ℤ} → accepted_by r ≡ true → record { passes = zs; buffer = cs } ≡ c
-      → record { refusal = outcome_number r; passes = zs; buffer = cs } ≡ unless_refused n (refuse_list ps l) (done c)
-  told-done a f = let z : outcome_number r ≡ 0 = accepted-zero r a in rw (← e, z) (ap done f)
+module _ (dir : Direction) (ps : List DecorrPass) (l : List ℤ) (r : Result Unit Refusal) (e : outcome_number r ≡ list_number (all_valid ps) (length ps) (length l)) where
+  by_direction : outcome_number r ≡ number_by dir (all_valid ps) (length ps) (length l)
+  by_direction = e ∙ sym (number_by_lem dir (all_valid ps) (length ps) (length l))
 
-  -- a refused list answers what it was given
-  told-kept : accepted_by r ≡ false → record { refusal = outcome_number r; passes = ps; buffer = l } ≡ unless_refused n (refuse_list ps l) (done c)
-  told-kept a = rw (← e) (sym (guard_refused (outcome_number r) (refuse_list ps l) (done c) (refused-positive r a)))
-
-module _ (dir : Direction) (ps : List DecorrPass) (l : List ℤ) where
-  number_of : (r : Outcome) → outcome_number r ≡ list_number (all_valid ps) (length ps) (length l) → outcome_number r ≡ number_by dir (all_valid ps) (length ps) (length l)
-  number_of r e = e ∙ sym (number_by_lem dir (all_valid ps) (length ps) (length l))
-
-  -- an accepted list
-  pub answer-accepted : (r : Outcome) (zs : List DecorrPass) (cs : List ℤ) → outcome_number r ≡ list_number (all_valid ps) (length ps) (length l) → accepted_by r ≡ true
-      → record { passes = zs; buffer = cs } ≡ chained dir ps l → record { refusal = outcome_number r; passes = zs; buffer = cs } ≡ listed dir ps l
+  -- a list that is refused
+  pub list-refused : (q : Refusal) → r ≡ Err q → record { refusal = number_of q; passes = ps; buffer = l } ≡ listed dir ps l
   unfolding listed
-  answer-accepted r zs cs e a c = told-done ps l r _ (number_of r e) (chained dir ps l) a c
+  list-refused q f = told-kept r q _ ps l (chained dir ps l) by_direction f
 
-  -- a refused list
-  pub answer-refused : (r : Outcome) → outcome_number r ≡ list_number (all_valid ps) (length ps) (length l) → accepted_by r ≡ false
-      → record { refusal = outcome_number r; passes = ps; buffer = l } ≡ listed dir ps l
+  -- a list that is run
+  pub list-accepted : {zs : List DecorrPass} {cs : List ℤ} → r ≡ Ok tt → record { passes = zs; buffer = cs } ≡ chained dir ps l
+      → record { refusal = 0; passes = zs; buffer = cs } ≡ listed dir ps l
   unfolding listed
-  answer-refused r e a = told-kept ps l r _ (number_of r e) (chained dir ps l) a
+  list-accepted f g = told-done r _ ps l (chained dir ps l) by_direction f g
 
 -- ---- the first n passes of an array
 
@@ -82,23 +74,26 @@ pub many-positive : (n m : ℕ) → max_passes < n → 0 < list_number true n m
 unfolding list_number
 many-positive n m h = rw (lt-ltb max_passes n h) (positive (ltb max_elements m))
 
-not-accepted : (n m : ℕ) (r : Outcome) → outcome_number r ≡ list_number true n m → max_passes < n → accepted_by r ≡ false
-not-accepted n m (Outcome.Refused x) e h = refl
-not-accepted n m Outcome.Accepted e h = absurd (omega (arith, e, many-positive n m h))
+module _ (dir : Direction) (ps : List DecorrPass) (n : ℕ) (l : List ℤ) (r : Result Unit Refusal) (e : outcome_number r ≡ list_number (all_valid (take n ps)) n (length l)) where
+  array_by : outcome_number r ≡ number_by dir (all_valid (take n ps)) n (length l)
+  array_by = e ∙ sym (number_by_lem dir (all_valid (take n ps)) n (length l))
 
-module _ (dir : Direction) (ps : List DecorrPass) (n : ℕ) (l : List ℤ) (r : Outcome) where
   -- a list that is refused
-  pub array_refused : {v : Bool} → v ≡ all_valid (take n ps) → outcome_number r ≡ list_number v n (length l) → accepted_by r ≡ false
-      → record { refusal = outcome_number r; passes = ps; buffer = l } ≡ array_answer dir ps n l
+  pub array_refused : (q : Refusal) → r ≡ Err q → record { refusal = number_of q; passes = ps; buffer = l } ≡ array_answer dir ps n l
   unfolding array_answer
-  array_refused ev e a = told-kept ps l r _ ((rw ev at e) ∙ sym (number_by_lem dir _ n (length l))) (followed (drop n ps) (chained dir (take n ps) l)) a
+  array_refused q f = told-kept r q _ ps l (followed (drop n ps) (chained dir (take n ps) l)) array_by f
 
-  -- more than the array has
-  pub array_many : outcome_number r ≡ list_number true n (length l) → max_passes < n → record { refusal = outcome_number r; passes = ps; buffer = l } ≡ array_answer dir ps n l
-  array_many e h = array_refused refl (e ∙ many-number (all_valid (take n ps)) n (length l) h) (not-accepted n (length l) r e h)
+  -- a list that is accepted: no more than the array has
+  pub array_few : r ≡ Ok tt → n ≤ max_passes
+  unfolding list_number
+  array_few f = few (ltb max_elements (length l)) (all_valid (take n ps)) (ltb max_passes n) refl (sym e ∙ ap outcome_number f)
+    where
+      few : (s v b : Bool) → ltb max_passes n ≡ b → ◌≡◌ {A = ℕ} (cond s 5 (cond b 9 (cond v 0 7))) 0 → n ≤ max_passes
+      few s v false q z = ltb-false max_passes n q
+      few true v true q z = absurd (omega arith)
+      few false v true q z = absurd (omega arith)
 
-  -- a list that is accepted
-  pub array_accepted : {v : Bool} {zs : List DecorrPass} {cs : List ℤ} → v ≡ all_valid (take n ps) → outcome_number r ≡ list_number v n (length l) → accepted_by r ≡ true
-      → record { passes = zs; buffer = cs } ≡ followed (drop n ps) (chained dir (take n ps) l) → record { refusal = outcome_number r; passes = zs; buffer = cs } ≡ array_answer dir ps n l
+  pub array_accepted : {zs : List DecorrPass} {cs : List ℤ} → r ≡ Ok tt → record { passes = zs; buffer = cs } ≡ followed (drop n ps) (chained dir (take n ps) l)
+      → record { refusal = 0; passes = zs; buffer = cs } ≡ array_answer dir ps n l
   unfolding array_answer
-  array_accepted ev e a c = told-done ps l r _ ((rw ev at e) ∙ sym (number_by_lem dir _ n (length l))) (followed (drop n ps) (chained dir (take n ps) l)) a c
+  array_accepted f g = told-done r _ ps l (followed (drop n ps) (chained dir (take n ps) l)) array_by f g

@@ -6,7 +6,5 @@
 mod arrays;
 mod lists;
 
-pub use crate::arrays::{
-    ListAnswer, analysis_refusal, array_answer, decorrelate_array, recorrelate_array,
-};
+pub use crate::arrays::{analysis_refusal, array_answer, decorrelate_array, recorrelate_array};
 pub use crate::lists::{decorrelate_stereo, recorrelate_stereo};

@@ -1,20 +1,19 @@
-use Rattle.std.proofs.Common.{sym, ◌∙◌}
-use Rattle.decorrelation.proofs.Answers.{array_many, array_refused, array_accepted}
+use Rattle.std.proofs.lemmas.Result.{err_from_is_err_and}
+use Rattle.decorrelation.proofs.Answers.{array_refused, array_few, array_accepted}
 use Rattle.decorrelation.proofs.arrays.array_answer.Goals as goal
 
-pub returns-then-count-gt-MAX_PASSES : goal.returns-then-count-gt-MAX_PASSES
-returns-then-count-gt-MAX_PASSES c =
+pub returns-in_err-analysis_refusal : goal.returns-in_err-analysis_refusal
+returns-in_err-analysis_refusal c =
     let a = c.args in
-    array_many a.direction a.passes a.count a.buffer.now _ c.list_outcome.ensures c.if-count-gt-MAX_PASSES.true
+    let p = err_from_is_err_and c.from_residual.result c.from_residual.ensures.1 in
+    rw (p.1, p.2) (array_refused a.direction a.passes a.count a.buffer.now _ c.analysis_refusal.ensures _ c.in_err-analysis_refusal.was)
 
-pub returns-then-is_accepted : goal.returns-then-is_accepted
-returns-then-is_accepted c =
+pub run_array-requires : goal.run_array-requires
+run_array-requires c =
     let a = c.args in
-    array_accepted a.direction a.passes a.count a.buffer.now _ c.array_valid.ensures
-    c.list_outcome-outcome.ensures (sym c.is_accepted.ensures ∙ c.if-is_accepted.true) c.run_array.ensures
+    array_few a.direction a.passes a.count a.buffer.now _ c.analysis_refusal.ensures c.in_ok-analysis_refusal.was
 
 pub returns : goal.returns
 returns c =
     let a = c.args in
-    array_refused a.direction a.passes a.count a.buffer.now _ c.array_valid.ensures
-    c.list_outcome-outcome.ensures (sym c.is_accepted.ensures ∙ c.if-is_accepted.false)
+    array_accepted a.direction a.passes a.count a.buffer.now _ c.analysis_refusal.ensures c.in_ok-analysis_refusal.was c.run_array.ensures
