@@ -11,15 +11,12 @@ mod payloads;
 mod plain;
 
 use checked_bits::checked_get_unary;
-use plain::{count_bit_by_bit, same};
+use plain::count_bit_by_bit;
 use std::io;
 
 // Whether both counts of a payload from a place on are the same.
 fn agrees(payload: &[u8], at: usize) -> bool {
-    same(
-        checked_get_unary(payload, at),
-        count_bit_by_bit(payload, at),
-    )
+    checked_get_unary(payload, at) == count_bit_by_bit(payload, at)
 }
 
 // The end of a line.
@@ -36,14 +33,12 @@ fn run_length(rt: &impl Print, length: usize) -> io::Result<()>
     let places = 8 * length + 1;
     let made = 4 * places * (places + 9);
     let mut agreed = 0usize;
-    let mut i = 0usize;
-    while i < made {
+    for i in 0..made {
         let at = i / 4 / places;
         let bytes = payloads::with_a_zero(i % 4, i / 4 % places, at);
         if agrees(&bytes[..length], at) {
             agreed += 1;
         }
-        i += 1;
     }
     print!(rt; "length {length}")?;
     print_tally(rt, made, agreed)

@@ -1,48 +1,16 @@
 // Counting bit by bit, by nothing but the bits of each byte.
+use answers::Refusal;
 use answers::limits::MAX_PAYLOAD_BYTES;
-use bits::BitAnswer;
 
 // The ones at `at` up to a zero; 3 where no zero follows, 5 for a payload over the limit.
-pub fn count_bit_by_bit(s: &[u8], at: usize) -> BitAnswer {
+pub fn count_bit_by_bit(s: &[u8], at: usize) -> Result<(u32, usize), Refusal> {
     if s.len() > MAX_PAYLOAD_BYTES {
-        return BitAnswer::TooLarge;
+        return Err(Refusal::TooLarge);
     }
-    let mut p = at;
-    while p / 8 < s.len() {
+    for p in at..8 * s.len() {
         if (s[p / 8] >> (p % 8)) % 2 == 0 {
-            return BitAnswer::Value((p - at) as u32, p + 1);
+            return Ok(((p - at) as u32, p + 1));
         }
-        p += 1;
     }
-    BitAnswer::Truncated
-}
-
-// Whether two answers are the same, count and next place too.
-pub fn same(a: BitAnswer, b: BitAnswer) -> bool {
-    match a {
-        BitAnswer::Value(count, next) => is_value(b, count, next),
-        BitAnswer::Truncated => is_truncated(b),
-        BitAnswer::TooLarge => is_too_large(b),
-    }
-}
-
-fn is_value(answer: BitAnswer, count: u32, next: usize) -> bool {
-    let BitAnswer::Value(c, n) = answer else {
-        return false;
-    };
-    c == count && n == next
-}
-
-fn is_truncated(answer: BitAnswer) -> bool {
-    match answer {
-        BitAnswer::Truncated => true,
-        _ => false,
-    }
-}
-
-fn is_too_large(answer: BitAnswer) -> bool {
-    match answer {
-        BitAnswer::TooLarge => true,
-        _ => false,
-    }
+    Err(Refusal::Truncated)
 }
