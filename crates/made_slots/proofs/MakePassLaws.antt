@@ -1,17 +1,15 @@
 -- The three answers of `make_pass`.
 -- Assumes nothing.
-use mathlib.Core.Path.{◌≡◌, refl, ap, ◌∙◌}
+use mathlib.Core.Path.{◌≡◌, refl, sym, ap, ◌∙◌}
 use mathlib.Core.List.{List}
 use Prim.Native.Nat.{ℕ, zero, suc, ◌≤◌, ◌<◌}
 use lib.IntN.{ℤ}
 use lib.ListN.{length}
 use borrow.Author.Tests.{lt-ltb, le-ltb}
 use Rattle.answers.specs.Guard.{unless_refused}
-use Rattle.answers.specs.declared.Outcome.{Outcome}
 use Rattle.answers.specs.declared.Refusal.{Refusal}
-use Rattle.answers.specs.Numbers.{outcome_number}
-use Rattle.answers.proofs.NumberLaws.{number-positive}
-use Rattle.answers.proofs.GuardLaws.{guard_refused}
+use Rattle.answers.specs.Numbers.{number_of}
+use Rattle.slots.proofs.FillLaws.{slots_kept}
 use Rattle.passes.specs.Making.{making_refusal, Made, no_pass, made}
 use Rattle.passes.specs.declared.DecorrPass.{DecorrPass}
 use Rattle.overlay.specs.Overlay.{overlay}
@@ -34,27 +32,23 @@ module _ (term delta weightA weightB : ℤ) (seedA seedB slots : List ℤ) where
   made-refusal = by-refusal (making_refusal term seedA seedB) _
 
   -- too few slots
-  pub pass-short : (r : ℕ) → r ≡ 6 → length slots < pass_slots → Passed r slots
-  pass-short r e h = rw (lt-ltb (length slots) pass_slots h, e) (refl, refl)
+  pub pass-short : length slots < pass_slots → Passed 6 slots
+  pass-short h = rw (lt-ltb (length slots) pass_slots h) (refl, refl)
 
-  module _ (o : Outcome) (p : DecorrPass) (told : record { refusal = outcome_number o; pass = p } ≡ made term
-      delta weightA weightB seedA seedB) (enough : pass_slots ≤ length slots) where
-    number_is : outcome_number o ≡ making_refusal term seedA seedB
+  module _ (n : ℕ) (p : DecorrPass) (told : record { refusal = n; pass = p } ≡ made term delta weightA weightB seedA seedB)
+      (enough : pass_slots ≤ length slots) where
+    number_is : n ≡ making_refusal term seedA seedB
     number_is = ap (λ (m : Made). m.refusal) told ∙ made-refusal
 
     -- a pass that is refused
-    pub pass-refused : (r : ℕ) (x : Refusal) → r ≡ outcome_number o → o ≡ Outcome.Refused x → Passed r slots
-    pass-refused r x e f =
-        let h : 0 < r = rw (e, f) (number-positive x) in
-        rw (
-          le-ltb (length slots) pass_slots enough,
-          guard_refused r (λ _. slots)
-              (overlay slots 0 (pass_values term delta weightA weightB seedA seedB)) h,
-        ) (e ∙ number_is, refl)
+    pub pass-refused : (x : Refusal) → n ≡ number_of x → Passed n slots
+    pass-refused x e =
+        let kept = slots_kept x (pass_values term delta weightA weightB seedA seedB) slots in
+        rw (le-ltb (length slots) pass_slots enough) (number_is, sym (rw (← e) at kept))
 
     -- one that is made
-    pub pass-made : (values after : List ℤ) → o ≡ Outcome.Accepted → values ≡ slots_of p → after ≡ overlay slots 0 values → Passed 0 after
+    pub pass-made : (values after : List ℤ) → n ≡ 0 → values ≡ slots_of p → after ≡ overlay slots 0 values → Passed 0 after
     pass-made values after f g h =
-        let n : 0 ≡ making_refusal term seedA seedB = rw f at number_is in
+        let z : 0 ≡ making_refusal term seedA seedB = rw f at number_is in
         let v : values ≡ pass_values term delta weightA weightB seedA seedB = g ∙ ap (λ (m : Made). slots_of m.pass) told in
-        rw (le-ltb (length slots) pass_slots enough) (n, h ∙ ap (overlay slots 0) v)
+        rw (le-ltb (length slots) pass_slots enough) (z, h ∙ ap (overlay slots 0) v)

@@ -3,10 +3,11 @@
 #![tactic(auto)]
 
 ghost use Rattle.std.specs.Prelude.{◌≡◌};
+ghost use Rattle.answers.specs.Numbers.{outcome_number};
 ghost use Rattle.slots.specs.Slots.{leave_values};
 ghost use Rattle.made_slots.specs.MadeSlots.{slots_of, pass_answer, pass_values};
 
-use answers::{Outcome, Refusal, number, outcome_number};
+use answers::Refusal;
 use passes::DecorrPass;
 use slots::lay;
 
@@ -17,14 +18,11 @@ pub const PASS_SLOTS: usize = 20;
 pub fn pass_slots(p: DecorrPass) -> [i32; PASS_SLOTS]
     ensures { result ≡ slots_of p }
 {
-    let term = p.term;
-    let a = p.history_a;
-    let b = p.history_b;
-    let head = [term as i32, p.delta, p.weight_a, p.weight_b];
+    let head = [i32::from(p.term), p.delta, p.weight_a, p.weight_b];
     let mut slots = [0i32; PASS_SLOTS];
     lay(&head, 0, &mut slots);
-    lay(&a, 4, &mut slots);
-    lay(&b, 12, &mut slots);
+    lay(&p.history_a, 4, &mut slots);
+    lay(&p.history_b, 12, &mut slots);
     slots
 }
 
@@ -38,24 +36,18 @@ pub fn make_pass(
     seed_a: &[i32],
     seed_b: &[i32],
     pass: &mut [i32],
-) -> u32
-    ensures answer { result
+) -> Result<(), Refusal>
+    ensures answer { outcome_number result
         ≡ pass_answer term seed_a.now seed_b.now pass.old }
     ensures pass { pass.new
-        ≡ leave_values result
+        ≡ leave_values (outcome_number result)
         (pass_values term delta weight_a weight_b seed_a.now seed_b.now)
         pass.old }
 {
     if pass.len() < PASS_SLOTS {
-        return number(Refusal::ListLength);
+        return Err(Refusal::ListLength);
     }
-    let answer = DecorrPass::new(term, delta, weight_a, weight_b, seed_a, seed_b);
-    let outcome = answer.outcome;
-    let made = answer.pass;
-    let Outcome::Accepted = outcome else {
-        return outcome_number(outcome);
-    };
-    let values = pass_slots(made);
-    lay(&values, 0, pass);
-    0
+    let made = DecorrPass::new(term, delta, weight_a, weight_b, seed_a, seed_b)?;
+    lay(&pass_slots(made), 0, pass);
+    Ok(())
 }
