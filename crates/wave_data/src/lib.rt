@@ -32,12 +32,10 @@ pub fn lay_frames(samples: &[i32], out: &mut [u8])
     requires within { within16 samples.now ≡ true }
     ensures { out.new ≡ overlay out.old header_bytes (data_bytes samples.now) }
 {
-    let mut i: usize = 0;
-    while i < samples.len() / 2 {
+    for i in 0..samples.len() / 2 {
         let left = samples[2 * i] as i16;
         let right = samples[2 * i + 1] as i16;
         lay_frame(left, right, HEADER_BYTES + 4 * i, out);
-        i = i + 1;
     }
 }
 
@@ -48,10 +46,8 @@ pub fn take_samples(file: &[u8], samples: &mut [i32])
     ensures { samples.new ≡ overlay samples.old 0 (file_samples file.now) }
 {
     let count = (file.len() - HEADER_BYTES) / 2;
-    let mut i: usize = 0;
-    while i < count {
+    for i in 0..count {
         let at = HEADER_BYTES + 2 * i;
-        samples[i] = signed_word(file[at], file[at + 1]) as i32;
-        i = i + 1;
+        samples[i] = i32::from(signed_word(file[at], file[at + 1]));
     }
 }

@@ -39,10 +39,7 @@ const FRAME_AND_SAMPLE: u32 = 0x100004;
 pub fn is_rate(rate: u32) -> bool
     ensures { result ≡ rate_taken rate }
 {
-    if rate < 1 {
-        return false;
-    }
-    rate <= MAX_RATE
+    (1..=MAX_RATE).contains(&rate)
 }
 
 // The fields of the header before `size` bytes of samples, four bytes each.
@@ -73,10 +70,7 @@ pub fn lay_header(rate: u32, size: u32, out: &mut [u8])
     requires room { header_bytes ≤ length out.old }
     ensures { out.new ≡ overlay out.old 0 (wave_header rate size) }
 {
-    let words = header_words(rate, size);
-    let mut i: usize = 0;
-    while i < 11 {
-        lay_number(words[i], 4 * i, out);
-        i = i + 1;
+    for (i, word) in header_words(rate, size).iter().enumerate() {
+        lay_number(*word, 4 * i, out);
     }
 }

@@ -1,5 +1,4 @@
 -- `wave_data::lay_frames` meets its contract. The loop's invariant: the first i frames are laid.
--- The measure is what is left of them.
 -- Assumes nothing.
 use Prim.Native.Nat.{ℕ, ◌+◌, ◌*◌, ◌<◌}
 use native.Mathlib.Omega.{arith}

@@ -1,6 +1,7 @@
 -- `wave_data::take_samples` meets its contract. The loop's invariant: the first i samples are
--- copied. The measure is what is left of them.
+-- copied.
 -- Assumes nothing.
+use mathlib.Core.Path.{◌∙◌}
 use native.Mathlib.Omega.{arith}
 use mir.Facts.{to_z-of_z}
 use mir.Syntax.{w16, w32}
@@ -19,11 +20,12 @@ pub loop-i-preserved : goal.loop-i-preserved
 loop-i-preserved c =
     let n = file_samples_lem c.args.file.now in
     let f : SFits w16 c.signed_word.result = search rules in
-    let g : SFits w32 c.signed_word.result = record { sfits = omega (arith, f.sfits) } in
-    rw (to_z-of_z f, to_z-of_z g) (
+    let e = c.from.ensures ∙ to_z-of_z f in
+    let g : SFits w32 c.from.result = rw e (record { sfits = omega (arith, f.sfits) }) in
+    rw (to_z-of_z g) (
       c.loop-i.invariant.0,
       taken_more _ _ c.loop-i.samples c.loop-i.i _ c.requires.room (omega arith) c.loop-i.invariant.1
-          c.signed_word.ensures,
+          (e ∙ c.signed_word.ensures),
     )
 
 pub returns : goal.returns

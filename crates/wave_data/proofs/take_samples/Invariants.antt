@@ -1,5 +1,5 @@
 -- `wave_data::take_samples` meets its contract. The loop's invariant: the first i samples are
--- copied. The measure is what is left of them.
+-- copied.
 -- Assumes nothing.
 use mathlib.Core.Path.{◌≡◌}
 use Prim.Native.Nat.{◌-◌, ◌/◌}
@@ -11,6 +11,3 @@ use Rattle.wave_data.proofs.take_samples.Given as goal
 abbrev pub invariant-loop-i : goal.invariant-loop-i
 invariant-loop-i l = (l.count ≡ (length l.file - header_bytes) / 2)
     × Taken l.file l.initial.samples l.samples l.i
-
-abbrev pub decreases-loop-i : goal.decreases-loop-i
-decreases-loop-i l = l.count - l.i

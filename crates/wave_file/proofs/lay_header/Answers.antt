@@ -1,5 +1,4 @@
--- `wave_file::lay_header` meets its contract. The loop's invariant: the first i fields are laid. The
--- measure is what is left of them.
+-- `wave_file::lay_header` meets its contract. The loop's invariant: the first i fields are laid.
 -- Assumes nothing.
 use mathlib.Core.Path.{ap, ◌∙◌}
 use Prim.Native.Nat.{ℕ, ◌*◌}
@@ -13,7 +12,7 @@ use Rattle.wave_file.proofs.lay_header.Goals as goal
 
 pub loop-i-init : goal.loop-i-init
 loop-i-init c =
-    (c.header_words-words.ensures, laid_none _ _ c.requires.room)
+    (c.header_words.ensures, laid_none _ _ c.requires.room)
 
 pub loop-i-preserved : goal.loop-i-preserved
 loop-i-preserved c =
