@@ -1,26 +1,20 @@
 -- The answers of the reader, one law for each.
 -- Assumes nothing.
-use mathlib.Core.Path.{◌≡◌, ap, ◌∙◌}
+use mathlib.Core.Path.{◌≡◌, ◌∙◌}
 use mathlib.Core.Bool.{true, false}
 use mathlib.Core.List.{List}
 use Prim.Native.Nat.{ℕ, ◌*◌, ◌≤◌, ◌<◌}
 use native.Mathlib.Omega.{arith}
 use borrow.Author.Tests.{lt-ltb, le-ltb}
 use lib.ListN.{length}
-use Rattle.answers.specs.declared.Outcome.{Outcome}
-use Rattle.answers.specs.declared.Refusal.{Refusal}
-use Rattle.answers.specs.Numbers.{number_of}
+use Rattle.std.specs.Prelude.{Result, Ok, Err}
+use Rattle.std.specs.Result.{IsErrAnd}
 use Rattle.overlay.specs.Overlay.{overlay}
 use Rattle.archive.specs.Faults.{blocks_in, good_blocks, has_bad}
 use Rattle.archive.specs.Listing.{recordings_of, in_force, twice, listed, payloads}
-use Rattle.archive_reader.specs.Read.{ReadTold, view_read, refuse_read, tell_read, read_entry}
-use Rattle.archive_reader.specs.declared.ArchiveRead.{ArchiveRead}
-
--- the answer that a refusal's struct holds
-pub refused-is : (list storage : List ℕ) (x : Refusal) (block : ℕ) {r : ArchiveRead} {told : ReadTold}
-    → r ≡ record { outcome = Outcome.Refused x; block = block; recordings = 0; bytes = 0 }
-    → refuse_read list storage (number_of x) block ≡ told → view_read r list storage ≡ told
-refused-is list storage x block e t = ap (λ (r : ArchiveRead). view_read r list storage) e ∙ t
+use Rattle.archive_reader.specs.Read.{view_read, refuse_read, tell_read, read_entry}
+use Rattle.archive_reader.specs.declared.Contents.{Contents}
+use Rattle.archive_reader.specs.declared.ArchiveFault.{ArchiveFault}
 
 module _ (file list storage : List ℕ) where
   -- 18, with the block
@@ -35,6 +29,13 @@ module _ (file list storage : List ℕ) where
         → refuse_read list storage 19 0 ≡ read_entry file list storage
     unfolding read_entry
     read_twice t = rw (ok, t)
+
+    -- where counting told it
+    pub repeated : (r : Result Contents ArchiveFault) {fault : ArchiveFault} → IsErrAnd r (λ y. y ≡ fault)
+        → twice (recordings_of file) ≡ true → fault ≡ ArchiveFault.RecordingTwice
+        → view_read r list storage ≡ read_entry file list storage
+    repeated (Ok contents) h t e = absurd h
+    repeated (Err fault) h t e = rw (h ∙ e) (read_twice t)
 
     module _ (apart : twice (recordings_of file) ≡ false) where
       -- 11: too short a list

@@ -22,7 +22,7 @@ use Rattle.archive_keys.proofs.MarkLaws.{one}
 use Rattle.archive_chunks.specs.Chunks.{file_keys, ChunkIs}
 use Rattle.archive_payloads.specs.Kept.{kept, between, DoneIs, SupersededIs}
 use Rattle.archive_payloads.proofs.LaidLaws.{Grown, grown-none, grown-more}
-use Rattle.archive_reader.specs.Read.{CountsAre}
+use Rattle.archive_reader.specs.Read.{ContentsAre}
 
 -- none of the first recordings stands at another place too, or one is there twice
 pub record Apart (file : List ℕ) (first : ℕ) (told : Bool) : Type 0 where
@@ -89,18 +89,19 @@ module _ (file : List ℕ) where
 
   pub counts_all : {first place recordings bytes : ℕ} {told : Bool} → Sound file
       → DoneIs file first place recordings bytes
-      → Apart file first told → length file ≤ place → CountsAre file told recordings bytes
-  counts_all {first} {place} {told = told} s d a h =
+      → Apart file first told → length file ≤ place
+      → (told ≡ twice (recordings_of file)) × ContentsAre file recordings bytes
+  counts_all {first} {place} {recordings} {bytes} {told} s d a h =
       let e = at-end file place first d.at h in
       let k = kept_whole first e in
       let i = d.at.inside in
       let f = d.few in
-      record {
-        repeated = apart-all told first s e a;
+      let c : ContentsAre file recordings bytes = record {
         counted = d.counted ∙ ap length k;
         summed = d.summed ∙ ap (λ (l : List Recording). length (payloads l)) k;
         few = omega arith;
-      }
+      } in
+      (apart-all told first s e a, c)
 
   -- ---- laid
 

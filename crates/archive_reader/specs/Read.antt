@@ -1,12 +1,14 @@
 -- Document 02 §9: what the reader of an archive answers, and what the lent storage then holds (Q9.5, Q9.6).
 -- Assumes nothing.
-use Rattle.std.specs.Prelude.{◌≡◌, Bool, ◌||◌, cond, List, ℕ, ◌*◌, ◌≤◌, ltb, length}
-use Rattle.answers.specs.Numbers.{outcome_number}
+use Rattle.std.specs.Prelude.{◌≡◌, Bool, true, false, ◌||◌, cond, List, ℕ, ◌*◌, ◌≤◌, Result, Ok, Err, ltb, length}
+use Rattle.answers.specs.declared.Refusal.{Refusal}
+use Rattle.answers.specs.Numbers.{number_of}
 use Rattle.overlay.specs.Overlay.{overlay}
 use Rattle.archive.specs.Recording.{Recording}
 use Rattle.archive.specs.Faults.{good_blocks, has_bad}
 use Rattle.archive.specs.Listing.{recordings_of, in_force, twice, listed, payloads}
-use Rattle.archive_reader.specs.declared.ArchiveRead.{ArchiveRead}
+use Rattle.archive_reader.specs.declared.Contents.{Contents}
+use Rattle.archive_reader.specs.declared.ArchiveFault.{ArchiveFault}
 
 -- the refusal's number (0: accepted), the bad block, recordings in force, their payload bytes; and the lent
 -- list and storage
@@ -18,17 +20,6 @@ pub record ReadTold : Type 0 where
   pub list : List ℕ
   pub payloads : List ℕ
 
--- the answer that the entry's struct holds, with list and storage as they are left
-abbrev pub view_read : ArchiveRead → List ℕ → List ℕ → ReadTold
-view_read r list payloads = record {
-  refusal = outcome_number r.outcome;
-  block = r.block;
-  recordings = r.recordings;
-  bytes = r.bytes;
-  list = list;
-  payloads = payloads;
-}
-
 -- "short storage is 11": four numbers for each recording in force, and their payloads
 abbrev pub short_storage : List Recording → ℕ → ℕ → Bool
 short_storage force numbers bytes = ltb numbers (4 * length force) || ltb bytes (length (payloads force))
@@ -37,6 +28,29 @@ short_storage force numbers bytes = ltb numbers (4 * length force) || ltb bytes 
 abbrev pub refuse_read : List ℕ → List ℕ → ℕ → ℕ → ReadTold
 refuse_read list storage number block =
     record { refusal = number; block = block; recordings = 0; bytes = 0; list = list; payloads = storage }
+
+-- which refusal a fault is, and the block that it comes with
+abbrev pub refusal_of : ArchiveFault → Refusal
+refusal_of (ArchiveFault.BadBlock block) = Refusal.BadBlock
+refusal_of ArchiveFault.RecordingTwice = Refusal.RecordingTwice
+refusal_of ArchiveFault.OutputTooShort = Refusal.OutputTooShort
+
+abbrev pub block_of : ArchiveFault → ℕ
+block_of (ArchiveFault.BadBlock block) = block
+block_of ArchiveFault.RecordingTwice = 0
+block_of ArchiveFault.OutputTooShort = 0
+
+-- the entry's answer, with list and storage as they are left
+abbrev pub view_read : Result Contents ArchiveFault → List ℕ → List ℕ → ReadTold
+view_read (Ok contents) list storage = record {
+  refusal = 0;
+  block = 0;
+  recordings = contents.recordings;
+  bytes = contents.bytes;
+  list = list;
+  payloads = storage;
+}
+view_read (Err fault) list storage = refuse_read list storage (number_of (refusal_of fault)) (block_of fault)
 
 -- the list and the payloads of those in force, from the first place on; what stands behind keeps its values
 abbrev pub tell_read : List ℕ → List ℕ → List Recording → ReadTold
@@ -62,8 +76,13 @@ read_entry file list storage =
 -- ---- for the code alone
 
 -- what is counted of a file without a bad block
-pub record CountsAre (file : List ℕ) (told : Bool) (recordings bytes : ℕ) : Type 0 where
-  pub repeated : told ≡ twice (recordings_of file)
+pub record ContentsAre (file : List ℕ) (recordings bytes : ℕ) : Type 0 where
   pub counted : recordings ≡ length (in_force (recordings_of file))
   pub summed : bytes ≡ length (payloads (in_force (recordings_of file)))
   pub few : 512 * recordings ≤ length file
+
+-- which is told where no recording is there twice
+abbrev pub CountsAre : List ℕ → Result Contents ArchiveFault → Type 0
+CountsAre file (Ok contents) =
+    (twice (recordings_of file) ≡ false) × ContentsAre file contents.recordings contents.bytes
+CountsAre file (Err fault) = (twice (recordings_of file) ≡ true) × (fault ≡ ArchiveFault.RecordingTwice)

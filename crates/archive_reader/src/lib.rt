@@ -6,36 +6,47 @@
 ghost use Rattle.std.specs.Prelude.{◌≡◌, ◌*◌, ◌≤◌, length};
 ghost use Rattle.overlay.specs.Overlay.{overlay};
 ghost use Rattle.archive.specs.Listing.{recordings_of, in_force, listed, payloads, Sound};
-ghost use Rattle.archive_reader.specs.Read.{view_read, read_entry, CountsAre};
+ghost use Rattle.archive_reader.specs.Read.{refusal_of, view_read, read_entry, CountsAre};
 
-use answers::{Outcome, Refusal};
+use answers::Refusal;
 use archive_chunks::chunk_at;
-use archive_keys::either;
 use archive_payloads::{Done, count_chunk, lay_chunk};
 use block_faults::{blocks_in, good_blocks};
 
-// What the reader answers: the first bad block where it refuses with 18; recordings in force and the
-// bytes of their payloads, both 0 on refusal.
-#[derive(Clone, Copy)]
-pub struct ArchiveRead {
-    pub outcome: Outcome,
-    pub block: usize,
+// What an archive holds: how many recordings are in force, and the bytes of their payloads.
+#[derive(Clone, Copy, Debug, PartialEq, Eq)]
+pub struct Contents {
     pub recordings: usize,
     pub bytes: usize,
 }
 
-// What is counted before anything is written.
-#[derive(Clone, Copy)]
-struct Counts {
-    twice: bool,
-    recordings: usize,
-    bytes: usize,
+// Why an archive is not read.
+#[derive(Clone, Copy, Debug, PartialEq, Eq)]
+pub enum ArchiveFault {
+    // The first bad block, counted from 0.
+    BadBlock { block: usize },
+    // The same house, start second and issue twice.
+    RecordingTwice,
+    // The list or the storage has no room for what is in force.
+    OutputTooShort,
 }
 
-// Counts the recordings in force, chunk by chunk, and looks for one that is there twice.
-fn count_all(file: &[u8]) -> Counts
+impl From<ArchiveFault> for Refusal {
+    ghost from_gives = { λ fault refusal. refusal ≡ refusal_of fault };
+
+    fn from(fault: ArchiveFault) -> Refusal {
+        match fault {
+            ArchiveFault::BadBlock { .. } => Refusal::BadBlock,
+            ArchiveFault::RecordingTwice => Refusal::RecordingTwice,
+            ArchiveFault::OutputTooShort => Refusal::OutputTooShort,
+        }
+    }
+}
+
+// Counts the recordings in force, chunk by chunk, where none is there twice.
+fn count_all(file: &[u8]) -> Result<Contents, ArchiveFault>
     requires { Sound file.now }
-    ensures { CountsAre file.now result.twice result.recordings result.bytes }
+    ensures { CountsAre file.now result }
 {
     let mut done = Done {
         place: 0,
@@ -49,14 +60,16 @@ fn count_all(file: &[u8]) -> Counts
         let superseded = chunk.superseded;
         let count = chunk.count;
         done = count_chunk(file, first, &superseded, count, done);
-        twice = either(twice, chunk.twice);
-        first = first + count;
+        twice |= chunk.twice;
+        first += count;
     }
-    Counts {
-        twice: twice,
+    if twice {
+        return Err(ArchiveFault::RecordingTwice);
+    }
+    Ok(Contents {
         recordings: done.recordings,
         bytes: done.bytes,
-    }
+    })
 }
 
 // Lays the recordings in force, chunk by chunk.
@@ -78,48 +91,25 @@ fn deliver(file: &[u8], list: &mut [u32], out: &mut [u8])
         let superseded = chunk.superseded;
         let count = chunk.count;
         done = lay_chunk(file, first, &superseded, count, done, list, out);
-        first = first + count;
-    }
-}
-
-// A refusal, and the block that it comes with.
-fn refused(refusal: Refusal, block: usize) -> ArchiveRead
-    ensures { result ≡ record { outcome = Outcome.Refused refusal; block = block; recordings = 0; bytes = 0 } }
-{
-    ArchiveRead {
-        outcome: Outcome::Refused(refusal),
-        block: block,
-        recordings: 0,
-        bytes: 0,
+        first += count;
     }
 }
 
 // Lists the recordings in force, four numbers each, and lays their payloads one after the other; answers
 // how many there are and how many bytes their payloads have. Refuses with 18 and the first bad block,
 // then with 19 and 11; list and storage are then as they were.
-pub fn read_archive(file: &[u8], list: &mut [u32], out: &mut [u8]) -> ArchiveRead
+pub fn read_archive(file: &[u8], list: &mut [u32], out: &mut [u8]) -> Result<Contents, ArchiveFault>
     ensures { view_read result list.new out.new
         ≡ read_entry file.now list.old out.old }
 {
     let good = good_blocks(file);
     if good < blocks_in(file.len()) {
-        return refused(Refusal::BadBlock, good);
+        return Err(ArchiveFault::BadBlock { block: good });
     }
-    let counted = count_all(file);
-    if counted.twice {
-        return refused(Refusal::RecordingTwice, 0);
-    }
-    if list.len() < 4 * counted.recordings {
-        return refused(Refusal::OutputTooShort, 0);
-    }
-    if out.len() < counted.bytes {
-        return refused(Refusal::OutputTooShort, 0);
+    let contents = count_all(file)?;
+    if list.len() < 4 * contents.recordings || out.len() < contents.bytes {
+        return Err(ArchiveFault::OutputTooShort);
     }
     deliver(file, list, out);
-    ArchiveRead {
-        outcome: Outcome::Accepted,
-        block: 0,
-        recordings: counted.recordings,
-        bytes: counted.bytes,
-    }
+    Ok(contents)
 }

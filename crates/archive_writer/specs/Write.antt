@@ -1,22 +1,18 @@
 -- Document 02 §9: what the writer of an archive answers, and what the lent storage then holds (Q9.10).
 -- Assumes nothing.
-use Rattle.std.specs.Prelude.{ℕ, cond, List, ltb, length}
+use Rattle.std.specs.Prelude.{ℕ, cond, List, Result, Ok, Err, ltb, length}
+use Rattle.answers.specs.declared.Refusal.{Refusal}
 use Rattle.answers.specs.Guard.{unless_refused}
 use Rattle.answers.specs.Limits.{max_payload_bytes}
-use Rattle.answers.specs.Numbers.{outcome_number}
+use Rattle.answers.specs.Numbers.{number_of}
 use Rattle.overlay.specs.Overlay.{overlay}
 use Rattle.archive.specs.Recording.{Recording, recording_bytes}
-use Rattle.archive_writer.specs.declared.Written.{Written}
 
 -- the refusal's number (0: accepted), bytes written; and the lent storage
 pub record WriteTold : Type 0 where
   pub refusal : ℕ
   pub bytes : ℕ
   pub out : List ℕ
-
--- the answer that the entry's struct holds, with the storage as it is left
-abbrev pub view_write : Written → List ℕ → WriteTold
-view_write r out = record { refusal = outcome_number r.outcome; bytes = r.bytes; out = out }
 
 -- "5 for a longer payload, and short storage is 11"
 unfoldable pub write_refusal : Recording → ℕ → ℕ
@@ -26,6 +22,11 @@ write_refusal r room =
 -- a refusal writes nothing
 abbrev pub refuse_write : List ℕ → ℕ → WriteTold
 refuse_write out number = record { refusal = number; bytes = 0; out = out }
+
+-- the entry's answer, with the storage as it is left
+abbrev pub view_write : Result ℕ Refusal → List ℕ → WriteTold
+view_write (Ok bytes) out = record { refusal = 0; bytes = bytes; out = out }
+view_write (Err refusal) out = refuse_write out (number_of refusal)
 
 -- the recording's blocks from the first byte on; storage behind them keeps its values
 abbrev pub tell_write : List ℕ → List ℕ → WriteTold

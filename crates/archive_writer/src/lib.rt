@@ -10,18 +10,11 @@ ghost use Rattle.archive.specs.Block.{block_bytes, max_used, block};
 ghost use Rattle.archive.specs.Recording.{head_bytes, head, blocks_for, numbered, joined};
 ghost use Rattle.archive_writer.specs.Write.{view_write, write_entry};
 
+use answers::Refusal;
 use answers::limits::MAX_PAYLOAD_BYTES;
-use answers::{Outcome, Refusal};
 use block_check::{BLOCK_BYTES, HEAD_BYTES, MAX_USED};
 use block_laying::lay_block;
 use little_endian::number_bytes;
-
-// What the writer answers: how many bytes it wrote, 0 on refusal.
-#[derive(Clone, Copy)]
-pub struct Written {
-    pub outcome: Outcome,
-    pub bytes: usize,
-}
 
 // The bytes before a payload: house, start second, issue, and the payload's length.
 fn head_bytes(house: u16, start: u32, issue: u16, length: u32) -> [u8; 12]
@@ -37,12 +30,6 @@ fn head_bytes(house: u16, start: u32, issue: u16, length: u32) -> [u8; 12]
     ]
 }
 
-fn least(a: usize, b: usize) -> usize
-    ensures { result ≡ min a b }
-{
-    if a < b { a } else { b }
-}
-
 // Lays block i of a recording at its place: what is there of the bytes before the payload, and of the
 // payload.
 fn lay_numbered(front: &[u8], payload: &[u8], i: usize, out: &mut [u8])
@@ -54,9 +41,9 @@ fn lay_numbered(front: &[u8], payload: &[u8], i: usize, out: &mut [u8])
         ≡ overlay out.old (512 * i)
         (block i (take max_used (drop (504 * i) (front.now ++ payload.now)))) }
 {
-    let skip = least(MAX_USED * i, HEAD_BYTES);
+    let skip = (MAX_USED * i).min(HEAD_BYTES);
     let from = MAX_USED * i - skip;
-    let end = least(MAX_USED * i + (MAX_USED - HEAD_BYTES), payload.len());
+    let end = (MAX_USED * i + (MAX_USED - HEAD_BYTES)).min(payload.len());
     lay_block(i, &front[skip..], &payload[from..end], BLOCK_BYTES * i, out);
 }
 
@@ -70,10 +57,8 @@ fn lay_blocks(front: &[u8], payload: &[u8], count: usize, out: &mut [u8])
         ≡ overlay out.old 0
         (joined (numbered count 0 (front.now ++ payload.now))) }
 {
-    let mut i: usize = 0;
-    while i < count {
+    for i in 0..count {
         lay_numbered(front, payload, i, out);
-        i = i + 1;
     }
 }
 
@@ -86,28 +71,19 @@ pub fn write_recording(
     issue: u16,
     payload: &[u8],
     out: &mut [u8],
-) -> Written
+) -> Result<usize, Refusal>
     ensures { view_write result out.new
         ≡ write_entry (record { house = house; start = start; issue = issue; payload = payload.now })
         out.old }
 {
     if payload.len() > MAX_PAYLOAD_BYTES {
-        return Written {
-            outcome: Outcome::Refused(Refusal::TooLarge),
-            bytes: 0,
-        };
+        return Err(Refusal::TooLarge);
     }
-    let count = (payload.len() + 515) / MAX_USED;
+    let count = (payload.len() + HEAD_BYTES).div_ceil(MAX_USED);
     if out.len() < BLOCK_BYTES * count {
-        return Written {
-            outcome: Outcome::Refused(Refusal::OutputTooShort),
-            bytes: 0,
-        };
+        return Err(Refusal::OutputTooShort);
     }
     let front = head_bytes(house, start, issue, payload.len() as u32);
     lay_blocks(&front, payload, count, out);
-    Written {
-        outcome: Outcome::Accepted,
-        bytes: BLOCK_BYTES * count,
-    }
+    Ok(BLOCK_BYTES * count)
 }

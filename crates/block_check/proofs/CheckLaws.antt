@@ -37,11 +37,7 @@ pub summed-none : (block : List ℕ) → Summed block 0 0
 unfolding weighted_from
 summed-none block = record { here = omega arith; small = omega arith; is = refl }
 
--- what one more byte adds fits 32 bits
-pub term-word : (k b : ℕ) → k ≤ checked_bytes → b < 256 → Fits w32 (k * b)
-term-word k b h l = let t = term_fits k b h l in record { fits = omega arith }
-
--- and so does the sum with it
+-- with one more the sum fits 32 bits
 pub sum-word : (block : List ℕ) (sum i k b : ℕ) → i < checked_bytes → k ≤ checked_bytes → b < 256
     → Summed block sum i → Fits w32 (sum + k * b)
 sum-word block sum i k b h l m s =

@@ -15,22 +15,14 @@ pub const MAX_USED: usize = 504;
 // Bytes of a recording's stream before its payload: house, start second, issue and the payload's length.
 pub const HEAD_BYTES: usize = 12;
 
-fn wide(byte: u8) -> u32
-    ensures { result ≡ byte }
-{
-    byte as u32
-}
-
 // The check: the sum of (position + 1) × byte. It stays below 2 to the 25.
 pub fn check_of(block: &[u8]) -> u32
     requires { checked_bytes ≤ length block.now }
     ensures { result ≡ check_of block.now }
 {
-    let mut sum: u32 = 0;
-    let mut i: usize = 0;
-    while i < CHECKED_BYTES {
-        sum = sum + (i as u32 + 1) * wide(block[i]);
-        i = i + 1;
+    let mut sum = 0;
+    for (i, byte) in block[..CHECKED_BYTES].iter().enumerate() {
+        sum += (i as u32 + 1) * u32::from(*byte);
     }
     sum
 }

@@ -1,5 +1,6 @@
 -- `archive_reader::count_all` meets its contract.
 -- Assumes nothing.
+use mathlib.Core.Path.{refl, sym, ◌∙◌}
 use native.Mathlib.Omega.{arith}
 use Rattle.archive.proofs.PlaceLaws.{recordings-few}
 use Rattle.archive_reader.proofs.ReaderLaws.{apart_none, apart_more, done_none, counts_all}
@@ -15,9 +16,15 @@ overflow_add-first c =
 pub loop-done-preserved : goal.loop-done-preserved
 loop-done-preserved c = (
   c.count_chunk-done.ensures,
-  apart_more _ c.chunk_at-chunk.ensures _ _ c.loop-done.invariant.1 c.either-twice.ensures,
+  apart_more _ c.chunk_at-chunk.ensures _ _ c.loop-done.invariant.1 refl,
 )
+
+pub returns-then-twice : goal.returns-then-twice
+returns-then-twice c =
+    let a = counts_all _ c.requires c.loop-done.invariant.0 c.loop-done.invariant.1 c.loop-done-test.false in
+    (sym a.0 ∙ c.if-twice.true, refl)
 
 pub returns : goal.returns
 returns c =
-    counts_all _ c.requires c.loop-done.invariant.0 c.loop-done.invariant.1 c.loop-done-test.false
+    let a = counts_all _ c.requires c.loop-done.invariant.0 c.loop-done.invariant.1 c.loop-done-test.false in
+    (sym a.0 ∙ c.if-twice.false, a.1)

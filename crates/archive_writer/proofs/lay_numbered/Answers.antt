@@ -6,5 +6,5 @@ use Rattle.archive_writer.proofs.lay_numbered.Goals as goal
 
 pub returns : goal.returns
 returns c =
-    part-laid c.args.front.now c.args.payload.now _ _ _ _ _ _ c.requires.front c.least-skip.ensures refl
-    c.least-end.ensures c.lay_block.ensures
+    part-laid c.args.front.now c.args.payload.now _ _ _ _ _ _ c.requires.front c.min-skip.ensures refl
+    c.min-end.ensures c.lay_block.ensures

@@ -1,6 +1,5 @@
 -- `archive_writer::write_recording` meets its contract: one law for each of its answers.
 -- Assumes nothing.
-use mathlib.Core.Path.{refl}
 use native.Mathlib.Omega.{arith}
 use Rattle.archive_writer.proofs.WriteLaws.{write_long, write_short, write_done}
 use Rattle.archive_writer.proofs.write_recording.Goals as goal
@@ -13,5 +12,6 @@ returns-then-out-count c = write_short _ _ (omega arith) (omega arith)
 
 pub returns : goal.returns
 returns c =
-    write_done _ _ _ _ _ refl (omega arith) (omega arith) c.head_bytes-front.ensures
+    let count = c.div_ceil-count.ensures in
+    write_done _ _ _ _ _ (omega arith) (omega arith) (omega arith) c.head_bytes-front.ensures
     c.lay_blocks.ensures
