@@ -1,15 +1,12 @@
 -- Two lists of bytes that are compared.
 -- Assumes nothing.
 use mathlib.Core.Path.{◌≡◌, refl, sym, ap₂, ◌∙◌}
-use mathlib.Core.Bool.{true, false, ◌&&◌}
+use mathlib.Core.Bool.{Bool, true, false, ◌&&◌}
 use mathlib.Core.List.{List, [], ◌∷◌}
-use Prim.Native.Nat.{ℕ, suc, ◌+◌, ◌≤◌, ◌<◌}
-use native.Mathlib.Numerals.{add-one}
-use native.Mathlib.Omega.{arith}
-use borrow.Author.Tests.{eq-eqb, ne_eqb, eqb-true}
+use Prim.Native.Nat.{ℕ}
+use borrow.Author.Tests.{eq-eqb, ne_eqb, eqb-true, eqb-false}
 use lib.Dec.{eqb}
-use lib.ListN.{length, drop, get_or, drop_of_length-le}
-use lib.Seq.{drop-cons}
+use Rattle.std.specs.Cmp.Lexicographic.{pointwise}
 use Rattle.answers.proofs.TestLaws.{clash, both}
 use Rattle.wave_header.specs.Wave.{alike}
 
@@ -28,34 +25,17 @@ alike_is (x ∷ a) [] h = clash refl (sym h)
 alike_is (x ∷ a) (y ∷ b) h = let p = both (eqb x y) (alike a b) h in
     ap₂ (λ (z : ℕ) (l : List ℕ). z ∷ l) (eqb-true x y p.0) (alike_is a b p.1)
 
--- the first i bytes are alike
-pub record Compared (a b : List ℕ) (i : ℕ) : Type 0 where
-  pub here : i ≤ length a
-  pub same_length : length a ≡ length b
-  pub left : alike (drop i a) (drop i b) ≡ alike a b
+eqb_swap : (x y : ℕ) → eqb y x ≡ eqb x y
+eqb_swap x y = go (eqb x y) refl
+  where
+    go : (t : Bool) → eqb x y ≡ t → eqb y x ≡ eqb x y
+    go true e = let same = eqb-true x y e in eq-eqb y x (sym same) ∙ sym e
+    go false e = ne_eqb y x (λ s. eqb-false x y e (sym s)) ∙ sym e
 
-module _ (a b : List ℕ) (i : ℕ) (h : i < length a) (c : Compared a b i) where
-  parts : alike (drop i a) (drop i b)
-      ≡ (eqb (get_or a i 0) (get_or b i 0) && alike (drop (suc i) a) (drop (suc i) b))
-  unfolding alike
-  parts = rw (drop-cons a i 0 h, drop-cons b i 0 (let s = c.same_length in omega arith))
-
-  -- the next byte is the same
-  pub compared_more : get_or a i 0 ≡ get_or b i 0 → Compared a b (i + 1)
-  compared_more e =
-      record {
-        here = omega arith;
-        same_length = c.same_length;
-        left = rw (add-one i) (sym (parts ∙ rw (eq-eqb (get_or a i 0) (get_or b i 0) e)) ∙ c.left);
-      }
-
-  -- the next byte is another one
-  pub compared_apart : (get_or a i 0 ≡ get_or b i 0 → ⊥) → false ≡ alike a b
-  compared_apart n = sym (sym c.left ∙ parts ∙ rw (ne_eqb (get_or a i 0) (get_or b i 0) n))
-
--- all were compared
-pub compared_all : (a b : List ℕ) (i : ℕ) → length a ≤ i → Compared a b i → true ≡ alike a b
+-- std's comparison finds lists that are alike
+pub compared_alike : (a b : List ℕ) → pointwise eqb b a ≡ alike a b
 unfolding alike
-compared_all a b i h c =
-    rw (drop_of_length-le a {i = i} h, drop_of_length-le b {i = i} (let s = c.same_length in omega arith))
-    at c.left
+compared_alike [] [] = refl
+compared_alike [] (y ∷ b) = refl
+compared_alike (x ∷ a) [] = refl
+compared_alike (x ∷ a) (y ∷ b) = ap₂ (λ (s t : Bool). s && t) (eqb_swap x y) (compared_alike a b)

@@ -3,9 +3,9 @@
 
 #![tactic(auto)]
 
-ghost use Rattle.std.specs.Prelude.{◌≡◌, ◌≤◌, length, take};
+ghost use Rattle.std.specs.Prelude.{◌≡◌, ◌≤◌, length};
 ghost use Rattle.wave_file.specs.File.{header_bytes, max_file_bytes};
-ghost use Rattle.wave_header.specs.Wave.{alike, file_rate, is_wave};
+ghost use Rattle.wave_header.specs.Wave.{file_rate, is_wave};
 
 use little_endian::number;
 use wave_file::{HEADER_BYTES, is_rate, lay_header};
@@ -16,21 +16,6 @@ pub fn rate_of(file: &[u8]) -> u32
     ensures { result ≡ file_rate file.now }
 {
     number(file[24], file[25], file[26], file[27])
-}
-
-// Whether a file begins with these bytes.
-fn begins_with(file: &[u8], expected: [u8; 44]) -> bool
-    requires { header_bytes ≤ length file.now }
-    ensures { result ≡ alike (take header_bytes file.now) expected }
-{
-    let mut place: usize = 0;
-    while place < HEADER_BYTES {
-        if file[place] != expected[place] {
-            return false;
-        }
-        place = place + 1;
-    }
-    true
 }
 
 // Whether the bytes are a sound file of the one form that is accepted.
@@ -49,7 +34,7 @@ pub fn is_wave(file: &[u8]) -> bool
     if !is_rate(rate) {
         return false;
     }
-    let mut expected = [0u8; 44];
+    let mut expected = [0; HEADER_BYTES];
     lay_header(rate, size as u32, &mut expected);
-    begins_with(file, expected)
+    file.starts_with(&expected)
 }
