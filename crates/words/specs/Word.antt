@@ -1,13 +1,13 @@
 -- Document 01, "One word": a word is a function of the payload's bits, the place and the state. Its
 -- four steps stand here from the last to the first.
 -- Assumes nothing.
-use Rattle.std.specs.Prelude.{Bool, cond, List, ℕ, zero, suc, ◌+◌, ◌-◌, ◌/◌, ◌%◌, ℤ, pos, negsuc}
+use Rattle.std.specs.Prelude.{Bool, cond, Option, Some, None, Result, Ok, Err, List, ℕ, zero, suc, ◌+◌, ◌-◌, ◌/◌, ◌%◌, ℤ, pos, negsuc}
+use Rattle.answers.specs.Numbers.{number_of}
+use Rattle.answers.specs.declared.Refusal.{Refusal}
 use Rattle.bits.specs.Bits.{val, bit_of}
 use Rattle.bits.specs.Fields.{get_bits}
-use Rattle.bits.specs.declared.Field.{Field}
 use Rattle.fields.specs.Counts.{run_length, prefix}
 use Rattle.fields.specs.Code.{truncated_binary}
-use Rattle.fields.specs.declared.Prefix.{Prefix}
 use Rattle.medians.specs.Interval.{low_of, high_of}
 use Rattle.zones.specs.Report.{Report, none, zone_of}
 use Rattle.word_state.specs.State.{State, due, paid, in_run, unbroken, cleared, flagged, after, run_due, on_zeros}
@@ -19,15 +19,14 @@ pub data Word : Type 0 where
   refused : ℕ → Word
 
 -- a field, and then what follows; a missing bit is refusal 3
-abbrev pub on_field : Field → (ℕ → ℕ → Word) → Word
-on_field (Field.Value v q) next = next v q
-on_field Field.Truncated next = refused 3
+abbrev pub on_field : Option (ℕ × ℕ) → (ℕ → ℕ → Word) → Word
+on_field (Some (v, q)) next = next v q
+on_field None next = refused 3
 
--- a prefix, and then what follows; EndOfStream is refusal 4
-abbrev pub on_prefix : Prefix → (ℕ → ℕ → Word) → Word
-on_prefix (Prefix.Value v q) next = next v q
-on_prefix Prefix.EndOfStream next = refused 4
-on_prefix Prefix.Truncated next = refused 3
+-- a prefix, and then what follows; a refused prefix is a refused word
+abbrev pub on_prefix : Result (ℕ × ℕ) Refusal → (ℕ → ℕ → Word) → Word
+on_prefix (Ok (v, q)) next = next v q
+on_prefix (Err refusal) next = refused (number_of refusal)
 
 -- document 01 (I6): "Sign bit 0 gives v = low + code, 1 gives -v - 1"
 abbrev pub signed : ℕ → ℕ → ℤ

@@ -6,16 +6,14 @@ ghost use Rattle.answers.specs.Limits.{max_payload_bytes, max_width};
 ghost use Rattle.bits.specs.Bits.{bits_of, val, bit_of};
 ghost use Rattle.entropy.specs.Medians.{medians_of};
 ghost use Rattle.words.specs.Word.{signed};
-ghost use Rattle.words.specs.Parts.{not_counted, not_coded};
 ghost use Rattle.words.specs.Parts.{SignedCodeIs, ValueIs, CountIs, PlainIs, ZeroRunIs, CodedIs};
 
+use answers::Refusal;
 use bit_reading::get_bit;
 use bit_windows::load::eight;
-use bits::Field;
 use code_reading::{code_in_window, read_truncated_binary};
 use count_reading::{read_raw_prefix, read_zero_run_length};
 use entropy::AdaptiveMedians;
-use fields::Prefix;
 use medians::interval::sample_interval;
 
 // A sample, and the bits that its code and its sign take.
@@ -25,36 +23,36 @@ pub struct SignedCode {
     pub used: usize,
 }
 
-// A sample and the place after it.
-#[derive(Clone, Copy)]
-pub enum SignedValue {
-    Sample(i32, usize),
-    Truncated,
-}
-
 // A count, the place after it, and last_zero and last_one after it.
 #[derive(Clone, Copy)]
-pub enum OnesCount {
-    Count(u32, usize, bool, bool),
-    EndOfStream,
-    Truncated,
+pub struct Count {
+    pub ones_count: u32,
+    pub place: usize,
+    pub last_zero: bool,
+    pub last_one: bool,
 }
 
 // A run with the zeros owed after its first and the place after its length; or the place of a word.
 #[derive(Clone, Copy)]
 pub enum ZeroRun {
-    Run(u32, usize),
-    Word(usize),
-    Truncated,
+    Run { owed: u32, next: usize },
+    Word { place: usize },
 }
 
 // A run as above; or a sample, its count, the place after it, and last_zero and last_one after it.
 #[derive(Clone, Copy)]
 pub enum Coded {
-    Run(u32, usize),
-    Sample(i32, u32, usize, bool, bool),
-    EndOfStream,
-    Truncated,
+    Run {
+        owed: u32,
+        next: usize,
+    },
+    Sample {
+        value: i32,
+        ones_count: u32,
+        next: usize,
+        last_zero: bool,
+        last_one: bool,
+    },
 }
 
 // A magnitude, or with the sign bit its complement.
@@ -63,10 +61,7 @@ pub fn apply_sign(magnitude: u32, sign: u32) -> i32
     ensures { result ≡ signed sign magnitude }
 {
     let x = magnitude as i32;
-    if sign == 0 {
-        return x;
-    }
-    -1 - x
+    if sign == 0 { x } else { -1 - x }
 }
 
 // Code and sign at the start of a window, in the interval of `last` + 1 numbers from `low` on.
@@ -90,7 +85,7 @@ fn decode_signed_value(
     place: usize,
     medians: AdaptiveMedians,
     ones_count: u32,
-) -> SignedValue
+) -> Option<(i32, usize)>
     requires { length payload.now ≤ max_payload_bytes }
     ensures { ValueIs (bits_of payload.now) place (medians_of medians) ones_count result }
 {
@@ -102,40 +97,11 @@ fn decode_signed_value(
             low,
             interval.high - low,
         );
-        let value = got.value;
-        return SignedValue::Sample(value, place + got.used);
+        return Some((got.value, place + got.used));
     }
-    let Field::Value(code, next) = read_truncated_binary(payload, place, interval.high - low) else {
-        return SignedValue::Truncated;
-    };
-    let Field::Value(sign, after) = get_bit(payload, next) else {
-        return SignedValue::Truncated;
-    };
-    SignedValue::Sample(apply_sign(low + code, sign), after)
-}
-
-pub fn one_if(flag: bool) -> u32
-    ensures bit { result ≡ val flag }
-    ensures most { result ≤ 1 }
-{
-    if flag { 1 } else { 0 }
-}
-
-fn is_odd(x: u32) -> bool
-    ensures { result ≡ bit_of (x % 2) }
-{
-    if x % 2 == 0 { false } else { true }
-}
-
-// Why a prefix has no value.
-fn not_counted(prefix: Prefix) -> OnesCount
-    ensures { result ≡ not_counted prefix }
-{
-    match prefix {
-        Prefix::Value(_, _) => OnesCount::Truncated,
-        Prefix::EndOfStream => OnesCount::EndOfStream,
-        Prefix::Truncated => OnesCount::Truncated,
-    }
+    let (code, next) = read_truncated_binary(payload, place, interval.high - low)?;
+    let (sign, after) = get_bit(payload, next)?;
+    Some((apply_sign(low + code, sign), after))
 }
 
 // Step 3: the count of a word, folded with the flags that the word before it left, and the flags
@@ -145,47 +111,49 @@ fn read_folded_ones_count(
     place: usize,
     last_zero: bool,
     last_one: bool,
-) -> OnesCount
+) -> Result<Count, Refusal>
     requires { length payload.now ≤ max_payload_bytes }
     ensures { CountIs (bits_of payload.now) place last_zero last_one result }
 {
     if last_zero {
-        return OnesCount::Count(0, place, false, last_one);
+        let announced = Count {
+            ones_count: 0,
+            place,
+            last_zero: false,
+            last_one,
+        };
+        return Ok(announced);
     }
-    let prefix = read_raw_prefix(payload, place);
-    let Prefix::Value(raw, next) = prefix else {
-        return not_counted(prefix);
-    };
-    let odd = is_odd(raw);
-    OnesCount::Count(raw / 2 + one_if(last_one), next, !odd, odd)
+    let (raw, next) = read_raw_prefix(payload, place)?;
+    let odd = raw % 2 == 1;
+    Ok(Count {
+        ones_count: raw / 2 + u32::from(last_one),
+        place: next,
+        last_zero: !odd,
+        last_one: odd,
+    })
 }
 
 // Step 2, where `eligible` tells whether a run length is read.
-fn try_zero_run_path_stereo(payload: &[u8], place: usize, eligible: bool) -> ZeroRun
+fn try_zero_run_path_stereo(
+    payload: &[u8],
+    place: usize,
+    eligible: bool,
+) -> Result<ZeroRun, Refusal>
     requires { length payload.now ≤ max_payload_bytes }
     ensures { ZeroRunIs (bits_of payload.now) place eligible result }
 {
     if !eligible {
-        return ZeroRun::Word(place);
+        return Ok(ZeroRun::Word { place });
     }
-    let Field::Value(run, next) = read_zero_run_length(payload, place) else {
-        return ZeroRun::Truncated;
-    };
+    let (run, next) = read_zero_run_length(payload, place).ok_or(Refusal::Truncated)?;
     if run == 0 {
-        return ZeroRun::Word(next);
+        return Ok(ZeroRun::Word { place: next });
     }
-    ZeroRun::Run(run - 1, next)
-}
-
-// Why a count has no value.
-fn not_coded(count: OnesCount) -> Coded
-    ensures { result ≡ not_coded count }
-{
-    match count {
-        OnesCount::Count(_, _, _, _) => Coded::Truncated,
-        OnesCount::EndOfStream => Coded::EndOfStream,
-        OnesCount::Truncated => Coded::Truncated,
-    }
+    Ok(ZeroRun::Run {
+        owed: run - 1,
+        next,
+    })
 }
 
 // Steps 3 and 4: a word outside a run.
@@ -195,21 +163,22 @@ fn read_coded(
     medians: AdaptiveMedians,
     last_zero: bool,
     last_one: bool,
-) -> Coded
+) -> Result<Coded, Refusal>
     requires { length payload.now ≤ max_payload_bytes }
     ensures { PlainIs (bits_of payload.now) place
         (medians_of medians) last_zero last_one result }
 {
-    let count = read_folded_ones_count(payload, place, last_zero, last_one);
-    let OnesCount::Count(ones_count, behind, zero_after, one_after) = count else {
-        return not_coded(count);
-    };
-    let SignedValue::Sample(sample, next) = decode_signed_value(
-        payload, behind, medians, ones_count,
-    ) else {
-        return Coded::Truncated;
-    };
-    Coded::Sample(sample, ones_count, next, zero_after, one_after)
+    let count = read_folded_ones_count(payload, place, last_zero, last_one)?;
+    let (value, next) = decode_signed_value(payload, count.place, medians, count.ones_count).ok_or(
+        Refusal::Truncated,
+    )?;
+    Ok(Coded::Sample {
+        value,
+        ones_count: count.ones_count,
+        next,
+        last_zero: count.last_zero,
+        last_one: count.last_one,
+    })
 }
 
 // Steps 2 to 4: a word where no zero is owed.
@@ -220,15 +189,13 @@ pub fn read_word(
     medians: AdaptiveMedians,
     last_zero: bool,
     last_one: bool,
-) -> Coded
+) -> Result<Coded, Refusal>
     requires { length payload.now ≤ max_payload_bytes }
     ensures { CodedIs (bits_of payload.now) place eligible
         (medians_of medians) last_zero last_one result }
 {
-    let run = try_zero_run_path_stereo(payload, place, eligible);
-    match run {
-        ZeroRun::Run(owed, next) => Coded::Run(owed, next),
-        ZeroRun::Word(next) => read_coded(payload, next, medians, last_zero, last_one),
-        ZeroRun::Truncated => Coded::Truncated,
+    match try_zero_run_path_stereo(payload, place, eligible)? {
+        ZeroRun::Run { owed, next } => Ok(Coded::Run { owed, next }),
+        ZeroRun::Word { place: next } => read_coded(payload, next, medians, last_zero, last_one),
     }
 }

@@ -11,7 +11,7 @@ use mir.Facts.{to_z-of_z}
 use mir.Syntax.{w32}
 use mir.Val.{SFits}
 use Rattle.bits.specs.Bits.{bits_of}
-use Rattle.bits.specs.declared.Field.TheVariants.{Value}
+use Rattle.std.specs.Prelude.{Some}
 use Rattle.bits.proofs.Window.{place-window}
 use Rattle.entropy.specs.Medians.{medians_of}
 use Rattle.fields.specs.Code.{truncated_binary}
@@ -53,20 +53,22 @@ returns-then-place-payload c =
 
 -- ---- field by field
 
-pub returns-in_default : goal.returns-in_default
-returns-in_default c =
+pub returns-in_err-code : goal.returns-in_err-code
+returns-in_err-code c =
     let i = c.sample_interval-interval.ensures in
-    value-no_code (bits_of c.args.payload.now) c.args.place c.args.ones_count
+    rw c.from_residual.ensures
+    (value-no_code (bits_of c.args.payload.now) c.args.place c.args.ones_count
     (medians_of c.args.medians) _ _ i.low-is i.high_is
-    (sym c.read_truncated_binary.ensures ∙ c.in_default.is)
+    (sym c.read_truncated_binary.ensures ∙ c.in_err-code.was))
 
-pub returns-in_default-get_bit : goal.returns-in_default-get_bit
-returns-in_default-get_bit c =
+pub returns-in_err-sign : goal.returns-in_err-sign
+returns-in_err-sign c =
     let i = c.sample_interval-interval.ensures in
-    value-no_sign (bits_of c.args.payload.now) c.args.place c.args.ones_count
+    rw c.from_residual-in_err-sign.ensures
+    (value-no_sign (bits_of c.args.payload.now) c.args.place c.args.ones_count
     (medians_of c.args.medians) _ _ i.low-is i.high_is
-    _ _ (sym c.read_truncated_binary.ensures ∙ c.in-Value.is)
-    (sym c.get_bit.ensures ∙ c.in_default-get_bit.is)
+    _ _ (sym c.read_truncated_binary.ensures ∙ c.in_ok-code.was)
+    (sym c.get_bit.ensures ∙ c.in_err-sign.was))
 
 pub read_truncated_binary-requires-clause-interval : goal.read_truncated_binary-requires-clause-interval
 read_truncated_binary-requires-clause-interval c =
@@ -75,7 +77,7 @@ read_truncated_binary-requires-clause-interval c =
 
 -- a code within an interval of 31 bits
 sum_lt : (bits : List Bool) (p low high : ℕ) {code next : ℕ} → Ends low high
-    → truncated_binary bits p (high - low) ≡ Value code next → low + code < 2147483648
+    → truncated_binary bits p (high - low) ≡ Some (code, next) → low + code < 2147483648
 sum_lt bits p low high e f =
     let m = code-most bits p (high - low) _ _ (omega (arith, e)) f in
     omega (arith, e)
@@ -83,12 +85,12 @@ sum_lt bits p low high e f =
 pub overflow_add-low : goal.overflow_add-low
 overflow_add-low c =
     let e = told-ends _ _ _ _ c.sample_interval-interval.ensures in
-    omega (arith, sum_lt _ _ _ _ e (sym c.read_truncated_binary.ensures ∙ c.in-Value.is))
+    omega (arith, sum_lt _ _ _ _ e (sym c.read_truncated_binary.ensures ∙ c.in_ok-code.was))
 
 pub apply_sign-requires : goal.apply_sign-requires
 apply_sign-requires c =
     let e = told-ends _ _ _ _ c.sample_interval-interval.ensures in
-    sum_lt _ _ _ _ e (sym c.read_truncated_binary.ensures ∙ c.in-Value.is)
+    sum_lt _ _ _ _ e (sym c.read_truncated_binary.ensures ∙ c.in_ok-code.was)
 
 pub returns : goal.returns
 returns c =
@@ -97,5 +99,5 @@ returns c =
     rw (to_z-of_z f, c.apply_sign.ensures)
     (value_read (bits_of c.args.payload.now) c.args.place c.args.ones_count
     (medians_of c.args.medians) _ _ i.low-is i.high_is
-    _ _ _ _ (sym c.read_truncated_binary.ensures ∙ c.in-Value.is)
-    (sym c.get_bit.ensures ∙ c.in-Value-get_bit.is))
+    _ _ _ _ (sym c.read_truncated_binary.ensures ∙ c.in_ok-code.was)
+    (sym c.get_bit.ensures ∙ c.in_ok-sign.was))
