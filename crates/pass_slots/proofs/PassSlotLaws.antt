@@ -5,7 +5,7 @@ use Prim.Native.Nat.{ℕ, zero, suc, ◌+◌, ◌-◌, ◌*◌, ◌≤◌, ◌<�
 use native.Mathlib.Omega.{arith}
 use lib.IntN.{ℤ, pos, negsuc}
 use lib.ListN.{length, get_or, set, take, drop, length-append, length-drop, get_or-append}
-use lib.Seq.{take_at, drop_at, take-suc, take-suc-set, take-length, drop-drop, length-take-le, take-append-le, drop-append-le}
+use lib.Seq.{take_at, drop_at, take-suc, take-suc-set, take-length, drop-drop, take-append-le, drop-append-le}
 use mir.Syntax.{w8}
 use mir.Val.{SFits}
 use borrow.Author.Tests.{le-leb}
@@ -27,21 +27,6 @@ term-kept (negsuc n) h = rw (le-leb n 127 (omega (arith, h.sfits)))
 -- the part of a list from place a on is what is left of it
 pub part-is : (a : ℕ) (l : List ℤ) → take (length l - a) (drop a l) ≡ drop a l
 part-is a l = rw (← length-drop a l) (take-length (drop a l))
-
--- a history that was laid into eight slots
-history-held : (l h : List ℤ) (at : ℕ) → at + 8 ≤ length l → length h ≡ 8 → overlay h 0 (take 8 (drop at l)) ≡ take 8 (drop at l)
-history-held l h at k e =
-    let part = take 8 (drop at l) in
-    let n : length part ≡ length h = length-take-le 8 (drop at l) (rw (length-drop at l) (omega arith)) ∙ sym e in
-    overlay_whole h part n
-
--- a pass from the parts of its slots
-pub pass-held : (s h g : List ℤ) (t : ℤ) (a b : List ℤ) → pass_slots ≤ length s → length h ≡ 8 → length g ≡ 8
-    → t ≡ slot_term (get_or s 0 (pos 0)) → a ≡ overlay h 0 (take 8 (drop 4 s)) → b ≡ overlay g 0
-    (take 8 (drop 12 s))
-    → record { term = t; delta = get_or s 1 (pos 0); weight_a = get_or s 2 (pos 0); weight_b = get_or s 3 (pos 0); history_a = a; history_b = b } ≡ pass_of s
-unfolding pass_of
-pass-held s h g t a b long i j e f k = rw (e, f, k, history-held s h 4 (omega arith) i, history-held s g 12 (omega arith) j)
 
 -- the slots of a pass hold that pass
 pub pass-again : (p : DecorrPass) → SFits w8 p.term → length p.history_a ≡ 8 → length p.history_b ≡ 8 → pass_of (slots_of p) ≡ p

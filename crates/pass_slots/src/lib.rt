@@ -5,13 +5,14 @@
 #![tactic(auto)]
 
 ghost use Rattle.std.specs.Prelude.{◌≡◌, ◌*◌, ◌≤◌, length, take};
+ghost use Rattle.answers.specs.Numbers.{outcome_number};
 ghost use Rattle.answers.specs.Limits.{max_passes};
 ghost use Rattle.decorrelation.specs.Lists.{listed};
 ghost use Rattle.made_slots.specs.MadeSlots.{pass_slots};
 ghost use Rattle.pass_slots.specs.PassSlots.{slot_term, pass_of, passes_of, list_slots, passes_call};
 
+use answers::Refusal;
 use answers::limits::MAX_PASSES;
-use answers::{Outcome, Refusal, number, outcome_number};
 use decorrelation::array_answer;
 use list_tests::list_outcome;
 use made_slots::{PASS_SLOTS, pass_slots};
@@ -22,13 +23,7 @@ use slots::lay;
 fn slot_term(slot: i32) -> i8
     ensures { result ≡ slot_term slot }
 {
-    if slot < -128 {
-        return 0;
-    }
-    if 127 < slot {
-        return 0;
-    }
-    slot as i8
+    i8::try_from(slot).unwrap_or(0)
 }
 
 // The pass that the first 20 slots hold.
@@ -36,18 +31,17 @@ fn pass_in(slots: &[i32]) -> DecorrPass
     requires { pass_slots ≤ length slots.now }
     ensures { result ≡ pass_of slots.now }
 {
-    let term = slot_term(slots[0]);
     let mut history_a = [0i32; 8];
     let mut history_b = [0i32; 8];
-    lay(&slots[4..12], 0, &mut history_a);
-    lay(&slots[12..PASS_SLOTS], 0, &mut history_b);
+    history_a.copy_from_slice(&slots[4..12]);
+    history_b.copy_from_slice(&slots[12..PASS_SLOTS]);
     DecorrPass {
-        term: term,
+        term: slot_term(slots[0]),
         delta: slots[1],
         weight_a: slots[2],
         weight_b: slots[3],
-        history_a: history_a,
-        history_b: history_b,
+        history_a,
+        history_b,
     }
 }
 
@@ -56,21 +50,9 @@ fn passes_in(slots: &[i32], count: usize) -> [DecorrPass; MAX_PASSES]
     requires { (count ≤ max_passes) × (count * pass_slots ≤ length slots.now) }
     ensures { take count result ≡ passes_of count slots.now }
 {
-    let none = DecorrPass {
-        term: 0,
-        delta: 0,
-        weight_a: 0,
-        weight_b: 0,
-        history_a: [0i32; 8],
-        history_b: [0i32; 8],
-    };
-    let mut passes = [none; MAX_PASSES];
-    let mut i: usize = 0;
-    while i < count {
-        let at = i * PASS_SLOTS;
-        let p = pass_in(&slots[at..]);
-        passes[i] = p;
-        i += 1;
+    let mut passes = [DecorrPass::NONE; MAX_PASSES];
+    for i in 0..count {
+        passes[i] = pass_in(&slots[i * PASS_SLOTS..]);
     }
     passes
 }
@@ -80,37 +62,31 @@ fn lay_passes(passes: [DecorrPass; MAX_PASSES], count: usize, slots: &mut [i32])
     requires { (count ≤ max_passes) × (length slots.old ≡ count * pass_slots) }
     ensures { slots.new ≡ list_slots (take count passes) }
 {
-    let mut i: usize = 0;
-    while i < count {
-        let at = i * PASS_SLOTS;
-        let p = passes[i];
-        let values = pass_slots(p);
-        lay(&values, at, slots);
-        i += 1;
+    for i in 0..count {
+        lay(&pass_slots(passes[i]), i * PASS_SLOTS, slots);
     }
 }
 
 // Decorrelation or analysis by passes of 20 slots each, which then hold the passes after. Refuses 6
 // for a length that is no multiple of 20, then as the entry does; both lists are then as they were.
-pub fn run_slots(direction: Direction, passes: &mut [i32], buffer: &mut [i32]) -> u32
-    ensures { record { refusal = result; passes = passes.new; buffer = buffer.new }
+pub fn run_slots(
+    direction: Direction,
+    passes: &mut [i32],
+    buffer: &mut [i32],
+) -> Result<(), Refusal>
+    ensures { record { refusal = outcome_number result; passes = passes.new; buffer = buffer.new }
         ≡ passes_call (listed direction) passes.old buffer.old }
 {
     let slots = passes.len();
     if slots % PASS_SLOTS != 0 {
-        return number(Refusal::ListLength);
+        return Err(Refusal::ListLength);
     }
     let count = slots / PASS_SLOTS;
     // the array has no room for more, and they are refused whatever their terms
     if MAX_PASSES < count {
-        return outcome_number(list_outcome(true, count, buffer.len()));
+        return list_outcome(true, count, buffer.len());
     }
-    let answer = array_answer(direction, passes_in(passes, count), count, buffer);
-    let outcome = answer.outcome;
-    let after = answer.passes;
-    let Outcome::Accepted = outcome else {
-        return outcome_number(outcome);
-    };
+    let after = array_answer(direction, passes_in(passes, count), count, buffer)?;
     lay_passes(after, count, passes);
-    0
+    Ok(())
 }

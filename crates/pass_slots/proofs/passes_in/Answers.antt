@@ -9,8 +9,7 @@ loop-i-preserved c =
     let s = c.args.slots.now in
     let t = c.loop-i in
     record {
-      count = omega arith;
       long = simp length-set t.invariant.long;
-      held = rw (add-one t.i) (taken_more t.i t.passes c.pass_in-p.result s (omega arith) t.invariant.held
-          (rw (part-is (t.i * pass_slots) s) at c.pass_in-p.ensures));
+      held = rw (add-one t.i) (taken_more t.i t.passes c.pass_in.result s (omega arith) t.invariant.held
+          (rw (part-is (t.i * pass_slots) s) at c.pass_in.ensures));
     }

@@ -1,4 +1,4 @@
-use Rattle.std.proofs.Common.{◌-◌, ◌≡◌, ◌≤◌, length, take}
+use Rattle.std.proofs.Common.{◌≡◌, length, take}
 use Rattle.answers.specs.Limits.{max_passes}
 use Rattle.pass_slots.specs.PassSlots.{passes_of}
 use Rattle.pass_slots.proofs.passes_in.Given as goal
@@ -6,10 +6,6 @@ use Rattle.pass_slots.proofs.passes_in.Given as goal
 -- the first passes are those of the slots
 abbrev pub invariant-loop-i : goal.invariant-loop-i
 invariant-loop-i l = record {
-  count : l.i ≤ l.count;
   long : length l.passes ≡ max_passes;
   held : take l.i l.passes ≡ passes_of l.i l.slots;
 }
-
-abbrev pub decreases-loop-i : goal.decreases-loop-i
-decreases-loop-i l = l.count - l.i
