@@ -4,13 +4,14 @@
 #![tactic(auto)]
 
 ghost use Rattle.std.specs.Prelude.{◌≡◌};
+ghost use Rattle.answers.specs.Numbers.{outcome_number};
 ghost use Rattle.int32_slots.specs.Int32Slots.{reassemble_call, deconstruct_call};
 
-use answers::{Outcome, Refusal, number, outcome_number};
+use answers::Refusal;
 use int32::Int32Info;
 use int32_deconstruction::deconstruct_int32;
 use int32_reassembly::reassemble_int32;
-use slots::lay_words;
+use slots::lay;
 
 // `wv_reassemble_int32`: the samples completed, and into 1 slot how many literal bits were read.
 // Refuses 6 for `answer`, then 15, 5 and 3.
@@ -22,14 +23,14 @@ pub fn reassemble_call(
     samples: &mut [i32],
     literal: &[u8],
     answer: &mut [u32],
-) -> u32
-    ensures { record { refusal = result; list = samples.new; answer = answer.new }
+) -> Result<(), Refusal>
+    ensures { record { refusal = outcome_number result; list = samples.new; answer = answer.new }
         ≡ reassemble_call
         (record { sent_bits = sent_bits; zeros = zeros; ones = ones; dups = dups })
         samples.old literal.now answer.old }
 {
     if answer.len() < 1 {
-        return number(Refusal::ListLength);
+        return Err(Refusal::ListLength);
     }
     let info = Int32Info {
         sent_bits,
@@ -37,14 +38,9 @@ pub fn reassemble_call(
         ones,
         dups,
     };
-    let told = reassemble_int32(info, samples, literal);
-    let outcome = told.outcome;
-    let Outcome::Accepted = outcome else {
-        return outcome_number(outcome);
-    };
-    let read = [told.bits];
-    lay_words(&read, 0, answer);
-    0
+    let read = reassemble_int32(info, samples, literal)?;
+    lay(&[read], 0, answer);
+    Ok(())
 }
 
 // `wv_deconstruct_int32`: the samples without literal and redundant bits, the literal ones in
@@ -57,9 +53,9 @@ pub fn deconstruct_call(
     samples: &mut [i32],
     literal: &mut [u8],
     answer: &mut [u32],
-) -> u32
+) -> Result<(), Refusal>
     ensures { record {
-      refusal = result;
+      refusal = outcome_number result;
       samples = samples.new;
       literal = literal.new;
       answer = answer.new;
@@ -69,7 +65,7 @@ pub fn deconstruct_call(
         samples.old literal.old answer.old }
 {
     if answer.len() < 1 {
-        return number(Refusal::ListLength);
+        return Err(Refusal::ListLength);
     }
     let info = Int32Info {
         sent_bits,
@@ -77,12 +73,7 @@ pub fn deconstruct_call(
         ones,
         dups,
     };
-    let told = deconstruct_int32(info, samples, literal);
-    let outcome = told.outcome;
-    let Outcome::Accepted = outcome else {
-        return outcome_number(outcome);
-    };
-    let written = [told.bits];
-    lay_words(&written, 0, answer);
-    0
+    let written = deconstruct_int32(info, samples, literal)?;
+    lay(&[written], 0, answer);
+    Ok(())
 }
