@@ -68,7 +68,7 @@ pub word-put : (before after : List ℕ) (at : ℕ) (m : Medians) (v : ℤ) (lz 
     → s ≡ sign v → Gathers (code_field r.last r.code ++ low 1 s) c → p ≡ prefix_of r.count lo more
     → PutIs before after at
     (cond lz (low c.count c.value) (prefix_field p ++ low c.count c.value)) place
-    → WordIs before after at m v lz lo more (record { place = place; m0 = r.m0; m1 = r.m1; m2 = r.m2 })
+    → WordIs before after at m v lz lo more (record { place = place; medians = r.medians })
 unfolding value_field
 word-put before after at m v lz lo more x s p place r c xe l se g pe h =
     let k : x ≡ mag v = xe in

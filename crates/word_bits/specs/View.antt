@@ -5,7 +5,7 @@ use Rattle.std.specs.Prelude.{◌≡◌, Bool, cond, List, [], ℕ, zero, suc, �
 use Rattle.std.specs.Int.Signed.{mag}
 use Rattle.answers.specs.Limits.{residual_span}
 use Rattle.bits.specs.Laid.{put}
-use Rattle.entropy.specs.Medians.{Medians, Small}
+use Rattle.entropy.specs.Medians.{Medians, Small, medians_of}
 use Rattle.medians.specs.Interval.{g, low_of, high_of}
 use Rattle.medians.specs.Adaptation.{up, adapt}
 use Rattle.word_bits.specs.Counts.{count}
@@ -22,7 +22,7 @@ pub record LocatedIs (m : Medians) (v : ℕ) (r : Located) : Type 0 where
   pub count-is : r.count ≡ count m v
   pub code_is : r.code ≡ v - low_of m (count m v)
   pub last-is : r.last ≡ high_of m (count m v) - low_of m (count m v)
-  pub medians_are : record { m0 = r.m0; m1 = r.m1; m2 = r.m2 } ≡ adapt m (count m v)
+  pub medians_are : medians_of r.medians ≡ adapt m (count m v)
 
 -- v lies past the first two intervals by `rest`, and the first two medians move up
 pub record Above (m : Medians) (v rest m0 m1 c : ℕ) : Type 0 where
@@ -46,7 +46,7 @@ pub record PutIs (before after : List ℕ) (at : ℕ) (f : List Bool) (r : ℕ) 
 pub record WordIs (before after : List ℕ) (at : ℕ) (m : Medians) (v : ℤ) (last_zero last_one more : Bool)
     (r : Word) : Type 0 where
   pub put_is : PutIs before after at (word_field last_zero last_one more m v) r.place
-  pub medians_are : record { m0 = r.m0; m1 = r.m1; m2 = r.m2 } ≡ adapt m (count m (mag v))
+  pub medians_are : medians_of r.medians ≡ adapt m (count m (mag v))
 
 -- the run length written where it is due
 pub record BeforeIs (before after : List ℕ) (at : ℕ) (asked : Bool) (vs : List ℤ) (r : Before) : Type 0 where

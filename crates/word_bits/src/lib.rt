@@ -5,24 +5,22 @@
 
 #![tactic(auto)]
 
+use entropy::AdaptiveMedians;
+
 // The count of a magnitude, its code, the last code of its interval, and the medians after it.
 #[derive(Clone, Copy)]
 pub struct Located {
     pub count: u32,
     pub code: u32,
     pub last: u32,
-    pub m0: u32,
-    pub m1: u32,
-    pub m2: u32,
+    pub medians: AdaptiveMedians,
 }
 
 // Where a word ends, and the medians of its channel after it.
 #[derive(Clone, Copy)]
 pub struct Word {
     pub place: usize,
-    pub m0: u32,
-    pub m1: u32,
-    pub m2: u32,
+    pub medians: AdaptiveMedians,
 }
 
 // What goes before a word: where it ends, and how many zeros it counts.
