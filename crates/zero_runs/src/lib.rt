@@ -20,10 +20,8 @@ fn all_zero(residuals: &[i32], from: usize) -> bool
     ensures { result ≡ leb 32 (zeros (drop from residuals.now)) }
 {
     let mut others: u32 = 0;
-    let mut i: usize = 0;
-    while i < 32 {
-        others = others + other(residuals[from + i]);
-        i = i + 1;
+    for i in 0..32 {
+        others += other(residuals[from + i]);
     }
     others == 0
 }
@@ -38,7 +36,7 @@ fn skip(residuals: &[i32], first: usize) -> usize
         if !all_zero(residuals, i) {
             return i;
         }
-        i = i + 32;
+        i += 32;
     }
     i
 }
@@ -49,12 +47,11 @@ pub fn zeros_from(residuals: &[i32], first: usize) -> usize
     ensures { result ≡ zeros (drop first residuals.now) }
 {
     let end = residuals.len();
-    let mut i = skip(residuals, first);
-    while i < end {
+    let start = skip(residuals, first);
+    for i in start..end {
         if residuals[i] != 0 {
             return i - first;
         }
-        i = i + 1;
     }
-    i - first
+    end - first
 }

@@ -24,4 +24,4 @@ next c =
 
 pub loop-i-preserved : goal.loop-i-preserved
 loop-i-preserved c =
-    (omega arith, rw (next (search rules)) (block-step _ _ _ _ (omega arith) c.loop-i.invariant.1))
+    rw (next (search rules)) (block-step _ _ _ _ (omega arith) c.loop-i.invariant)

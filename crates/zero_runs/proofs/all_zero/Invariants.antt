@@ -1,11 +1,7 @@
 -- `zero_runs::all_zero` meets its contract.
 -- Assumes nothing.
-use Prim.Native.Nat.{◌-◌, ◌≤◌}
 use Rattle.word_bits.proofs.ZeroLaws.{Block}
 use Rattle.zero_runs.proofs.all_zero.Given as goal
 
 abbrev pub invariant-loop-i : goal.invariant-loop-i
-invariant-loop-i l = (l.i ≤ 32) × Block l.residuals l.from l.others l.i
-
-abbrev pub decreases-loop-i : goal.decreases-loop-i
-decreases-loop-i l = 32 - l.i
+invariant-loop-i l = Block l.residuals l.from l.others l.i

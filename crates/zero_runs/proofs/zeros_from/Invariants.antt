@@ -3,13 +3,9 @@
 -- Assumes nothing.
 use mathlib.Core.Path.{◌≡◌}
 use Prim.Native.Nat.{◌+◌, ◌-◌, ◌≤◌}
-use lib.ListN.{length, drop}
+use lib.ListN.{drop}
 use Rattle.word_bits.specs.Residuals.{zeros}
 use Rattle.zero_runs.proofs.zeros_from.Given as goal
 
 abbrev pub invariant-loop-i : goal.invariant-loop-i
-invariant-loop-i l = (l.first ≤ l.i) × (l.i ≤ length l.residuals) × (l.end ≡ length l.residuals)
-    × (zeros (drop l.first l.residuals) ≡ l.i - l.first + zeros (drop l.i l.residuals))
-
-abbrev pub decreases-loop-i : goal.decreases-loop-i
-decreases-loop-i l = length l.residuals - l.i
+invariant-loop-i l = (l.first ≤ l.i) × (zeros (drop l.first l.residuals) ≡ l.i - l.first + zeros (drop l.i l.residuals))
