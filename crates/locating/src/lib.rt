@@ -37,9 +37,9 @@ fn locate_above(rest: u32, m0: u32, m1: u32, c: u32) -> Located
             count: 2,
             code: rest,
             last,
-            m0,
-            m1,
-            m2,
+            medians: AdaptiveMedians {
+                values: [m0, m1, m2],
+            },
         };
     }
     let m2 = inc_median(c, 32);
@@ -47,9 +47,9 @@ fn locate_above(rest: u32, m0: u32, m1: u32, c: u32) -> Located
         count: rest / third + 2,
         code: rest % third,
         last,
-        m0,
-        m1,
-        m2,
+        medians: AdaptiveMedians {
+            values: [m0, m1, m2],
+        },
     }
 }
 
@@ -59,10 +59,7 @@ pub fn locate(medians: AdaptiveMedians, magnitude: u32) -> Located
     requires span { magnitude < residual_span }
     ensures { LocatedIs (medians_of medians) magnitude result }
 {
-    let m = medians.values;
-    let a = m[0];
-    let m1 = m[1];
-    let m2 = m[2];
+    let [a, b, c] = medians.values;
     let first = a / 16 + 1;
     if magnitude < first {
         let m0 = dec_median(a, 128);
@@ -70,26 +67,24 @@ pub fn locate(medians: AdaptiveMedians, magnitude: u32) -> Located
             count: 0,
             code: magnitude,
             last: first - 1,
-            m0,
-            m1,
-            m2,
+            medians: AdaptiveMedians { values: [m0, b, c] },
         };
     }
     let past = magnitude - first;
-    let second = m1 / 16 + 1;
+    let second = b / 16 + 1;
     let m0 = inc_median(a, 128);
     if past < second {
-        let m1 = dec_median(m1, 64);
+        let m1 = dec_median(b, 64);
         return Located {
             count: 1,
             code: past,
             last: second - 1,
-            m0,
-            m1,
-            m2,
+            medians: AdaptiveMedians {
+                values: [m0, m1, c],
+            },
         };
     }
-    locate_above(past - second, m0, inc_median(m1, 64), m2)
+    locate_above(past - second, m0, inc_median(b, 64), c)
 }
 
 // Whether a next residual is there and its count is above 0, `medians` being those that are due
@@ -98,9 +93,5 @@ pub fn is_ahead(medians: AdaptiveMedians, residuals: &[i32], next: usize) -> boo
     requires { Small (medians_of medians) }
     ensures { result ≡ ahead (medians_of medians) (drop next residuals.now) }
 {
-    if next < residuals.len() {
-        let m = medians.values;
-        return m[0] / 16 < magnitude(residuals[next]);
-    }
-    false
+    next < residuals.len() && medians.values[0] / 16 < magnitude(residuals[next])
 }

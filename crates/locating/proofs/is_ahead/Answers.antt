@@ -2,7 +2,8 @@
 -- Assumes nothing.
 use native.Mathlib.Omega.{arith}
 use lib.IntN.{pos}
-use lib.ListN.{get_or}
+use lib.ListN.{get_or, length}
+use borrow.Author.Tests.{le-ltb}
 use mir.Facts.{to_z-of_z}
 use mir.Syntax.{w32}
 use mir.Val.{SFits}
@@ -17,6 +18,7 @@ returns-then-next-residuals c =
     rw (c.magnitude.ensures, to_z-of_z f)
     (ahead-some (medians_of c.args.medians) c.args.residuals.now c.args.next c.requires (omega arith))
 
-pub returns : goal.returns
-returns c =
-    ahead-end (medians_of c.args.medians) c.args.residuals.now c.args.next (omega arith)
+pub returns-else-next-residuals : goal.returns-else-next-residuals
+returns-else-next-residuals c =
+    rw (le-ltb c.args.next (length c.args.residuals.now) (omega arith))
+    (ahead-end (medians_of c.args.medians) c.args.residuals.now c.args.next (omega arith))
