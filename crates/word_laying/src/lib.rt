@@ -27,12 +27,10 @@ fn less(count: u32, last_one: bool) -> u32
     ensures { result ≡ count - val last_one }
 {
     if last_one {
-        if count == 0 {
-            return 0;
-        }
-        return count - 1;
+        count.saturating_sub(1)
+    } else {
+        count
     }
-    count
 }
 
 // The value of a prefix: twice that, and the flag that tells of the next word.
@@ -100,9 +98,7 @@ pub fn put_word(
     );
     Word {
         place: place,
-        m0: located.m0,
-        m1: located.m1,
-        m2: located.m2,
+        medians: located.medians,
     }
 }
 
