@@ -6,13 +6,13 @@ use mathlib.Core.Bool.{Bool, true, false, cond}
 use mathlib.Core.List.{List}
 use Prim.Native.Nat.{ℕ, zero, suc, ◌+◌, ◌*◌, ◌/◌, ◌≤◌, ◌<◌}
 use native.Mathlib.Omega.{arith}
+use Rattle.std.specs.Prelude.{Ok, Err}
 use lib.IntN.{ℤ}
 use lib.ListN.{length, take}
-use Rattle.answers.specs.declared.Outcome.{Outcome}
 use Rattle.answers.specs.declared.Refusal.{Refusal}
 use Rattle.answers.specs.Guard.{or_else, unless_refused}
 use Rattle.answers.specs.Limits.{bytes_per_frame, max_word_bits, max_elements}
-use Rattle.answers.specs.Numbers.{outcome_number}
+use Rattle.answers.specs.Numbers.{number_of}
 use Rattle.answers.proofs.GuardLaws.{refused-first, guard_refused, guard_accepted}
 use Rattle.answers.proofs.NumberLaws.{number-positive}
 use Rattle.bits.specs.Laid.{bytes_holding}
@@ -26,8 +26,7 @@ use Rattle.word_state.specs.State.{start}
 use Rattle.word_bits.specs.Residuals.{spanned}
 use Rattle.packing.specs.Packing.{packed}
 use Rattle.packing.specs.Entry.{PackTold, view_packing, packed_from, tell_packing, refuse_packing, refusal_before_span, span_refusal, pack_refusal, pack_entry, packed_bytes}
-use Rattle.packing.specs.View.{PackedIs, PackRefuses}
-use Rattle.packing.specs.declared.PackAnswer.{PackAnswer}
+use Rattle.packing.specs.View.{PackedIs}
 use Rattle.packing.specs.declared.Packed.{Packed}
 use Rattle.packing.proofs.InStepLaws.{start-inv}
 use Rattle.packing.proofs.RefusalLaws.{Ready, before-none, ready}
@@ -122,39 +121,35 @@ module _ (residuals : List ℤ) (entropy : List ℕ) (frames : ℕ) (buffer : Li
 
 -- ---- the ways out of the code
 
-module _ (residuals : List ℤ) (entropy : List ℕ) (frames : ℕ) (buffer : List ℕ) (r : PackAnswer) where
+module _ (residuals : List ℤ) (entropy : List ℕ) (frames : ℕ) (buffer : List ℕ) where
   -- a refusal with the number that the definition tells
-  refuses : (o : Outcome) → 0 < outcome_number o → pack_refusal residuals entropy frames buffer ≡ outcome_number o → PackRefuses o r
-      → view_packing r buffer ≡ pack_entry residuals entropy frames buffer
+  refuses : (x : Refusal) → pack_refusal residuals entropy frames buffer ≡ number_of x → view_packing (Err x) buffer ≡ pack_entry residuals entropy frames buffer
   unfolding pack_entry
-  refuses o p e t =
-      rw (e, t.outcome-is, t.no_bits_lem, t.no_medians) (sym (guard_refused (outcome_number o) (refuse_packing buffer) (tell_packing buffer (packed_from entropy residuals)) p))
+  refuses x e =
+      rw e (sym (guard_refused (number_of x) (refuse_packing buffer) (tell_packing buffer (packed_from entropy residuals)) (number-positive x)))
 
   -- 5, 6, 1, 17, 2 and 11
-  pub refuses-before : (o : Outcome) (x : Refusal) → o ≡ Outcome.Refused x → outcome_number o ≡ refusal_before_span (length residuals) entropy frames (length buffer)
-      → PackRefuses o r → view_packing r buffer ≡ pack_entry residuals entropy frames buffer
+  pub refuses-before : (x : Refusal) → number_of x ≡ refusal_before_span (length residuals) entropy frames (length buffer)
+      → view_packing (Err x) buffer ≡ pack_entry residuals entropy frames buffer
   unfolding pack_refusal
-  refuses-before o x q e t =
-      let p : 0 < outcome_number o = rw q (number-positive x) in
-      refuses o p (rw (← e) (refused-first (outcome_number o) (span_refusal residuals) p)) t
+  refuses-before x e = refuses x (rw (← e) (refused-first (number_of x) (span_refusal residuals) (number-positive x)))
 
   -- 10: a residual outside the span
-  pub refuses-span : Ready (length residuals) entropy frames (length buffer) → spanned residuals ≡ false → PackRefuses (Outcome.Refused Refusal.ResidualOutOfSpan) r
-      → view_packing r buffer ≡ pack_entry residuals entropy frames buffer
-  refuses-span b s t =
-      refuses (Outcome.Refused Refusal.ResidualOutOfSpan) (omega arith) (span_decides residuals entropy frames buffer b ∙ rw s) t
-
--- two answers with the same parts are the same
-told_is : (n n' b b' : ℕ) (m m' : MedianPair) (y y' : List ℕ) → n ≡ n' → b ≡ b' → m ≡ m' → y ≡ y'
-    → ◌≡◌ {A = PackTold} (record { refusal = n; bits = b; medians = m; bytes = y }) (record { refusal = n'; bits = b'; medians = m'; bytes = y' })
-told_is n n' b b' m m' y y' p q r s = rw (p, q, r, s)
+  pub refuses-span : Ready (length residuals) entropy frames (length buffer) → spanned residuals ≡ false
+      → view_packing (Err Refusal.ResidualOutOfSpan) buffer ≡ pack_entry residuals entropy frames buffer
+  refuses-span b s = refuses Refusal.ResidualOutOfSpan (span_decides residuals entropy frames buffer b ∙ rw s)
 
 -- what the loop wrote is the answer
-pub accepts : (residuals : List ℤ) (entropy : List ℕ) (frames : ℕ) (buffer after : List ℕ) (seeds : MedianPair) (p : Packed) (r : PackAnswer)
+pub accepts : (residuals : List ℤ) (entropy : List ℕ) (frames : ℕ) (buffer after : List ℕ) (seeds : MedianPair) (p : Packed)
     → Accepted residuals entropy frames buffer → seeds ≡ seed_medians entropy → PackedIs buffer after seeds residuals p
-    → r.outcome ≡ Outcome.Accepted → r.bits ≡ p.bits → r.medians ≡ p.medians → view_packing r after ≡ pack_entry residuals entropy frames buffer
-accepts residuals entropy frames buffer after seeds p r a g k o b m =
+    → view_packing (Ok p) after ≡ pack_entry residuals entropy frames buffer
+accepts residuals entropy frames buffer after seeds p a g k =
     let q = packed (start seeds.left seeds.right) residuals in
-    told_is (outcome_number r.outcome) 0 r.bits (length q.bits) (pair_of r.medians) (record { left = q.next.left; right = q.next.right }) after (overlay buffer 0 (bytes_holding q.bits))
-    (ap outcome_number o) (b ∙ k.bits_are) (ap pair_of m ∙ k.medians_are) (k.bytes ∙ put-start buffer q.bits)
+    told_is p.bits (length q.bits) (pair_of p.medians) (record { left = q.next.left; right = q.next.right }) after (overlay buffer 0 (bytes_holding q.bits))
+    k.bits_are k.medians_are (k.bytes ∙ put-start buffer q.bits)
     ∙ ap (λ (x : MedianPair). tell_packing buffer (packed (start x.left x.right) residuals)) g ∙ sym (packed-is residuals entropy frames buffer a)
+  where
+    -- two answers with the same parts are the same
+    told_is : (b b' : ℕ) (m m' : MedianPair) (y y' : List ℕ) → b ≡ b' → m ≡ m' → y ≡ y'
+        → ◌≡◌ {A = PackTold} (record { refusal = 0; bits = b; medians = m; bytes = y }) (record { refusal = 0; bits = b'; medians = m'; bytes = y' })
+    told_is b b' m m' y y' q r s = rw (q, r, s)

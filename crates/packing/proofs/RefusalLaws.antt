@@ -1,18 +1,17 @@
 -- What packing refuses before it looks at a residual: each way out of the tests, and what holds
 -- where none applies.
 -- Assumes nothing.
-use mathlib.Core.Path.{◌≡◌, refl, sym, ap, ◌∙◌}
+use mathlib.Core.Path.{◌≡◌, refl, sym}
 use mathlib.Core.Bool.{Bool, true, false, cond}
 use mathlib.Core.List.{List}
 use Prim.Native.Nat.{ℕ, zero, suc, ◌*◌, ◌≤◌, ◌<◌}
 use native.Mathlib.Omega.{arith}
 use borrow.Author.Tests.{lt-ltb, le-ltb, eq-eqb, ne_eqb, ltb-false, eqb-true}
 use lib.Dec.{ltb, eqb}
-use Rattle.answers.specs.declared.Outcome.{Outcome}
 use Rattle.answers.specs.declared.Refusal.{Refusal}
 use Rattle.answers.specs.Guard.{or_else}
 use Rattle.answers.specs.Limits.{max_frames, bytes_per_frame}
-use Rattle.answers.specs.Numbers.{number_of, outcome_number}
+use Rattle.answers.specs.Numbers.{number_of}
 use Rattle.answers.proofs.GuardLaws.{refused-first}
 use Rattle.answers.proofs.NumberLaws.{number-positive}
 use Rattle.entropy.specs.Seed.{seed_refusal}
@@ -37,12 +36,11 @@ module _ (elements : ℕ) (entropy : List ℕ) (frames room : ℕ) where
   before-list f h = rw (le-ltb max_frames frames f, ne_eqb elements (2 * frames) h)
 
   -- 1, 17 and 2: what is wrong with the entropy payload
-  pub before-seeds : frames ≤ max_frames → elements ≡ 2 * frames → (o : Outcome) (x : Refusal) → o ≡ Outcome.Refused x → outcome_number o ≡ seed_refusal entropy
-      → outcome_number o ≡ refusal_before_span elements entropy frames room
+  pub before-seeds : frames ≤ max_frames → elements ≡ 2 * frames → (x : Refusal) → number_of x ≡ seed_refusal entropy
+      → number_of x ≡ refusal_before_span elements entropy frames room
   unfolding refusal_before_span
-  before-seeds f h o x q s =
-      let n : outcome_number o ≡ number_of x = ap outcome_number q in
-      rw (le-ltb max_frames frames f, eq-eqb elements (2 * frames) h, n, sym s ∙ n) (sym (refused-first (number_of x) _ (number-positive x)))
+  before-seeds f h x s =
+      rw (le-ltb max_frames frames f, eq-eqb elements (2 * frames) h, ← s) (sym (refused-first (number_of x) _ (number-positive x)))
 
   -- 11: under 28 bytes per frame lent
   pub before-room : frames ≤ max_frames → elements ≡ 2 * frames → 0 ≡ seed_refusal entropy → room < bytes_per_frame * frames

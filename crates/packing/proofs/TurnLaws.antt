@@ -10,7 +10,7 @@ use lib.IntN.{ℤ}
 use lib.ListN.{length}
 use lib.Signed.{mag}
 use Rattle.bits.specs.Laid.{put}
-use Rattle.entropy.specs.Medians.{Medians}
+use Rattle.entropy.specs.Medians.{Medians, medians_of}
 use Rattle.medians.specs.Adaptation.{adapt}
 use Rattle.word_state.specs.State.{State, due, other, side, flip, in_run, unbroken, cleared, flagged, after, run_due, run_here, on_zeros}
 use Rattle.word_state.proofs.FlagLaws.{here-due}
@@ -143,9 +143,9 @@ module _ (s : State) (d o : Medians) (lz lo brk : Bool) (v : ℤ) (vs : List ℤ
 
   -- a turn that writes a word
   pub turn-word : (before mid after : List ℕ) (at : ℕ) (b : Before) (u : Word) (r : Turn) → at ≤ 8 * length before → BeforeIs before mid at (asked d o lz lo brk) (v ∷ vs) b
-      → b.run ≡ 0 → WordIs mid after b.place d v lz lo (ahead o vs) u → r.place ≡ u.place → r.run ≡ 0 → r.m0 ≡ u.m0 → r.m1 ≡ u.m1 → r.m2 ≡ u.m2
+      → b.run ≡ 0 → WordIs mid after b.place d v lz lo (ahead o vs) u → r.place ≡ u.place → r.run ≡ 0 → r.medians ≡ u.medians
       → r.last_zero ≡ cond lz false (not (ahead o vs)) → r.last_one ≡ cond lz lo (ahead o vs) → Turned before after at s v vs r
-  turn-word before mid after at b u r l h n w p q x y z f g =
+  turn-word before mid after at b u r l h n w p q x f g =
       let i = word_of s v vs (asked d o lz lo brk) seen.owes asked_is (sym h.run_is ∙ n) in
       let e : word_field s.last_zero s.last_one (ahead (other s) vs) (due s) v ≡ word_field lz lo (ahead o vs) d v =
       rw (seen.due-is, seen.other-is, seen.zero_is, seen.one-is) in
@@ -153,8 +153,8 @@ module _ (s : State) (d o : Medians) (lz lo brk : Bool) (v : ℤ) (vs : List ℤ
       let j : (word_out s v vs).bits ≡ cond (asked d o lz lo brk) (run_field (zeros (v ∷ vs))) [] ++ word_field lz lo (ahead o vs) d v =
       i.bits_are ∙ ap (λ (a : List Bool). cond (asked d o lz lo brk) (run_field (zeros (v ∷ vs))) [] ++ a) e in
       let t = i.next-is in
-      let m : adapt (due s) (count (due s) (mag v)) ≡ record { m0 = r.m0; m1 = r.m1; m2 = r.m2 } =
-      ap (λ (a : Medians). adapt a (count a (mag v))) seen.due-is ∙ sym w.medians_are ∙ rw (x, y, z) in
+      let m : adapt (due s) (count (due s) (mag v)) ≡ medians_of r.medians =
+      ap (λ (a : Medians). adapt a (count a (mag v))) seen.due-is ∙ sym w.medians_are ∙ ap medians_of (sym x) in
       record {
         put_is = record { bytes = k.bytes ∙ ap (put before at) (sym j); place = p ∙ k.place ∙ ap (λ (a : List Bool). at + length a) (sym j) };
         word = λ _.

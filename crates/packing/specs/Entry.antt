@@ -1,10 +1,11 @@
 -- Document 01, "Packing" (K8, K9) and "Why each operation says no" (X6): what the packing entry
 -- answers, and what the lent buffer then holds.
 -- Assumes nothing.
-use Rattle.std.specs.Prelude.{cond, List, ℕ, ◌+◌, ◌*◌, ◌/◌, ltb, eqb, ℤ, length, take}
+use Rattle.std.specs.Prelude.{Result, Ok, Err, cond, List, ℕ, ◌+◌, ◌*◌, ◌/◌, ltb, eqb, ℤ, length, take}
 use Rattle.answers.specs.Guard.{or_else, unless_refused}
 use Rattle.answers.specs.Limits.{max_frames, bytes_per_frame}
-use Rattle.answers.specs.Numbers.{outcome_number}
+use Rattle.answers.specs.Numbers.{number_of}
+use Rattle.answers.specs.declared.Refusal.{Refusal}
 use Rattle.bits.specs.Laid.{bytes_holding}
 use Rattle.overlay.specs.Overlay.{overlay}
 use Rattle.entropy.specs.Medians.{MedianPair, pair_of, zero_pair}
@@ -12,7 +13,7 @@ use Rattle.entropy.specs.Seed.{seed_refusal, seed_medians}
 use Rattle.word_state.specs.State.{start}
 use Rattle.word_bits.specs.Residuals.{spanned}
 use Rattle.packing.specs.Packing.{Out, packed}
-use Rattle.packing.specs.declared.PackAnswer.{PackAnswer}
+use Rattle.packing.specs.declared.Packed.{Packed}
 
 -- the refusal's number (0: accepted), bits written, medians after; and the bytes of the lent buffer
 pub record PackTold : Type 0 where
@@ -20,10 +21,6 @@ pub record PackTold : Type 0 where
   pub bits : ℕ
   pub medians : MedianPair
   pub bytes : List ℕ
-
--- the answer that the entry's struct holds, with the lent buffer as it is left
-abbrev pub view_packing : PackAnswer → List ℕ → PackTold
-view_packing r bytes = record { refusal = outcome_number r.outcome; bits = r.bits; medians = pair_of r.medians; bytes = bytes }
 
 -- the words of all residuals, from the medians that an entropy payload seeds
 abbrev pub packed_from : List ℕ → List ℤ → Out
@@ -41,6 +38,11 @@ tell_packing buffer o = record {
 -- document 01 (K9, X6): "all 0 on refusal"; "The lent buffer keeps its bytes."
 abbrev pub refuse_packing : List ℕ → ℕ → PackTold
 refuse_packing buffer number = record { refusal = number; bits = 0; medians = zero_pair; bytes = buffer }
+
+-- the answer that the entry gives, with the lent buffer as it is left
+abbrev pub view_packing : Result Packed Refusal → List ℕ → PackTold
+view_packing (Ok p) bytes = record { refusal = 0; bits = p.bits; medians = pair_of p.medians; bytes = bytes }
+view_packing (Err q) bytes = refuse_packing bytes (number_of q)
 
 -- document 01 (X6), by the lengths and the entropy payload alone: "5, over 131,072 frames; 6,
 -- residual list not twice the frames; 1; 2; 11, under 28 bytes per frame lent", and 17 between 1

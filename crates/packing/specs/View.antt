@@ -4,12 +4,10 @@
 use Rattle.std.specs.Prelude.{◌≡◌, Bool, false, List, ◌∷◌, ℕ, ◌-◌, ◌<◌, ℤ, length}
 use Rattle.word_bits.specs.View.{PutIs}
 use Rattle.bits.specs.Laid.{put}
-use Rattle.answers.specs.declared.Outcome.{Outcome}
-use Rattle.entropy.specs.Medians.{Medians, MedianPair, pair_of, zero_pair}
+use Rattle.entropy.specs.Medians.{Medians, MedianPair, medians_of, pair_of}
 use Rattle.word_state.specs.State.{State, start, due, other, side, flip, in_run}
 use Rattle.word_bits.specs.Residuals.{zeros}
 use Rattle.packing.specs.Packing.{word_out, packed}
-use Rattle.packing.specs.declared.PackAnswer.{PackAnswer}
 use Rattle.packing.specs.declared.Packed.{Packed}
 use Rattle.packing.specs.declared.Turn.{Turn}
 
@@ -46,7 +44,7 @@ pub record RunTakes (s t : State) (vs : List ℤ) (run : ℕ) (last_zero last_on
 -- writes for it
 pub record Turned (before after : List ℕ) (at : ℕ) (s : State) (v : ℤ) (vs : List ℤ) (r : Turn) : Type 0 where
   pub put_is : PutIs before after at (word_out s v vs).bits r.place
-  pub word : r.run ≡ 0 → Next s (word_out s v vs).next (record { m0 = r.m0; m1 = r.m1; m2 = r.m2 }) r.last_zero r.last_one
+  pub word : r.run ≡ 0 → Next s (word_out s v vs).next (medians_of r.medians) r.last_zero r.last_one
   pub run : 0 < r.run → RunTakes s (word_out s v vs).next (v ∷ vs) r.run r.last_zero r.last_one
 
 -- in every state that has these medians and flags
@@ -59,9 +57,3 @@ pub record PackedIs (before after : List ℕ) (seeds : MedianPair) (vs : List �
   pub bits_are : r.bits ≡ length (packed (start seeds.left seeds.right) vs).bits
   pub medians_are : pair_of r.medians
       ≡ record { left = (packed (start seeds.left seeds.right) vs).next.left; right = (packed (start seeds.left seeds.right) vs).next.right }
-
--- what the entry hands back on refusal
-pub record PackRefuses (o : Outcome) (r : PackAnswer) : Type 0 where
-  pub outcome-is : r.outcome ≡ o
-  pub no_bits_lem : r.bits ≡ 0
-  pub no_medians : pair_of r.medians ≡ zero_pair

@@ -6,7 +6,6 @@
 
 #![tactic(auto)]
 
-use answers::Outcome;
 use entropy::AdaptiveMedians;
 
 // What one turn of the packing loop writes: where it ends, how many zeros it tells of, and, where
@@ -15,25 +14,14 @@ use entropy::AdaptiveMedians;
 pub struct Turn {
     pub place: usize,
     pub run: usize,
-    pub m0: u32,
-    pub m1: u32,
-    pub m2: u32,
+    pub medians: AdaptiveMedians,
     pub last_zero: bool,
     pub last_one: bool,
 }
 
-// The bits written, and the medians after them.
+// What packing answers where it refuses nothing: the bits written, and the medians after them.
 #[derive(Clone, Copy)]
 pub struct Packed {
-    pub bits: usize,
-    pub medians: [AdaptiveMedians; 2],
-}
-
-// What packing answers: why it refused, if it did, the bits written, and the medians after; on
-// refusal bits and medians are 0.
-#[derive(Clone, Copy)]
-pub struct PackAnswer {
-    pub outcome: Outcome,
     pub bits: usize,
     pub medians: [AdaptiveMedians; 2],
 }
