@@ -7,7 +7,7 @@
 ghost use Rattle.std.specs.Prelude.{◌≡◌, false, not, cond, suc, ◌+◌, ◌*◌, ◌≤◌, ◌<◌, pos, length, drop, get_or};
 ghost use Rattle.std.specs.Int.Signed.{mag};
 ghost use Rattle.answers.specs.Limits.{residual_span, max_elements, max_word_bits};
-ghost use Rattle.entropy.specs.Medians.{medians_of, Small};
+ghost use Rattle.entropy.specs.Medians.{medians_of, zero_set, Small};
 ghost use Rattle.packing.specs.View.{TurnIs};
 
 use entropy::AdaptiveMedians;
@@ -36,9 +36,7 @@ fn run_turn(before: Before, last_zero: bool, last_one: bool) -> Turn
         ≡ record {
           place = before.place;
           run = before.run;
-          m0 = 0;
-          m1 = 0;
-          m2 = 0;
+          medians = zero_set;
           last_zero = last_zero;
           last_one = last_one;
         } }
@@ -46,9 +44,7 @@ fn run_turn(before: Before, last_zero: bool, last_one: bool) -> Turn
     Turn {
         place: before.place,
         run: before.run,
-        m0: 0,
-        m1: 0,
-        m2: 0,
+        medians: AdaptiveMedians::ZERO,
         last_zero,
         last_one,
     }
@@ -87,9 +83,7 @@ pub fn put_turn(
     Turn {
         place: word.place,
         run: 0,
-        m0: word.m0,
-        m1: word.m1,
-        m2: word.m2,
+        medians: word.medians,
         last_zero: zero_after(last_zero, more),
         last_one: one_after(last_zero, last_one, more),
     }

@@ -75,7 +75,7 @@ returns c =
           turn-word s (medians_of a.due) (medians_of a.other) a.last_zero a.last_one a.run_break
           (get_or vs a.i (pos 0)) (drop (suc a.i) vs) seen
           a.out.now _ _ a.at _ _ _ (omega arith) b (omega arith)
-          (word-is _ f m c.put_word-word.ensures) refl refl refl refl refl
+          (word-is _ f m c.put_word-word.ensures) refl refl refl
           (c.zero_after.ensures ∙ rw m)
           (c.one_after.ensures ∙ rw m);
     }
