@@ -47,13 +47,12 @@ pub fn pack_words(residuals: &[i32], seeds: [AdaptiveMedians; 2], out: &mut [u8]
         last_one = turn.last_one;
         run_break = turn.run > 0;
         if run_break {
-            medians = [AdaptiveMedians { values: [0, 0, 0] }; 2];
-            i = i + turn.run;
+            medians = [AdaptiveMedians::ZERO; 2];
+            i += turn.run;
             continue;
         }
-        let values = [turn.m0, turn.m1, turn.m2];
-        medians[i % 2] = AdaptiveMedians { values };
-        i = i + 1;
+        medians[i % 2] = turn.medians;
+        i += 1;
     }
     Packed { bits, medians }
 }
