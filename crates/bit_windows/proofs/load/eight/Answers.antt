@@ -1,18 +1,28 @@
--- `eight` meets its contract: eight bytes make their number out of four and four, by `joined`.
--- Assumes nothing.
-use borrow.Author.Rules.{rules}
+-- `eight` meets its contract: eight bytes make their number one by one, by `more`. Assumes nothing.
 use native.Mathlib.Omega.{arith}
-use Rattle.bits.proofs.Window.{Joined, joined}
+use mathlib.Core.Path.{◌≡◌, refl}
+use mathlib.Core.List.{List}
+use Prim.Native.Nat.{ℕ, zero, suc, ◌+◌, ◌*◌, ◌^◌, ◌≤◌, ◌<◌}
+use lib.ListN.{length, take, drop, get_or}
+use Rattle.bits.specs.Bits.{num, bits_of}
+use Rattle.bits.proofs.Window.{more, nothing}
 use Rattle.bit_windows.proofs.load.eight.Goals as goal
 
-both : (c : goal.After-four-2) →
-    Joined c.args.s.now c.args.i 4 c.four.result c.four-2.result
-both c =
-    joined c.args.s.now c.args.i 4 _ _ (omega arith) (omega arith) c.four.ensures
-    c.four-2.ensures
+-- the number of j bytes, byte by byte
+abbrev bytes : List ℕ → ℕ → ℕ → ℕ
+bytes s i zero = 0
+bytes s i (suc j) = bytes s i j + get_or s (i + j) 0 * 2 ^ (8 * j)
 
-pub overflow_add-result : goal.overflow_add-result
-overflow_add-result c = let j = both (search rules) in omega arith
+bytes_are : (s : List ℕ) (i j : ℕ) → i + j ≤ length s → j ≤ 8 → ((k : ℕ) → get_or s k 0 < 256)
+    → bytes s i j ≡ num (bits_of (take j (drop i s)))
+bytes_are s i zero h l b = nothing (drop i s)
+bytes_are s i (suc j) h l b =
+    let m = more s i j (bytes s i j) (get_or s (i + j) 0) (omega arith) (omega arith) (bytes_are s i j (omega arith) (omega arith) b) refl (b (i + j)) in
+    let e : suc j ≡ j + 1 = omega arith in
+    rw e m.same
 
 pub returns : goal.returns
-returns c = let j = both (search rules) in rw j.exact j.same
+returns c =
+    let e = bytes_are c.args.s.now c.args.i 8 (omega arith) (omega arith) (λ k. omega (arith, c.type_inv.s k)) in
+    let z : c.args.i + 0 ≡ c.args.i = omega arith in
+    rw (c.from_le_bytes.ensures, ← e, z) (omega arith)

@@ -2,13 +2,10 @@
 -- `more` adds one.
 -- Assumes nothing.
 use mathlib.Core.Path.{◌≡◌}
-use Prim.Native.Nat.{◌-◌, ◌≤◌, ◌<◌}
+use Prim.Native.Nat.{◌-◌, ◌<◌}
 use lib.ListN.{length, take, drop}
 use Rattle.bits.specs.Bits.{num, bits_of}
 use Rattle.bit_windows.proofs.load.window.Given as goal
 
 abbrev pub invariant-loop-j : goal.invariant-loop-j
-invariant-loop-j l = (l.j ≤ l.n) × (l.n < 8) × (l.n ≡ length l.s - l.i) × (l.w ≡ num (bits_of (take l.j (drop l.i l.s))))
-
-abbrev pub decreases-loop-j : goal.decreases-loop-j
-decreases-loop-j l = l.n - l.j
+invariant-loop-j l = (l.n < 8) × (l.n ≡ length l.s - l.i) × (l.w ≡ num (bits_of (take l.j (drop l.i l.s))))
