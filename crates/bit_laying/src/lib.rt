@@ -5,25 +5,17 @@
 
 #![tactic(auto)]
 
-ghost use Rattle.std.specs.Prelude.{◌≡◌, ◌+◌, ◌*◌, ◌/◌, ◌%◌, ◌^◌, ◌≤◌, ◌<◌, min, length};
+ghost use Rattle.std.specs.Prelude.{◌≡◌, ◌+◌, ◌*◌, ◌/◌, ◌%◌, ◌^◌, ◌≤◌, ◌<◌, length};
 ghost use Rattle.bits.specs.Bits.{low};
 ghost use Rattle.bits.specs.Fields.{unary_field};
 ghost use Rattle.bits.specs.Laid.{put};
-
-use wrapping::casts::u8_to_u32;
-
-fn least(a: u32, b: u32) -> u32
-    ensures { result ≡ min a b }
-{
-    if a < b { a } else { b }
-}
 
 // A byte with its k low bits as they are, then the m low bits of v, then zeros.
 fn join(c: u8, k: u32, v: u32, m: u32) -> u8
     requires { k + m ≤ 8 }
     ensures { result ≡ c % 2 ^ k + v % 2 ^ m * 2 ^ k }
 {
-    let old = u8_to_u32(c) % (1 << k);
+    let old = u32::from(c) % (1 << k);
     let x = v % (1 << m);
     (old + (x << k)) as u8
 }
@@ -48,10 +40,10 @@ pub fn put_bits(out: &mut [u8], at: usize, v: u32, count: u32)
     let mut i: u32 = 0;
     let mut p = at;
     while i < count {
-        let m = least(count - i, 8 - (p % 8) as u32);
+        let m = (count - i).min(8 - (p % 8) as u32);
         put_chunk(out, p, v >> i, m);
-        i = i + m;
-        p = p + m as usize;
+        i += m;
+        p += m as usize;
     }
 }
 

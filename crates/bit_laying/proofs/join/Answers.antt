@@ -9,12 +9,12 @@ use Rattle.bits.proofs.BitLaws.{shl_one, join_lt}
 use Rattle.bit_laying.proofs.join.Goals as goal
 
 -- the byte that is worked out is the one that is meant
-same : (c : goal.After-u8_to_u32) →
-    c.u8_to_u32.result % (1 * 2 ^ c.args.k % 2 ^ 32) + c.args.v % (1 * 2 ^ c.args.m % 2 ^ 32) * 2 ^ c.args.k % 2 ^ 32
+same : (c : goal.After-from) →
+    c.from.result % (1 * 2 ^ c.args.k % 2 ^ 32) + c.args.v % (1 * 2 ^ c.args.m % 2 ^ 32) * 2 ^ c.args.k % 2 ^ 32
     ≡ c.args.c % 2 ^ c.args.k + c.args.v % 2 ^ c.args.m * 2 ^ c.args.k
 same c =
     rw (
-      c.u8_to_u32.ensures,
+      c.from.ensures,
       shl_one c.args.k 32 (omega arith),
       shl_one c.args.m 32 (omega arith),
       shl_exact c.args.m c.args.k 32 (mod-lt c.args.v (pow_pos c.args.m)) (omega arith),

@@ -15,5 +15,5 @@ loop-i-preserved c = (
   omega arith,
   omega arith,
   c.put_chunk.ensures ∙ rw (c.loop-i.invariant.3, c.loop-i.invariant.1)
-      (put_low c.args.out.now c.args.at c.loop-i.i c.least-m.result c.args.v (omega arith)),
+      (put_low c.args.out.now c.args.at c.loop-i.i c.min-m.result c.args.v (omega arith)),
 )
