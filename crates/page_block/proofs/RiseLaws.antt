@@ -5,7 +5,7 @@ use mathlib.Core.Bool.{Bool, true, false, cond, ◌&&◌, not}
 use mathlib.Core.List.{List, [], ◌∷◌}
 use Prim.Native.Nat.{ℕ, ◌+◌, ◌≤◌, ◌<◌}
 use native.Mathlib.Omega.{arith}
-use borrow.Author.Tests.{lt-ltb, le-ltb}
+use borrow.Author.Tests.{le-ltb}
 use lib.Dec.{ltb}
 use lib.IntN.{ℤ, nat_abs}
 use lib.ListN.{length}
@@ -40,15 +40,6 @@ last-is_loud t d (v ∷ vs) = last-is_loud t (nat_abs v) vs
 pub none_loud : (t : ℕ) → 0 ≡ exceeds 0 t
 unfolding exceeds
 none_loud t = rw (le-ltb t 0 (omega arith))
-
--- a number that exceeds another, and one that does not
-pub exceeds-is : (n m : ℕ) → m < n → 1 ≡ exceeds n m
-unfolding exceeds
-exceeds-is n m h = rw (lt-ltb m n h)
-
-pub exceeds-not : (n m : ℕ) → n ≤ m → 0 ≡ exceeds n m
-unfolding exceeds
-exceeds-not n m h = rw (le-ltb m n h)
 
 -- a sample is at most one rise
 pub exceeds-few : (n m : ℕ) → exceeds n m ≤ 1

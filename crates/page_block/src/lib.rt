@@ -5,7 +5,7 @@
 
 #![tactic(auto)]
 
-ghost use Rattle.std.specs.Prelude.{◌≡◌, ◌+◌, ◌*◌, ◌/◌, ◌%◌, ◌≤◌, max, length};
+ghost use Rattle.std.specs.Prelude.{◌≡◌, ◌+◌, ◌*◌, ◌/◌, ◌%◌, ◌≤◌, length};
 ghost use Rattle.page_block.specs.Heard.{Flags, Heard};
 ghost use Rattle.page_block.specs.Heard.{exceeds as Heard·exceeds};
 
@@ -25,18 +25,11 @@ pub struct Block {
     pub last_loud: u32,
 }
 
-// The larger of two distances.
-fn larger(a: u32, b: u32) -> u32
-    ensures { result ≡ max a b }
-{
-    if a < b { b } else { a }
-}
-
 // 1 where a number exceeds another, 0 else.
 fn exceeds(number: u32, other: u32) -> u32
     ensures { result ≡ Heard·exceeds number other }
 {
-    if other < number { 1 } else { 0 }
+    u32::from(other < number)
 }
 
 // 1 for each stem whose distance exceeds the threshold.
@@ -66,16 +59,14 @@ pub fn hear(samples: &[i32], threshold: u32, before: u32) -> Block
     let mut right_peak: u32 = 0;
     let mut clicks: u32 = 0;
     let mut last = before;
-    let mut i: usize = 0;
-    while i < samples.len() / 2 {
+    for i in 0..samples.len() / 2 {
         let left = distance(samples[2 * i]);
         let right = distance(samples[2 * i + 1]);
-        left_peak = larger(left_peak, left);
-        right_peak = larger(right_peak, right);
+        left_peak = left_peak.max(left);
+        right_peak = right_peak.max(right);
         let next = flags(left, right, threshold);
-        clicks = clicks + rises(next, last);
+        clicks += rises(next, last);
         last = next;
-        i = i + 1;
     }
     Block {
         left_peak,

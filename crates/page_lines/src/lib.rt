@@ -3,7 +3,7 @@
 
 #![tactic(auto)]
 
-ghost use Rattle.std.specs.Prelude.{◌≡◌, ◌++◌, ◌+◌, ◌*◌, ◌≤◌, ◌<◌, min, length};
+ghost use Rattle.std.specs.Prelude.{◌≡◌, ◌++◌, ◌+◌, ◌*◌, ◌≤◌, ◌<◌, length};
 ghost use Rattle.answers.specs.Limits.{max_elements};
 ghost use Rattle.answers.specs.Lists.{Fitting};
 ghost use Rattle.decimal.specs.Column.{column};
@@ -24,19 +24,7 @@ pub fn line_count(elements: usize) -> usize
     requires { elements ≤ max_elements }
     ensures { result ≡ line_count elements }
 {
-    (elements / 2 + 1023) / 1024
-}
-
-// Where the samples of a line end that begin at a place.
-fn line_end(from: usize, elements: usize) -> usize
-    requires { (from ≤ elements) × (elements ≤ max_elements) }
-    ensures within { (from ≤ result) × (result ≤ elements) }
-    ensures covers { result ≡ min (from + 2048) elements }
-{
-    if elements < from + LINE_SAMPLES {
-        return elements;
-    }
-    from + LINE_SAMPLES
+    (elements / 2).div_ceil(1024)
 }
 
 // Lays the numbers of both stems in two columns of one width, the left one's first.
@@ -71,17 +59,14 @@ pub fn put_lines(samples: &[i32], threshold: u32, page: &mut [u8]) -> usize
     ensures text { TextPut page.old page.new 0 result (Page·page threshold samples.now) }
     ensures width { result ≡ line_bytes * line_count (length samples.now) }
 {
-    let lines = line_count(samples.len());
     let mut place: usize = 0;
     let mut last: u32 = 0;
-    let mut k: usize = 0;
-    while k < lines {
+    for k in 0..line_count(samples.len()) {
         let from = LINE_SAMPLES * k;
-        let end = line_end(from, samples.len());
+        let end = (from + LINE_SAMPLES).min(samples.len());
         let block = hear(&samples[from..end], threshold, last);
         place = put_line(page, place, k, block);
         last = block.last_loud;
-        k = k + 1;
     }
     place
 }

@@ -1,10 +1,15 @@
 -- `page_block::exceeds` meets its contract.
 -- Assumes nothing.
-use Rattle.page_block.proofs.RiseLaws.{exceeds-is, exceeds-not}
+use mathlib.Core.Path.{◌≡◌, refl, ◌∙◌}
+use mathlib.Core.Bool.{Bool, true, false, cond}
+use mir.Val.{bool_byte}
+use Rattle.page_block.specs.Heard.{exceeds}
 use Rattle.page_block.proofs.exceeds.Goals as goal
 
-pub returns-then-other-number : goal.returns-then-other-number
-returns-then-other-number c = exceeds-is _ _ c.if-other-number.true
+one_or_none : (b : Bool) → bool_byte b ≡ cond b 1 0
+one_or_none true = refl
+one_or_none false = refl
 
-pub returns-else-other-number : goal.returns-else-other-number
-returns-else-other-number c = exceeds-not _ _ c.if-other-number.false
+pub returns : goal.returns
+unfolding exceeds
+returns c = c.from.ensures ∙ one_or_none _

@@ -1,5 +1,5 @@
 -- `page_block::hear` meets its contract. The loop's invariant: what is found in the frames
--- passed, joined to what the others hold, is the whole. The measure is how many are left.
+-- passed, joined to what the others hold, is the whole.
 -- Assumes nothing.
 use mathlib.Core.Path.{ap, ◌∙◌}
 use Prim.Native.Nat.{◌+◌, ◌*◌, ◌≤◌}
@@ -37,8 +37,8 @@ loop-i-preserved c =
     c.loop-i.invariant
     (c.distance-left.ensures ∙ ap nat_abs (to_z-of_z f))
     (c.distance-right.ensures ∙ ap nat_abs (to_z-of_z g))
-    c.larger-left_peak.ensures
-    c.larger-right_peak.ensures
+    c.max-left_peak.ensures
+    c.max-right_peak.ensures
     c.flags-next.ensures
     c.rises-clicks.ensures
 

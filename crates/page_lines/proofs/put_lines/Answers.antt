@@ -1,5 +1,5 @@
 -- `page_lines::put_lines` meets its contract. The loop's invariant: the first k lines are
--- laid. The measure is how many are left.
+-- laid.
 -- Assumes nothing.
 use mathlib.Core.Path.{◌≡◌}
 use mathlib.Core.List.{List}
@@ -44,22 +44,46 @@ loop-k-init c = laid_none _ _ _
 
 pub overflow_mul-from : goal.overflow_mul-from
 overflow_mul-from c =
-    let t = turn c.args.samples.now _ c.loop-k.k c.requires.few c.line_count-lines.ensures
+    let t = turn c.args.samples.now _ c.loop-k.k c.requires.few c.line_count-k-end.ensures
     c.loop-k-test.true in
     omega arith
 
-pub line_end-end-requires : goal.line_end-end-requires
-line_end-end-requires c =
-    let t = turn c.args.samples.now _ c.loop-k.k c.requires.few c.line_count-lines.ensures
+pub overflow_add-from : goal.overflow_add-from
+overflow_add-from c =
+    let t = turn c.args.samples.now _ c.loop-k.k c.requires.few c.line_count-k-end.ensures
+    c.loop-k-test.true in
+    omega arith
+
+pub offset_bounds-samples-from : goal.offset_bounds-samples-from
+offset_bounds-samples-from c =
+    let t = turn c.args.samples.now _ c.loop-k.k c.requires.few c.line_count-k-end.ensures
+    c.loop-k-test.true in
+    omega arith
+
+pub slice_bounds-hear-count : goal.slice_bounds-hear-count
+slice_bounds-hear-count c =
+    let t = turn c.args.samples.now _ c.loop-k.k c.requires.few c.line_count-k-end.ensures
+    c.loop-k-test.true in
+    omega (arith, c.min-end.ensures)
+
+pub slice_bounds-hear-start : goal.slice_bounds-hear-start
+slice_bounds-hear-start c =
+    let t = turn c.args.samples.now _ c.loop-k.k c.requires.few c.line_count-k-end.ensures
+    c.loop-k-test.true in
+    omega (arith, c.min-end.ensures)
+
+pub put_line-place-requires-clause-number : goal.put_line-place-requires-clause-number
+put_line-place-requires-clause-number c =
+    let t = turn c.args.samples.now _ c.loop-k.k c.requires.few c.line_count-k-end.ensures
     c.loop-k-test.true in
     omega arith
 
 pub put_line-place-requires-clause-few : goal.put_line-place-requires-clause-few
 put_line-place-requires-clause-few c =
     let samples = c.args.samples.now in
-    let t = turn samples _ c.loop-k.k c.requires.few c.line_count-lines.ensures c.loop-k-test.true in
+    let t = turn samples _ c.loop-k.k c.requires.few c.line_count-k-end.ensures c.loop-k-test.true in
     let f = heard-few _ _ _ _
-    (heard _ _ _ c.loop-k.k samples _ (omega (arith, t.begins)) c.line_end-end.ensures.covers
+    (heard _ _ _ c.loop-k.k samples _ (omega (arith, t.begins)) c.min-end.ensures
     c.hear-block.ensures) in
     let part = length-take 2048 (drop (2048 * c.loop-k.k) samples) in
     (omega (arith, f.0), omega (arith, f.1))
@@ -67,12 +91,12 @@ put_line-place-requires-clause-few c =
 pub loop-k-preserved : goal.loop-k-preserved
 loop-k-preserved c =
     let samples = c.args.samples.now in
-    let t = turn samples _ c.loop-k.k c.requires.few c.line_count-lines.ensures c.loop-k-test.true in
+    let t = turn samples _ c.loop-k.k c.requires.few c.line_count-k-end.ensures c.loop-k-test.true in
     laid_more _ _ _ _ _ _ _ _ _ _ c.requires.whole_frames t.is-line c.loop-k.invariant
-    (heard _ _ _ c.loop-k.k samples _ (omega (arith, t.begins)) c.line_end-end.ensures.covers
+    (heard _ _ _ c.loop-k.k samples _ (omega (arith, t.begins)) c.min-end.ensures
     c.hear-block.ensures)
     c.put_line-place.ensures.text c.put_line-place.ensures.width c.put_line-place.auto.page
 
 pub returns-clause-text : goal.returns-clause-text
 returns-clause-text c =
-    (laid-all _ _ _ _ _ _ _ (omega (arith, c.line_count-lines.ensures)) c.loop-k.invariant).0
+    (laid-all _ _ _ _ _ _ _ (omega (arith, c.line_count-k-end.ensures)) c.loop-k.invariant).0
