@@ -1,6 +1,6 @@
 -- A word out of 64 bits: its prefix, its value, and that no run length stands behind it.
 -- Assumes nothing.
-use mathlib.Core.Path.{◌≡◌, refl, sym, ◌∙◌}
+use mathlib.Core.Path.{◌≡◌, refl, sym, subst, ◌∙◌}
 use mathlib.Core.Bool.{Bool, true, false, not, ◌&&◌, and-false}
 use mathlib.Core.List.{List, ◌∷◌}
 use Prim.Native.Nat.{ℕ, zero, suc, ◌+◌, ◌-◌, ◌*◌, ◌/◌, ◌%◌, ◌^◌, ◌≤◌, ◌<◌}
@@ -9,7 +9,6 @@ use borrow.Author.Tests.{not-true, lt-ltb, le-ltb}
 use lib.IntN.{ℤ}
 use lib.Dec.{leb, eqb}
 use lib.Pow.{shr-shr}
-use Rattle.answers.proofs.TestLaws.{clash}
 use Rattle.bits.specs.Bits.{val, bit_of, low, ones}
 use Rattle.bits.specs.Window.{Window}
 use Rattle.bits.proofs.RegisterLaws.{window_shift}
@@ -22,7 +21,7 @@ use Rattle.medians.proofs.IntervalLaws.{told-ends}
 use Rattle.word_state.specs.State.{run_due}
 use Rattle.words.specs.Parts.{SignedCodeIs, ValueIs, PlainIs}
 use Rattle.words.specs.declared.coded.Coded.{Coded}
-use Rattle.words.specs.declared.coded.SignedValue.{SignedValue}
+use Rattle.std.specs.Prelude.{Option, Some, None, Ok}
 use Rattle.words.proofs.JoinLaws.{plain-sample}
 use Rattle.words.proofs.PartLaws.{count-zero, count-read}
 use Rattle.short_words.specs.declared.ShortWord.{ShortWord}
@@ -84,16 +83,15 @@ odd (suc (suc n)) h = absurd (omega arith)
 
 -- with a prefix of n ones
 prefixed : (bits : List Bool) (p w n : ℕ) (m : Medians) (o : Bool) (sample : ℤ) (used : ℕ) → Window bits p 64 w → n ≡ ones_of w → n < 16
-    → ValueIs bits (p + n + 1) m (n / 2 + val o) (SignedValue.Sample sample (p + n + 1 + used))
-    → PlainIs bits p m false o (Coded.Sample sample (n / 2 + val o) (p + (used + n + 1)) (not (bit_of (n % 2))) (bit_of (n % 2)))
+    → ValueIs bits (p + n + 1) m (n / 2 + val o) (Some (sample, p + n + 1 + used))
+    → PlainIs bits p m false o (Ok (Coded.Sample sample (n / 2 + val o) (p + (used + n + 1)) (not (bit_of (n % 2))) (bit_of (n % 2))))
 prefixed bits p w n m o sample used x e h v =
     let q : p + n + 1 + used ≡ p + (used + n + 1) = omega arith in
     rw q at
-    (plain-sample bits p m false o (n / 2 + val o) (p + n + 1) (not (bit_of (n % 2))) (bit_of (n % 2)) (count-read bits p o n (p + n + 1) (few_ones bits p w n x e h)) sample (p + n + 1 + used) v)
+    (plain-sample bits p m false o _ (count-read bits p o n (p + n + 1) (few_ones bits p w n x e h)) sample (p + n + 1 + used) v)
 
 module _ (w n lo hi : ℕ) (h : ShortPrefix w n lo hi) (after : AdaptiveMedians) (sample : ℤ) (used : ℕ) (t : SignedCodeIs (w / 2 ^ 1 / 2 ^ n) lo (hi - lo) sample used) where
   pub counted_is : CountedIs w n lo hi after (record {
-    fit = true;
     on = true;
     value = sample;
     used = used + n + 1;
@@ -105,7 +103,6 @@ module _ (w n lo hi : ℕ) (h : ShortPrefix w n lo hi) (after : AdaptiveMedians)
       let d : lo + (hi - lo) ≡ hi = omega (arith, h.ordered) in
       record {
         is = λ due other o i a. record {
-          given = refl;
           count = n / 2 + val o;
           is = λ bits p v.
               rw (even (n % 2) (omega arith), odd (n % 2) (omega arith))
@@ -128,7 +125,6 @@ few-counted w n lo hi after r c h due other o i a = let k : n / 2 + val o ≡ va
 module _ (w lo hi : ℕ) (due other : Medians) (o : Bool) (i : IntervalIs due 0 lo hi) (after : AdaptiveMedians) (a : medians_of after ≡ adapt due 0) (sample : ℤ) (used : ℕ)
     (t : SignedCodeIs w lo (hi - lo) sample used) (run : Bool) (f : run ≡ run_due (medians_of after) other false o) where
   pub announced_is : ShortWordIs w due other true o (record {
-    fit = true;
     on = not run;
     value = sample;
     used = used;
@@ -139,10 +135,9 @@ module _ (w lo hi : ℕ) (due other : Medians) (o : Bool) (i : IntervalIs due 0 
   announced_is =
       let d : lo + (hi - lo) ≡ hi = omega (arith, (told-ends due 0 lo hi i).ordered) in
       record {
-        given = refl;
         count = 0;
         is = λ bits p v.
-            plain-sample bits p due true o 0 p false o (count-zero bits p o) sample (p + used)
+            plain-sample bits p due true o _ (count-zero bits p o) sample (p + used)
             (t.is bits p 64 v (omega arith) due 0 i.low-is (d ∙ i.high_is));
         adapted = a;
         some = t.some;
@@ -154,15 +149,20 @@ module _ (w lo hi : ℕ) (due other : Medians) (o : Bool) (i : IntervalIs due 0 
 
 -- behind an announced zero
 pub given_announced : (w : ℕ) (due other : Medians) (o : Bool) (r : ShortWord)
-    → ShortWordIs w due other true o r → WordIs w due other true o r
-given_announced w due other o r p = record { fits = p.given; word = λ t. p }
+    → ShortWordIs w due other true o r → WordIs w due other true o (Some r)
+given_announced w due other o r p = record { fits = refl; word = λ x e. let f : r ≡ x = cc in subst (λ (y : ShortWord). ShortWordIs w due other true o y) f p }
 
 -- with fewer than 16 ones
 pub given_counted : (w n : ℕ) (due other : Medians) (o : Bool) (r : ShortWord) → n ≡ ones_of w → n < 16
-    → ShortWordIs w due other false o r → WordIs w due other false o r
-given_counted w n due other o r e h p = record { fits = p.given ∙ sym (rw (sym e) (lt-ltb n _ (omega arith))); word = λ t. p }
+    → ShortWordIs w due other false o r → WordIs w due other false o (Some r)
+given_counted w n due other o r e h p = record {
+  fits = sym (rw (sym e) (lt-ltb n _ (omega arith)));
+  word = λ x d. let f : r ≡ x = cc in subst (λ (y : ShortWord). ShortWordIs w due other false o y) f p;
+}
 
 -- with more
-pub not-given : (w n : ℕ) (due other : Medians) (o : Bool) (r : ShortWord) → n ≡ ones_of w → 16 ≤ n
-    → r.fit ≡ false → WordIs w due other false o r
-not-given w n due other o r e h f = record { fits = f ∙ sym (rw (sym e) (le-ltb n _ (omega arith))); word = λ t. clash t f }
+pub not-given : (w n : ℕ) (due other : Medians) (o : Bool) → n ≡ ones_of w → 16 ≤ n → WordIs w due other false o None
+not-given w n due other o e h = record {
+  fits = sym (rw (sym e) (le-ltb n _ (omega arith)));
+  word = λ x d. absurd (let z : ◌≡◌ {A = ℕ} 0 1 = cc in omega arith);
+}

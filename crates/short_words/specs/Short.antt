@@ -2,7 +2,7 @@
 -- place where these bits stand (W3, W4).
 -- Assumes nothing.
 -- ---- for the code alone
-use Rattle.std.specs.Prelude.{◌≡◌, Bool, true, false, ◌||◌, List, ℕ, ◌+◌, ◌-◌, ◌/◌, ◌≤◌, ◌<◌, ltb}
+use Rattle.std.specs.Prelude.{◌≡◌, Bool, true, false, ◌||◌, Option, Some, Ok, is_some, List, ℕ, ◌+◌, ◌-◌, ◌/◌, ◌≤◌, ◌<◌, ltb}
 use Rattle.answers.specs.Limits.{max_width}
 use Rattle.bits.specs.Bits.{val, low, ones}
 use Rattle.bits.specs.Window.{Window}
@@ -22,10 +22,9 @@ ones_of w = ones (low 64 w)
 -- r is the word at every place where w stands, for the medians due, those of the other channel and
 -- the two flags; no run length stands behind it where it says so
 pub record ShortWordIs (w : ℕ) (due other : Medians) (last_zero last_one : Bool) (r : ShortWord) : Type 0 where
-  pub given : r.fit ≡ true
   pub count : ℕ
   pub is : (bits : List Bool) (p : ℕ) → Window bits p 64 w
-      → PlainIs bits p due last_zero last_one (Coded.Sample r.value count (p + r.used) r.last_zero r.last_one)
+      → PlainIs bits p due last_zero last_one (Ok (Coded.Sample r.value count (p + r.used) r.last_zero r.last_one))
   pub adapted : medians_of r.medians ≡ adapt due count
   pub some : 0 < r.used
   pub most : r.used ≤ 57
@@ -46,6 +45,6 @@ pub record CountedIs (w n lo hi : ℕ) (after : AdaptiveMedians) (r : ShortWord)
       IntervalIs due k lo hi → medians_of after ≡ adapt due k → ShortWordIs w due other false last_one r
 
 -- a word behind an announced zero, or with fewer than 16 ones, is given; any other is not
-pub record WordIs (w : ℕ) (due other : Medians) (last_zero last_one : Bool) (r : ShortWord) : Type 0 where
-  pub fits : r.fit ≡ (last_zero || ltb (ones_of w) 16)
-  pub word : r.fit ≡ true → ShortWordIs w due other last_zero last_one r
+pub record WordIs (w : ℕ) (due other : Medians) (last_zero last_one : Bool) (r : Option ShortWord) : Type 0 where
+  pub fits : is_some r ≡ (last_zero || ltb (ones_of w) 16)
+  pub word : (x : ShortWord) → r ≡ Some x → ShortWordIs w due other last_zero last_one x

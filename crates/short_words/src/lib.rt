@@ -16,14 +16,12 @@ use entropy::AdaptiveMedians;
 use medians::adaptation::adapt;
 use medians::interval::{SampleInterval, sample_interval};
 use word_state::zero_run_eligible;
-use words::coded::{one_if, signed_code};
+use words::coded::signed_code;
 
 // A word out of the 64 bits at its place: its sample, the bits that it takes, and the medians and
-// flags after it. `fit` is false where another reader has to read it; `on` is false where a run
-// length may stand behind it.
+// flags after it. `on` is false where a run length may stand behind it.
 #[derive(Clone, Copy)]
 pub struct ShortWord {
-    pub fit: bool,
     pub on: bool,
     pub value: i32,
     pub used: usize,
@@ -44,13 +42,11 @@ fn announced_word(
     let interval = sample_interval(medians, 0);
     let low = interval.low;
     let got = signed_code(w, low, interval.high - low);
-    let value = got.value;
     let after = adapt(medians, 0);
     let last_zero = false;
     ShortWord {
-        fit: true,
         on: !zero_run_eligible(after, other, false, last_zero, last_one),
-        value,
+        value: got.value,
         used: got.used,
         medians: after,
         last_zero,
@@ -65,11 +61,9 @@ fn counted_word(w: u64, ones: u32, interval: SampleInterval, after: AdaptiveMedi
 {
     let low = interval.low;
     let got = signed_code((w >> 1) >> ones, low, interval.high - low);
-    let value = got.value;
     ShortWord {
-        fit: true,
         on: true,
-        value,
+        value: got.value,
         used: got.used + ones as usize + 1,
         medians: after,
         last_zero: ones % 2 == 0,
@@ -77,85 +71,38 @@ fn counted_word(w: u64, ones: u32, interval: SampleInterval, after: AdaptiveMedi
     }
 }
 
-// No word.
-fn no_word(medians: AdaptiveMedians) -> ShortWord
-    ensures { result.fit ≡ false }
-{
-    ShortWord {
-        fit: false,
-        on: false,
-        value: 0,
-        used: 0,
-        medians,
-        last_zero: false,
-        last_one: false,
-    }
-}
-
-// The left word of a frame: with the medians of the other channel, for whether a run length may
-// follow.
-pub fn left_word(
+// The word of a channel, None where another reader has to read it: with the medians of the other channel,
+// for whether a run length may follow. The channel is a parameter of the function, and not of a call, so
+// that each of the two functions that come of it has one caller: a function of this size is laid into its
+// caller only where it has no other.
+pub fn short_word<const CHANNEL: usize>(
     w: u64,
     medians: AdaptiveMedians,
     other: AdaptiveMedians,
     last_zero: bool,
     last_one: bool,
-) -> ShortWord
+) -> Option<ShortWord>
     ensures { WordIs w (medians_of medians) (medians_of other) last_zero last_one result }
 {
     if last_zero {
-        return announced_word(w, medians, other, last_one);
+        return Some(announced_word(w, medians, other, last_one));
     }
     if w % 4 != 3 {
         let few = (w % 2) as u32;
         if last_one {
-            return counted_word(w, few, sample_interval(medians, 1), adapt(medians, 1));
+            return Some(counted_word(w, few, sample_interval(medians, 1), adapt(medians, 1)));
         }
-        return counted_word(w, few, sample_interval(medians, 0), adapt(medians, 0));
+        return Some(counted_word(w, few, sample_interval(medians, 0), adapt(medians, 0)));
     }
     let ones = u64::trailing_zeros(!w);
     if ones > 15 {
-        return no_word(medians);
+        return None;
     }
-    let count = ones / 2 + one_if(last_one);
-    counted_word(
+    let count = ones / 2 + u32::from(last_one);
+    Some(counted_word(
         w,
         ones,
         sample_interval(medians, count),
         adapt(medians, count),
-    )
-}
-
-// The right word of a frame. The same text as that of the left word: a function of this size is laid
-// into its caller only where it has no other.
-pub fn right_word(
-    w: u64,
-    medians: AdaptiveMedians,
-    other: AdaptiveMedians,
-    last_zero: bool,
-    last_one: bool,
-) -> ShortWord
-    ensures { WordIs w (medians_of medians) (medians_of other) last_zero last_one result }
-{
-    if last_zero {
-        return announced_word(w, medians, other, last_one);
-    }
-    if w % 4 != 3 {
-        let few = (w % 2) as u32;
-        if last_one {
-            return counted_word(w, few, sample_interval(medians, 1), adapt(medians, 1));
-        }
-        return counted_word(w, few, sample_interval(medians, 0), adapt(medians, 0));
-    }
-    let ones = u64::trailing_zeros(!w);
-    if ones > 15 {
-        return no_word(medians);
-    }
-    let count = ones / 2 + one_if(last_one);
-    counted_word(
-        w,
-        ones,
-        sample_interval(medians, count),
-        adapt(medians, count),
-    )
+    ))
 }
