@@ -28,6 +28,8 @@ use Rattle.word_state.specs.State.{
 }
 use Rattle.words.specs.Word.{word}
 use Rattle.words.specs.Parts.{coded_word, CodedIs}
+use Rattle.std.specs.Prelude.{Result}
+use Rattle.answers.specs.declared.Refusal.{Refusal}
 use Rattle.words.specs.declared.coded.Coded.{Coded}
 use Rattle.readings.proofs.WordLaws.{word-fresh}
 
@@ -54,7 +56,7 @@ module _ (s : State) (ms : List AdaptiveMedians) (owed : ℕ) (b z o : Bool) (i 
   held-due = rw (there ms (i % 2) h.pair (omega arith), h.channel-is, h.left_is, h.right_is) (picked ms (i % 2) (omega arith))
 
   -- where none is owed, the word is what was read from the locals
-  pub held-coded : (bits : List Bool) (p : ℕ) (r : Coded) (run : Bool) → owed ≡ 0
+  pub held-coded : (bits : List Bool) (p : ℕ) (r : Result Coded Refusal) (run : Bool) → owed ≡ 0
       → run ≡ (not b && run_due (medians_of (get_or ms 0 no_set)) (medians_of (get_or ms 1 no_set)) z o)
       → CodedIs bits p run (medians_of (get_or ms (i % 2) no_set)) z o r → coded_word s r ≡ word bits p s
   held-coded bits p r run n f c =

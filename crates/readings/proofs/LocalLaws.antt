@@ -9,13 +9,13 @@ use native.Mathlib.Omega.{arith}
 use lib.IntN.{ℤ, pos}
 use lib.ListN.{length, take}
 use lib.Seq.{take-take, take-append-le}
+use Rattle.std.specs.Prelude.{Option, Some, None, Result, Ok, Err}
+use Rattle.answers.specs.declared.Refusal.{Refusal}
 use Rattle.bits.specs.Bits.{val, bit_of, bits_of}
 use Rattle.bits.specs.Fields.{get_bits}
-use Rattle.bits.specs.declared.Field.{Field}
 use Rattle.bits.proofs.LaidLaws.{bits_append}
 use Rattle.fields.specs.Code.{truncated_binary}
 use Rattle.fields.specs.Counts.{run_length, prefix}
-use Rattle.fields.specs.declared.Prefix.{Prefix}
 use Rattle.fields.proofs.Local.{Ended, at, never, field_end, prefix_end, Local, local-still, Split, part, stop, local_then, local-cond}
 use Rattle.fields.proofs.LocalLaws.{bits-local, run-local, prefix-local, truncated_binary-local}
 use Rattle.medians.specs.Interval.{low_of, high_of}
@@ -31,15 +31,14 @@ word_end (given v q t z) = at q
 word_end (refused c) = never
 
 -- a field before the rest of a word
-field-word : (x : Field) → Split field_end word_end on_field x
-field-word (Field.Value v q) = part v q refl (λ k. refl)
-field-word Field.Truncated = stop (λ k. refl)
+field-word : (x : Option (ℕ × ℕ)) → Split field_end word_end on_field x
+field-word (Some (v, q)) = part v q refl (λ k. refl)
+field-word None = stop (λ k. refl)
 
 -- a prefix before the rest of a word
-prefix-word : (x : Prefix) → Split prefix_end word_end on_prefix x
-prefix-word (Prefix.Value v q) = part v q refl (λ k. refl)
-prefix-word Prefix.EndOfStream = stop (λ k. refl)
-prefix-word Prefix.Truncated = stop (λ k. refl)
+prefix-word : (x : Result (ℕ × ℕ) Refusal) → Split prefix_end word_end on_prefix x
+prefix-word (Ok (v, q)) = part v q refl (λ k. refl)
+prefix-word (Err refusal) = stop (λ k. refl)
 
 -- a sample that is known at its place
 given-here : (p : ℕ) (v : ℤ) (t : State) (z : Report) → Local word_end p (λ a. given v p t z)

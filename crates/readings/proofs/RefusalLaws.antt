@@ -8,13 +8,12 @@ use mathlib.Core.List.{List, []}
 use Prim.Native.Nat.{ℕ, zero, suc, ◌+◌, ◌/◌, ◌%◌, ◌<◌}
 use native.Mathlib.Omega.{arith}
 use lib.IntN.{pos}
+use Rattle.std.specs.Prelude.{Option, Some, None, Result}
+use Rattle.answers.specs.declared.Refusal.{Refusal}
 use Rattle.bits.specs.Bits.{val, bit_of}
 use Rattle.bits.specs.Fields.{get_bits}
-use Rattle.bits.specs.declared.Field.{Field}
-use Rattle.bits.specs.declared.Field.TheVariants.{Value}
 use Rattle.fields.specs.Code.{truncated_binary}
 use Rattle.fields.specs.Counts.{run_length, prefix}
-use Rattle.fields.specs.declared.Prefix.{Prefix}
 use Rattle.bits.proofs.ReadLaws.{bits-missing}
 use Rattle.fields.proofs.RefusalLaws.{run-refused, prefix-refused, prefix-ended, code-refused}
 use Rattle.medians.specs.Interval.{low_of}
@@ -23,6 +22,7 @@ use Rattle.words.specs.Word.{Word, given, refused, on_field, on_prefix, signed, 
 use Rattle.zones.specs.Report.{none, zone_of}
 use Rattle.readings.specs.Reading.{Reading, on_word, more, reading}
 use Rattle.readings.specs.Refused.{last_code, Starts, Counts, Why}
+use Rattle.readings.proofs.EveryLaws.{Two, two_prefix}
 use Rattle.words.proofs.PartLaws.{fresh-word, fresh-run}
 
 module _ (bits : List Bool) (p : ℕ) (s : State) (c : ℕ) where
@@ -35,15 +35,15 @@ module _ (bits : List Bool) (p : ℕ) (s : State) (c : ℕ) where
   unfolding value
   value-why q k t d h e = code (truncated_binary bits q (last_code s k)) refl (rw d at e)
     where
-      sign : (x n : ℕ) (f : Field) → truncated_binary bits q (last_code s k) ≡ Value x n → get_bits bits n 1 ≡ f
+      sign : (x n : ℕ) (f : Option (ℕ × ℕ)) → truncated_binary bits q (last_code s k) ≡ Some (x, n) → get_bits bits n 1 ≡ f
           → on_field f (λ y m. given (signed y (low_of (due s) k + x)) m (after k t) (zone_of k)) ≡ refused c → Why bits p s c
-      sign x n (Field.Value y m) a f e = let z : ◌≡◌ {A = ℕ} 0 1 = cc in absurd (omega arith)
-      sign x n Field.Truncated a f e = number 3 (Why.no_sign q k x n h a (bits-missing bits n 1 f)) e
+      sign x n (Some (y, m)) a f e = let z : ◌≡◌ {A = ℕ} 0 1 = cc in absurd (omega arith)
+      sign x n None a f e = number 3 (Why.no_sign q k x n h a (bits-missing bits n 1 f)) e
 
-      code : (f : Field) → truncated_binary bits q (last_code s k) ≡ f
+      code : (f : Option (ℕ × ℕ)) → truncated_binary bits q (last_code s k) ≡ f
           → on_field f (λ x n. on_field (get_bits bits n 1) λ y m. given (signed y (low_of (due s) k + x)) m (after k t) (zone_of k)) ≡ refused c → Why bits p s c
-      code (Field.Value x n) f e = sign x n (get_bits bits n 1) f refl e
-      code Field.Truncated f e = number 3 (Why.no_code q k h (code-refused bits q (last_code s k) f)) e
+      code (Some (x, n)) f e = sign x n (get_bits bits n 1) f refl e
+      code None f e = number 3 (Why.no_code q k h (code-refused bits q (last_code s k) f)) e
 
   -- the count
   plain-why : (q : ℕ) → Starts bits p s q → plain bits q (unbroken s) ≡ refused c → Why bits p s c
@@ -53,14 +53,14 @@ module _ (bits : List Bool) (p : ℕ) (s : State) (c : ℕ) where
       next : ℕ → ℕ → Word
       next r n = value bits n (r / 2 + val s.last_one) (flagged (bit_of (r % 2)) (unbroken s))
 
-      read : (f : Prefix) → prefix bits q ≡ f → s.last_zero ≡ false → on_prefix f next ≡ refused c → Why bits p s c
-      read (Prefix.Value r n) f z e = value-why n (r / 2 + val s.last_one) (flagged (bit_of (r % 2)) (unbroken s)) refl (Counts.read q r n h z f) e
-      read Prefix.EndOfStream f z e = number 4 (Why.end-of_stream q h z (prefix-ended bits q f)) e
-      read Prefix.Truncated f z e = number 3 (Why.no_prefix q h z (prefix-refused bits q f)) e
+      read : {f : Result (ℕ × ℕ) Refusal} → Two f → prefix bits q ≡ f → s.last_zero ≡ false → on_prefix f next ≡ refused c → Why bits p s c
+      read (Two.value r n) f z e = value-why n (r / 2 + val s.last_one) (flagged (bit_of (r % 2)) (unbroken s)) refl (Counts.read q r n h z f) e
+      read Two.ended f z e = number 4 (Why.end-of_stream q h z (prefix-ended bits q f)) e
+      read Two.missing f z e = number 3 (Why.no_prefix q h z (prefix-refused bits q f)) e
 
       go : (t : Bool) → s.last_zero ≡ t → cond t (value bits q 0 (cleared (unbroken s))) (on_prefix (prefix bits q) next) ≡ refused c → Why bits p s c
       go true z e = value-why q 0 (cleared (unbroken s)) refl (Counts.held q h z) e
-      go false z e = read (prefix bits q) refl z e
+      go false z e = read (two_prefix bits q) refl z e
 
   -- the run length
   fresh-why : s.debt ≡ 0 → fresh bits p s ≡ refused c → Why bits p s c
@@ -69,13 +69,13 @@ module _ (bits : List Bool) (p : ℕ) (s : State) (c : ℕ) where
       next : ℕ → ℕ → Word
       next n q = on_zeros n (λ d. given (pos 0) q (in_run d s) none) (plain bits q (unbroken s))
 
-      zeros : (n q : ℕ) → run_here s ≡ true → run_length bits p ≡ Value n q → next n q ≡ refused c → Why bits p s c
+      zeros : (n q : ℕ) → run_here s ≡ true → run_length bits p ≡ Some (n, q) → next n q ≡ refused c → Why bits p s c
       zeros zero q r f e = plain-why q (Starts.behind q d r f) e
       zeros (suc n) q r f e = let z : ◌≡◌ {A = ℕ} 0 1 = cc in absurd (omega arith)
 
-      run : (f : Field) → run_here s ≡ true → run_length bits p ≡ f → on_field f next ≡ refused c → Why bits p s c
-      run (Field.Value n q) r f e = zeros n q r f e
-      run Field.Truncated r f e = number 3 (Why.no_run d r (run-refused bits p f)) e
+      run : (f : Option (ℕ × ℕ)) → run_here s ≡ true → run_length bits p ≡ f → on_field f next ≡ refused c → Why bits p s c
+      run (Some (n, q)) r f e = zeros n q r f e
+      run None r f e = number 3 (Why.no_run d r (run-refused bits p f)) e
 
       go : (t : Bool) → run_here s ≡ t → Why bits p s c
       go true r = run (run_length bits p) r refl (sym (fresh-run bits p s r) ∙ e)

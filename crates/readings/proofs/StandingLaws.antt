@@ -17,6 +17,8 @@ use Rattle.word_state.specs.State.{State, side, paid}
 use Rattle.word_state.proofs.StateLaws.{no_set}
 use Rattle.words.specs.Word.{given, word}
 use Rattle.words.specs.Parts.{coded_word}
+use Rattle.std.specs.Prelude.{Result, Ok}
+use Rattle.answers.specs.declared.Refusal.{Refusal}
 use Rattle.words.specs.declared.coded.Coded.{Coded}
 use Rattle.zones.specs.Report.{Report}
 use Rattle.readings.specs.Reading.{reading}
@@ -68,15 +70,15 @@ module _ (payload : List ℕ) (out₀ : List ℤ) (s₀ : State) (out : List ℤ
       rw (nothing-taken (i % 2) a p) at w
 
   -- the word where none is owed, as it was read
-  module _ (r : Coded) (h : i < length out) (c : coded_word l.state r ≡ word (bits_of payload) p
+  module _ (r : Result Coded Refusal) (h : i < length out) (c : coded_word l.state r ≡ word (bits_of payload) p
       l.state) where
-    pub words-run : (d q : ℕ) → r ≡ Coded.Run d q
+    pub words-run : (d q : ℕ) → r ≡ Ok (Coded.Run d q)
         → Words payload out₀ s₀ (set out i (pos 0)) (zero_set ∷ zero_set ∷ []) d true z o q (a + side (i % 2) (q - p) 0) (i + 1)
     words-run d q e =
         step (pos 0) q _ _ (zero_set ∷ zero_set ∷ []) d true z o h (sym c ∙ ap (coded_word l.state) e)
         (held-run l.state ms owed b z o i l.held d)
 
-    pub words-sample : (v : ℤ) (k q : ℕ) (z' o' : Bool) (x : AdaptiveMedians) → r ≡ Coded.Sample v k q z' o'
+    pub words-sample : (v : ℤ) (k q : ℕ) (z' o' : Bool) (x : AdaptiveMedians) → r ≡ Ok (Coded.Sample v k q z' o')
         → medians_of x ≡ adapt (medians_of (get_or ms (i % 2) no_set)) k
         → Words payload out₀ s₀ (set out i v) (set ms (i % 2) x) owed false z' o' q (a + side (i % 2) (q - p) 0) (i + 1)
     words-sample v k q z' o' x e f =

@@ -7,19 +7,18 @@ use mathlib.Core.List.{List}
 use Prim.Native.Nat.{ℕ, zero, suc, ◌+◌, ◌-◌, ◌/◌, ◌%◌, ◌≤◌}
 use native.Mathlib.Omega.{arith}
 use lib.IntN.{ℤ}
+use Rattle.std.specs.Prelude.{Option, Some, None, Result, Ok, Err}
+use Rattle.answers.specs.declared.Refusal.{Refusal}
 use Rattle.bits.specs.Bits.{val, bit_of}
 use Rattle.bits.specs.Fields.{get_bits}
-use Rattle.bits.specs.declared.Field.{Field}
-use Rattle.bits.specs.declared.Field.TheVariants.{Value, Truncated}
 use Rattle.fields.specs.Counts.{run_length, prefix}
 use Rattle.fields.specs.Code.{truncated_binary}
-use Rattle.fields.specs.declared.Prefix.{Prefix}
 use Rattle.medians.specs.Interval.{low_of, high_of}
 use Rattle.word_state.specs.State.{BitsRead, State, flip, due, with_bits, run_due, on_zeros}
 use Rattle.word_state.specs.State.{paid, in_run, unbroken, cleared, flagged, after}
 use Rattle.words.specs.Word.{Word, given, refused, on_field, on_prefix, value, plain, fresh, word}
 use Rattle.zones.specs.Report.{Report}
-use Rattle.readings.proofs.EveryLaws.{Every, every_field, every_prefix, every_cond, every_zeros}
+use Rattle.readings.proofs.EveryLaws.{two_prefix, Every, every_field, every_prefix, every_cond, every_zeros}
 
 -- ---- a word does not look at the totals
 
@@ -29,16 +28,15 @@ on_bits b (given v q t z) = given v q (with_bits b t) z
 on_bits b (refused c) = refused c
 
 module _ (b : BitsRead) where
-  field-bits : (f : Field) (n m : ℕ → ℕ → Word) → ((v q : ℕ) → n v q ≡ on_bits b (m v q))
+  field-bits : (f : Option (ℕ × ℕ)) (n m : ℕ → ℕ → Word) → ((v q : ℕ) → n v q ≡ on_bits b (m v q))
       → on_field f n ≡ on_bits b (on_field f m)
-  field-bits (Value v q) n m h = h v q
-  field-bits Truncated n m h = refl
+  field-bits (Some (v, q)) n m h = h v q
+  field-bits None n m h = refl
 
-  prefix-bits : (f : Prefix) (n m : ℕ → ℕ → Word) → ((v q : ℕ) → n v q ≡ on_bits b (m v q))
+  prefix-bits : (f : Result (ℕ × ℕ) Refusal) (n m : ℕ → ℕ → Word) → ((v q : ℕ) → n v q ≡ on_bits b (m v q))
       → on_prefix f n ≡ on_bits b (on_prefix f m)
-  prefix-bits (Prefix.Value v q) n m h = h v q
-  prefix-bits Prefix.EndOfStream n m h = refl
-  prefix-bits Prefix.Truncated n m h = refl
+  prefix-bits (Ok (v, q)) n m h = h v q
+  prefix-bits (Err refusal) n m h = refl
 
   cond-bits : (t : Bool) (x y x' y' : Word) → x ≡ on_bits b x' → y ≡ on_bits b y'
       → cond t x y ≡ on_bits b (cond t x' y')
@@ -104,7 +102,7 @@ module _ (c : ℕ) (b : BitsRead) where
   unfolding plain cleared flagged
   kept-plain bits p s h e =
       every_cond Kept Any (omega arith) s.last_zero _ _ (kept-value bits p 0 (cleared s) h e)
-      (every_prefix Kept Any (omega arith) (omega arith) (prefix bits p) _ λ r q.
+      (every_prefix Kept Any (omega arith) (omega arith) (two_prefix bits p) _ λ r q.
       kept-value bits q (r / 2 + val s.last_one) (flagged (bit_of (r % 2)) s) h e)
 
   kept_fresh : (bits : List Bool) (p : ℕ) (s : State) → s.channel ≡ c → s.bits_read ≡ b

@@ -9,13 +9,12 @@ use native.Mathlib.Omega.{arith}
 use lib.IntN.{pos}
 use lib.ListN.{length, get_or}
 use lib.Signed.{mag}
+use Rattle.std.specs.Prelude.{Option, Some, Result}
+use Rattle.answers.specs.declared.Refusal.{Refusal}
 use Rattle.bits.specs.Bits.{val, bit_of}
 use Rattle.bits.specs.Fields.{get_bits}
-use Rattle.bits.specs.declared.Field.{Field}
-use Rattle.bits.specs.declared.Field.TheVariants.{Value}
 use Rattle.fields.specs.Counts.{run_length, prefix}
 use Rattle.fields.specs.Code.{truncated_binary}
-use Rattle.fields.specs.declared.Prefix.{Prefix}
 use Rattle.fields.proofs.CodeLaws.{code-most}
 use Rattle.medians.specs.Interval.{low_of, high_of}
 use Rattle.medians.proofs.IntervalLaws.{ends}
@@ -23,7 +22,7 @@ use Rattle.word_state.specs.State.{State, due, paid, in_run, unbroken, cleared, 
 use Rattle.words.specs.Word.{Word, given, refused, signed, on_field, on_prefix, value, plain, fresh, word}
 use Rattle.zones.specs.Report.{none, zone_of}
 use Rattle.readings.specs.Reading.{Reading, on_word, more, reading}
-use Rattle.readings.proofs.EveryLaws.{Every, every_field, every_prefix, every_cond, every_zeros}
+use Rattle.readings.proofs.EveryLaws.{two_prefix, Two, Every, every_field, every_prefix, every_cond, every_zeros}
 
 -- ---- one word
 
@@ -31,11 +30,11 @@ use Rattle.readings.proofs.EveryLaws.{Every, every_field, every_prefix, every_co
 abbrev SmallWord : Word → Type 0
 SmallWord = Every (λ v q t. mag v < 2147483648) (λ c. c ≤ 4)
 
-abbrev small-field : (f : Field) (next : ℕ → ℕ → Word) → ((v q : ℕ) → f ≡ Value v q → SmallWord (next v q))
+abbrev small-field : (f : Option (ℕ × ℕ)) (next : ℕ → ℕ → Word) → ((v q : ℕ) → f ≡ Some (v, q) → SmallWord (next v q))
     → SmallWord (on_field f next)
 small-field = every_field (λ v q t. mag v < 2147483648) (λ c. c ≤ 4) (omega arith)
 
-abbrev small-prefix : (f : Prefix) (next : ℕ → ℕ → Word) → ((v q : ℕ) → SmallWord (next v q))
+abbrev small-prefix : {f : Result (ℕ × ℕ) Refusal} → Two f → (next : ℕ → ℕ → Word) → ((v q : ℕ) → SmallWord (next v q))
     → SmallWord (on_prefix f next)
 small-prefix = every_prefix (λ v q t. mag v < 2147483648) (λ c. c ≤ 4) (omega arith) (omega arith)
 
@@ -69,7 +68,7 @@ unfolding plain
 small_plain bits p s =
     let counted : ℕ → ℕ → Word = λ r q. value bits q (r / 2 + val s.last_one) (flagged (bit_of (r % 2)) s) in
     small-cond s.last_zero (value bits p 0 (cleared s)) (on_prefix (prefix bits p) counted) (small-value bits p 0 (cleared s))
-    (small-prefix (prefix bits p) counted λ r q. small-value bits q (r / 2 + val s.last_one) (flagged (bit_of (r % 2)) s))
+    (small-prefix (two_prefix bits p) counted λ r q. small-value bits q (r / 2 + val s.last_one) (flagged (bit_of (r % 2)) s))
 
 -- the run length before those
 small-fresh : (bits : List Bool) (p : ℕ) (s : State) → SmallWord (fresh bits p s)
