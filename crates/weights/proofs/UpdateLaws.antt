@@ -4,12 +4,12 @@ use mathlib.Core.Path.{◌≡◌, refl, ap}
 use Prim.Native.Nat.{zero, suc}
 use native.Mathlib.Omega.{arith}
 use lib.IntN.{ℤ, pos, negsuc, neg_ℤ, ◌+ℤ◌, +ℤ_idr, neg_ℤ-neg_ℤ}
-use mir.Syntax.{w32, w64}
-use mir.Val.{SFits, to_z, of_z}
+use mir.Syntax.{w32}
+use mir.Val.{SFits}
 use mir.ValLaws.{to_z-of_z}
 use Rattle.wrapping.specs.Wrap.{wrap32}
 use Rattle.wrapping.proofs.WrapLaws.{wrap_add, wrap_neg, wrap_id}
-use Rattle.wrapping.proofs.ReadBack.{reread, cast64}
+use Rattle.wrapping.proofs.ReadBack.{reread}
 use Rattle.weights.specs.Weights.{Way, way_of, moved, moved_clip, updated, updated_clip}
 use Rattle.weights.specs.Sign.{by_sign, chosen}
 use Rattle.weights.proofs.SignLaws.{way-sym, clip_chosen}
@@ -25,16 +25,6 @@ stepped w d (pos (suc n)) (negsuc m) h k = wrap_add w (neg_ℤ d)
 stepped w d (negsuc n) (pos zero) h k = rw (wrap_id (pos 0) (record { sfits = omega arith }), +ℤ_idr) (wrap_id w h)
 stepped w d (negsuc n) (pos (suc m)) h k = wrap_add w (neg_ℤ d)
 stepped w d (negsuc n) (negsuc m) h k = rw (wrap_neg (neg_ℤ d), neg_ℤ-neg_ℤ) (wrap_add w d)
-
--- `update_weight`, by what its calls answer
-pub update_raw : (w d x y : ℤ) {n f g h z : ℤ}
-    → n ≡ wrap32 (neg_ℤ (reread d)) → f ≡ by_sign (to_z w64 (of_z w64 (reread y))) (reread d) (reread n) (pos 0)
-    → h ≡ wrap32 (neg_ℤ (reread f)) → g ≡ by_sign (to_z w64 (of_z w64 (reread x))) (reread f) (reread h) (pos 0) → z ≡ wrap32 (reread w +ℤ reread g)
-    → SFits w32 w → SFits w32 d → SFits w32 x → SFits w32 y → SFits w32 n → SFits w32 f → SFits w32 g → SFits w32 h → SFits w32 z
-    → reread z ≡ updated w d x y
-update_raw w d x y {n} {f} {g} {h} {z} en ef eh eg ez fw fd fx fy fn ff fg fh fz =
-    rw (to_z-of_z w32 z fz, ez, to_z-of_z w32 g fg, eg, to_z-of_z w32 h fh, eh, to_z-of_z w32 f ff, ef, to_z-of_z w32 n fn, en, cast64 x fx, cast64 y fy, to_z-of_z w32 d fd, to_z-of_z w32 w fw)
-    (stepped w d x y fw fd)
 
 -- the clipped updates, by what their calls answer
 pub clip_raw : (w d x y : ℤ) {u v z : ℤ}

@@ -16,36 +16,36 @@ ghost use Rattle.weights.specs.Sign.{by_sign, chosen};
 pub fn apply_weight(weight: i32, source: i32) -> i32
     ensures { result ≡ predict weight source }
 {
-    let product = weight as i64 * source as i64 + 512;
-    wrapping::narrow(wrapping::shift_right_10(product))
+    let product = i64::from(weight) * i64::from(source) + 512;
+    wrapping::narrow(product >> 10)
 }
 
 // The sample that a residual stands for.
 pub fn sample_of(weight: i32, source: i32, res: i32) -> i32
     ensures { result ≡ sample weight source res }
 {
-    wrapping::wrapping_add(apply_weight(weight, source), res)
+    apply_weight(weight, source).wrapping_add(res)
 }
 
 // The residual that stands for a sample.
 pub fn residual_of(weight: i32, source: i32, x: i32) -> i32
     ensures { result ≡ residual weight source x }
 {
-    wrapping::wrapping_sub(x, apply_weight(weight, source))
+    x.wrapping_sub(apply_weight(weight, source))
 }
 
 // The source of term 17, from the last sample and the one before it.
 pub fn source_17(last: i32, before: i32) -> i32
     ensures { result ≡ source17 last before }
 {
-    wrapping::wrapping_sub(wrapping::wrapping_mul2(last), before)
+    last.wrapping_mul(2).wrapping_sub(before)
 }
 
 // The source of term 18, from the last sample and the one before it.
 pub fn source_18(last: i32, before: i32) -> i32
     ensures { result ≡ source18 last before }
 {
-    wrapping::shift_right_1(wrapping::wrapping_sub(wrapping::wrapping_mul3(last), before))
+    last.wrapping_mul(3).wrapping_sub(before) >> 1
 }
 
 // `up` where x is above 0, `down` where it is below, else `still`.
@@ -54,8 +54,10 @@ fn by_sign(x: i64, up: i32, down: i32, still: i32) -> i32
 {
     if x > 0 {
         up
+    } else if x < 0 {
+        down
     } else {
-        if x < 0 { down } else { still }
+        still
     }
 }
 
@@ -64,50 +66,46 @@ fn by_sign(x: i64, up: i32, down: i32, still: i32) -> i32
 fn by_product(x: i32, y: i32, up: i32, down: i32, still: i32) -> i32
     ensures { result ≡ chosen (way_of x y) up down still }
 {
-    by_sign(x as i64 * y as i64, up, down, still)
+    by_sign(i64::from(x) * i64::from(y), up, down, still)
 }
 
 // The same by one sign after the other.
 fn by_both(late: i32, early: i32, up: i32, down: i32, still: i32) -> i32
     ensures { result ≡ chosen (way_of late early) up down still }
 {
-    let e = early as i64;
-    by_sign(
-        late as i64,
-        by_sign(e, up, down, still),
-        by_sign(e, down, up, still),
-        still,
-    )
+    let agree = by_sign(i64::from(early), up, down, still);
+    let differ = by_sign(i64::from(early), down, up, still);
+    by_sign(i64::from(late), agree, differ, still)
 }
 
 // The weight after a step of a term that does not clip; source and residual in either order.
 pub fn update_weight(weight: i32, delta: i32, late: i32, early: i32) -> i32
     ensures { result ≡ updated weight delta late early }
 {
-    let by_early = by_sign(early as i64, delta, wrapping::wrapping_neg(delta), 0);
-    let by_late = by_sign(late as i64, by_early, wrapping::wrapping_neg(by_early), 0);
-    wrapping::wrapping_add(weight, by_late)
+    let by_early = by_sign(i64::from(early), delta, delta.wrapping_neg(), 0);
+    let by_late = by_sign(i64::from(late), by_early, by_early.wrapping_neg(), 0);
+    weight.wrapping_add(by_late)
 }
 
 // x, and 1024 where x is above it.
 fn at_most_1024(x: i32) -> i32
     ensures { result ≡ at_most1024 x }
 {
-    if x > 1024 { 1024 } else { x }
+    x.min(1024)
 }
 
 // A cross weight that grows.
 fn up_clip(weight: i32, delta: i32) -> i32
     ensures { result ≡ moved_clip Way.up weight delta }
 {
-    at_most_1024(wrapping::wrapping_add(weight, delta))
+    at_most_1024(weight.wrapping_add(delta))
 }
 
 // A cross weight that falls.
 fn down_clip(weight: i32, delta: i32) -> i32
     ensures { result ≡ moved_clip Way.down weight delta }
 {
-    wrapping::wrapping_neg(at_most_1024(wrapping::wrapping_sub(delta, weight)))
+    at_most_1024(delta.wrapping_sub(weight)).wrapping_neg()
 }
 
 // The weight after a step of a cross term, where the source is ready last.
