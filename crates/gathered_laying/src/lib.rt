@@ -8,8 +8,6 @@ ghost use Rattle.std.specs.Prelude.{◌≡◌, ◌+◌, ◌*◌, ◌^◌, ◌≤
 ghost use Rattle.bits.specs.Bits.{low};
 ghost use Rattle.bits.specs.Laid.{put};
 
-use wrapping::casts::u8_to_u64;
-
 // The `count` bits of `value`, from `at` on.
 pub fn put_gathered(out: &mut [u8], at: usize, value: u64, count: usize)
     requires room { (at ≤ 8)
@@ -20,11 +18,9 @@ pub fn put_gathered(out: &mut [u8], at: usize, value: u64, count: usize)
     ensures { out.new ≡ put out.old at (low count value) }
 {
     let end = at + count;
-    let mut left = u8_to_u64(out[0]) % (1 << at) + (value << at);
-    let mut i: usize = 0;
-    while 8 * i < end {
+    let mut left = u64::from(out[0]) % (1 << at) + (value << at);
+    for i in 0..end.div_ceil(8) {
         out[i] = (left % 256) as u8;
-        left = left / 256;
-        i = i + 1;
+        left /= 256;
     }
 }

@@ -6,26 +6,26 @@ use native.Mathlib.Omega.{arith}
 use borrow.Author.Rules.{rules}
 use Rattle.bits.proofs.GatheredLaws.{laying_start, laying_step, laying_end, Begun, begun}
 use Rattle.gathered_laying.proofs.put_gathered.Goals as goal
+use Rattle.gathered_laying.proofs.put_gathered.Goals.{After-from}
 
 -- what the code joins before the loop
-joins : (c : goal.After-u8_to_u64) →
+joins : (c : After-from) →
     Begun c.args.out.now c.args.at c.args.count c.args.value
-    (c.u8_to_u64.result % (1 * 2 ^ c.args.at % 2 ^ 64) + c.args.value * 2 ^ c.args.at % 2 ^ 64)
+    (c.from.result % (1 * 2 ^ c.args.at % 2 ^ 64) + c.args.value * 2 ^ c.args.at % 2 ^ 64)
 joins c =
-    rw c.u8_to_u64.ensures (begun c.args.out.now c.args.at c.args.count c.args.value (omega arith) (omega arith)
+    rw c.from.ensures (begun c.args.out.now c.args.at c.args.count c.args.value (omega arith) (omega arith)
     c.requires.value (omega arith) (omega arith))
 
 pub overflow_add-left : goal.overflow_add-left
 overflow_add-left c = record { fits = (joins (search rules)).fits }
 
 pub loop-i-init : goal.loop-i-init
-loop-i-init c = (omega arith, laying_start _ _ _ (joins (search rules)).begins)
+loop-i-init c = laying_start _ _ _ (joins (goal.at.loop-i-init c).After-from).begins
 
 pub loop-i-preserved : goal.loop-i-preserved
-loop-i-preserved c =
-    (omega arith, laying_step _ _ c.loop-i.out c.loop-i.left c.loop-i.i (omega arith) c.loop-i.invariant.1)
+loop-i-preserved c = laying_step _ _ c.loop-i.out c.loop-i.left c.loop-i.i (omega arith) c.loop-i.invariant
 
 pub returns : goal.returns
 returns c =
     laying_end c.args.out.now c.args.at c.args.count c.args.value c.loop-i.out c.loop-i.left c.loop-i.i (omega arith)
-    (omega arith) (omega arith) (omega arith) c.loop-i.invariant.1
+    (omega arith) (omega arith) (omega arith) c.loop-i.invariant
