@@ -14,7 +14,6 @@ ghost use Rattle.fields.specs.Gathered.{Gathers};
 
 use bit_laying::{put_bits, put_unary};
 use fields::{Gathered, bit_length};
-use wrapping::casts::u32_to_u64;
 
 // The bits of a code as a number, where a code below `extras` has `digits` bits and any other one
 // more.
@@ -52,7 +51,7 @@ pub fn gather_code(code: u32, last: u32, sign: u32) -> Gathered
     let value = code_value(code, extras, digits);
     let count = code_count(code, extras, digits);
     Gathered {
-        value: u32_to_u64(value) + (u32_to_u64(sign) << count),
+        value: u64::from(value) + (u64::from(sign) << count),
         count: count + 1,
     }
 }

@@ -41,7 +41,7 @@ pub code_count-count-requires : goal.code_count-count-requires
 code_count-count-requires c = let u = parts (search rules) in omega arith
 
 -- the code's bits are those of the definition
-is_code : (c : goal.After-u32_to_u64-2) →
+is_code : (c : goal.After-from-2) →
     let b = c.bit_length.result in
     code_bits (b - 1 + 1) (2 * 2 ^ (b - 1) % 2 ^ 32 - c.args.last - 1) c.args.code ≡ code_field c.args.last
     c.args.code
@@ -52,7 +52,7 @@ is_code c =
     let e : b - 1 + 1 ≡ b = omega arith in
     rw (shifted (after-bit-length), e) (sym u.is)
 
-few : (c : goal.After-u32_to_u64-2) → c.code_count-count.result ≤ 28
+few : (c : goal.After-from-2) → c.code_count-count.result ≤ 28
 few c =
     omega (
       arith,
@@ -61,16 +61,16 @@ few c =
       code-long c.args.last c.args.code 28 (omega arith) (omega arith),
     )
 
-whole : (c : goal.After-u32_to_u64-2) → Joined (code_field c.args.last c.args.code)
-    (low 1 c.args.sign) c.u32_to_u64.result
-    c.code_count-count.result c.u32_to_u64-2.result
+whole : (c : goal.After-from-2) → Joined (code_field c.args.last c.args.code)
+    (low 1 c.args.sign) c.from.result
+    c.code_count-count.result c.from-2.result
 whole c =
     let l : c.args.sign < 2 ^ 1 = omega arith in
-    joined (code_field c.args.last c.args.code) (low 1 c.args.sign) c.u32_to_u64.result
-    c.code_count-count.result c.u32_to_u64-2.result
-    (c.u32_to_u64.ensures ∙ c.code_value-value.ensures ∙ ap num (is_code (search rules)))
+    joined (code_field c.args.last c.args.code) (low 1 c.args.sign) c.from.result
+    c.code_count-count.result c.from-2.result
+    (c.from.ensures ∙ c.code_value-value.ensures ∙ ap num (is_code (search rules)))
     (c.code_count-count.ensures ∙ ap length (is_code (search rules)))
-    (c.u32_to_u64-2.ensures ∙ sym (num-low 1 c.args.sign ∙ mod-eq_of_lt l))
+    (c.from-2.ensures ∙ sym (num-low 1 c.args.sign ∙ mod-eq_of_lt l))
     (omega (
       arith,
       length-low 1 c.args.sign,
