@@ -11,7 +11,7 @@ use lib.Seq.{take_all}
 use mir.Syntax.{w32}
 use mir.ValLaws.{to_z-of_z}
 use borrow.Author.Tests.{ne_eqb, eqb-true, eqb-false}
-use Rattle.answers.specs.declared.Outcome.{Outcome}
+use Rattle.std.specs.Prelude.{Ok}
 use Rattle.answers.specs.Guard.{or_else, unless_refused}
 use Rattle.answers.specs.Numbers.{outcome_number}
 use Rattle.answers.proofs.GuardLaws.{guard_refused, guard_accepted}
@@ -173,7 +173,7 @@ sets-answer p l r a b {n} {i} f g e t h k = go a b f g e t
 
 -- a set that is not there
 abbrev pub no_set : SetAnswer
-no_set = record { outcome = Outcome.Accepted; medians = zero_words }
+no_set = record { outcome = Ok tt; medians = zero_words }
 
 -- 6 bytes; there is no right set
 pub mono-answer : (p : List ℕ) (l : SetAnswer) {n : ℕ} {i : EntropyInfo} → is_mono p ≡ true → outcome_number l.outcome ≡ set_refusal p → l.medians ≡ set_told p

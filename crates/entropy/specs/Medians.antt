@@ -29,6 +29,10 @@ medians_of a = record { m0 = get_or a.values 0 0; m1 = get_or a.values 1 0; m2 =
 abbrev pub zero_set : AdaptiveMedians
 zero_set = record { values = 0 ∷ 0 ∷ 0 ∷ [] }
 
+-- both sets 0
+abbrev pub zero_sets : List AdaptiveMedians
+zero_sets = zero_set ∷ zero_set ∷ []
+
 -- the two sets that an array of two holds: channel 0 is left, channel 1 right
 abbrev pub pair_of : List AdaptiveMedians → MedianPair
 pair_of sets = record { left = medians_of (get_or sets 0 zero_set); right = medians_of (get_or sets 1 zero_set) }

@@ -4,12 +4,17 @@
 
 #![tactic(auto)]
 
-use answers::Outcome;
+use answers::Refusal;
 
 // The three adaptive medians of one channel.
 #[derive(Clone, Copy)]
 pub struct AdaptiveMedians {
     pub values: [u32; 3],
+}
+
+impl AdaptiveMedians {
+    // Those after a run of zeros.
+    pub const ZERO: AdaptiveMedians = AdaptiveMedians { values: [0; 3] };
 }
 
 // The two sets of signed medians of an entropy payload. A mono payload has no right set; its right
@@ -20,23 +25,10 @@ pub struct EntropyInfo {
     pub medians_right: [i32; 3],
 }
 
-// What expanding one set answers; the median of a refused word is 0.
+// What expanding one set answers. Of a refused set the words that are not refused are told too, so it
+// is no `Result` of medians (clause `medians` of `read_median_set`); the median of a refused word is 0.
 #[derive(Clone, Copy)]
 pub struct SetAnswer {
-    pub outcome: Outcome,
+    pub outcome: Result<(), Refusal>,
     pub medians: [i32; 3],
-}
-
-// What expanding an entropy payload answers; on refusal all medians are 0.
-#[derive(Clone, Copy)]
-pub struct EntropyAnswer {
-    pub outcome: Outcome,
-    pub info: EntropyInfo,
-}
-
-// The medians of both channels, left first, that an entropy payload seeds; on refusal all are 0.
-#[derive(Clone, Copy)]
-pub struct MedianAnswer {
-    pub outcome: Outcome,
-    pub medians: [AdaptiveMedians; 2],
 }
