@@ -1,10 +1,11 @@
 -- What every refusal number is, and the number of the first of two outcomes.
 -- Assumes nothing.
-use mathlib.Core.Path.{◌≡◌, sym, ap, ◌∙◌}
-use Prim.Native.Nat.{ℕ, ◌<◌}
+use mathlib.Core.Path.{◌≡◌, refl, sym, ap, ◌∙◌}
+use Prim.Native.Nat.{ℕ, zero, suc, ◌<◌}
 use native.Mathlib.Omega.{arith}
 use Rattle.answers.specs.declared.Refusal.{Refusal}
 use Rattle.std.specs.Prelude.{Result, Ok, Err}
+use Rattle.std.specs.Result.{result_and}
 use Rattle.answers.specs.Guard.{or_else}
 use Rattle.answers.specs.Numbers.{number_of, outcome_number}
 use Rattle.answers.proofs.GuardLaws.{refused-first}
@@ -44,3 +45,13 @@ module _ {T : Type 0} where
 pub second_decides : {T U : Type 0} (o : Result T Refusal) (r : Result U Refusal) (v : T) (m later : ℕ) → o ≡ Ok v → outcome_number o ≡ m
     → outcome_number r ≡ later → outcome_number r ≡ or_else m later
 second_decides o r v m later s e t = let z : m ≡ 0 = sym e ∙ ap outcome_number s in rw z t
+
+-- of two answers, one after the other, the first refusal is told
+pub and_outcome : {T U : Type 0} (o : Result T Refusal) (r : Result U Refusal) → outcome_number (result_and o r) ≡ or_else (outcome_number o) (outcome_number r)
+and_outcome (Ok v) r = refl
+and_outcome (Err q) r = sym (refused-first (number_of q) (outcome_number r) (number-positive q))
+
+-- what only accepts adds no refusal
+pub or_none : (n : ℕ) → or_else n 0 ≡ n
+or_none zero = refl
+or_none (suc n) = refl

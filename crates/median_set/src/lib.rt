@@ -7,7 +7,6 @@ ghost use Rattle.std.specs.Prelude.{◌≡◌, ◌≤◌, length};
 ghost use Rattle.answers.specs.Numbers.{outcome_number};
 ghost use Rattle.entropy.specs.Sets.{set_refusal, set_told};
 
-use answers::or_else;
 use entropy::SetAnswer;
 
 // Three log words, from the first six bytes. Refuses with 17 where one of them is out of reach.
@@ -19,11 +18,8 @@ pub fn read_median_set(set: &[u8]) -> SetAnswer
     let first = logpack::expand_log_word(set[0], set[1]);
     let second = logpack::expand_log_word(set[2], set[3]);
     let third = logpack::expand_log_word(set[4], set[5]);
-    let of_first = first.outcome;
-    let of_second = second.outcome;
-    let of_third = third.outcome;
     SetAnswer {
-        outcome: or_else(or_else(of_first, of_second), of_third),
-        medians: [first.value, second.value, third.value],
+        outcome: first.and(second).and(third).and(Ok(())),
+        medians: [first.unwrap_or(0), second.unwrap_or(0), third.unwrap_or(0)],
     }
 }

@@ -4,27 +4,22 @@
 #![tactic(auto)]
 
 ghost use Rattle.std.specs.Prelude.{◌≡◌, false};
+ghost use Rattle.std.specs.Result.{result_unwrap_or};
 ghost use Rattle.answers.specs.Numbers.{outcome_number};
-ghost use Rattle.entropy.specs.Medians.{medians_of, pair_of, zero_pair};
+ghost use Rattle.entropy.specs.Medians.{medians_of, pair_of, zero_sets};
 ghost use Rattle.entropy.specs.Entropy.{entropy_info};
 ghost use Rattle.entropy.specs.Seed.{any_negative, not_stereo, seed_set};
 ghost use Rattle.entropy.specs.Seed.{seed_refusal, seed_medians};
 
-use answers::{Outcome, Refusal};
-use entropy::{AdaptiveMedians, EntropyInfo, MedianAnswer};
+use answers::Refusal;
+use entropy::{AdaptiveMedians, EntropyInfo};
 use entropy_info::{expand_entropy, is_mono};
 
 // Whether a set holds a negative median.
 fn any_negative(set: [i32; 3]) -> bool
     ensures { result ≡ any_negative set }
 {
-    if set[0] < 0 {
-        return true;
-    }
-    if set[1] < 0 {
-        return true;
-    }
-    set[2] < 0
+    set[0] < 0 || set[1] < 0 || set[2] < 0
 }
 
 // The test behind refusal 2: whether a payload is mono, or holds a negative median. `info` is what
@@ -33,15 +28,7 @@ fn is_not_stereo(payload: &[u8], info: EntropyInfo) -> bool
     requires { info ≡ entropy_info payload.now }
     ensures { result ≡ not_stereo payload.now }
 {
-    let left = info.medians_left;
-    let right = info.medians_right;
-    if is_mono(payload) {
-        return true;
-    }
-    if any_negative(left) {
-        return true;
-    }
-    any_negative(right)
+    is_mono(payload) || any_negative(info.medians_left) || any_negative(info.medians_right)
 }
 
 // A set without a negative median, as the medians of a word state.
@@ -54,38 +41,16 @@ fn seed_set(set: [i32; 3]) -> AdaptiveMedians
     }
 }
 
-// A refused seed: all medians 0.
-fn no_seed(outcome: Outcome) -> MedianAnswer
-    ensures outcome { result.outcome ≡ outcome }
-    ensures medians { pair_of result.medians ≡ zero_pair }
-{
-    let none = AdaptiveMedians { values: [0, 0, 0] };
-    MedianAnswer {
-        outcome: outcome,
-        medians: [none, none],
-    }
-}
-
 // Answers the medians that an entropy payload seeds. Refuses with 1 where its length is neither 6
 // nor 12, with 17 where a log word is out of reach, then with 2 where it is mono or holds a negative
 // median.
-pub fn stereo_pair_from_entropy(payload: &[u8]) -> MedianAnswer
-    ensures outcome { outcome_number result.outcome ≡ seed_refusal payload.now }
-    ensures medians { pair_of result.medians ≡ seed_medians payload.now }
+pub fn stereo_pair_from_entropy(payload: &[u8]) -> Result<[AdaptiveMedians; 2], Refusal>
+    ensures outcome { outcome_number result ≡ seed_refusal payload.now }
+    ensures medians { pair_of (result_unwrap_or result zero_sets) ≡ seed_medians payload.now }
 {
-    let expanded = expand_entropy(payload);
-    let outcome = expanded.outcome;
-    let info = expanded.info;
-    let Outcome::Accepted = outcome else {
-        return no_seed(outcome);
-    };
+    let info = expand_entropy(payload)?;
     if is_not_stereo(payload, info) {
-        return no_seed(Outcome::Refused(Refusal::NotStereo));
+        return Err(Refusal::NotStereo);
     }
-    let left = info.medians_left;
-    let right = info.medians_right;
-    MedianAnswer {
-        outcome: Outcome::Accepted,
-        medians: [seed_set(left), seed_set(right)],
-    }
+    Ok([seed_set(info.medians_left), seed_set(info.medians_right)])
 }

@@ -1,8 +1,7 @@
 -- `entropy_info::expand_entropy` meets its contract: one law for each of the three kinds of length.
 -- Assumes nothing.
-use mathlib.Core.Path.{sym, ap, ◌∙◌}
+use mathlib.Core.Path.{refl, sym, ◌∙◌}
 use native.Mathlib.Omega.{arith}
-use Rattle.answers.specs.Numbers.{outcome_number}
 use Rattle.entropy.proofs.EntropyLaws.{mono-length, mono-answer, stereo-answer, no_answer}
 use Rattle.entropy_info.proofs.expand_entropy.Goals as goal
 
@@ -33,6 +32,5 @@ pub returns : goal.returns
 returns c =
     let h = sym c.is_mono.ensures ∙ c.if-is_mono.false in
     let all =
-    no_answer c.args.payload.now h c.if-payload-eq12.false
-    (ap outcome_number c.no_medians.ensures.outcome) c.no_medians.ensures.info in
+    no_answer c.args.payload.now h c.if-payload-eq12.false refl refl in
     record { outcome = all.0; info = all.1 }
