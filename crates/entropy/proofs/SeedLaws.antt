@@ -13,10 +13,6 @@ use lib.Signed.{non_neg}
 use mir.Syntax.{w32}
 use mir.Val.{Fits, SFits, to_z, of_z}
 use mir.ValLaws.{to_z-of_z}
-use Rattle.answers.specs.declared.Refusal.{Refusal}
-use Rattle.std.specs.Prelude.{Result, Ok, Err}
-use Rattle.answers.specs.Numbers.{number_of, outcome_number}
-use Rattle.answers.proofs.NumberLaws.{number-positive}
 use Rattle.answers.proofs.TestLaws.{neither}
 use Rattle.entropy.specs.declared.EntropyInfo.{EntropyInfo}
 use Rattle.entropy.specs.Medians.{Medians, MedianPair, zero_pair}
@@ -89,13 +85,6 @@ pub natural : (z : ℤ) → SFits w32 z → is_negative z ≡ false → T (non_n
 natural (pos n) f e = rw (to_z-of_z w32 (pos n) f) (tt, record { fits = omega (arith, f.sfits) })
 natural (negsuc n) f e = absurd (let z : ◌≡◌ {A = ℕ} 0 1 = cc in omega arith)
 
--- The three answers again, as the code comes by them: the expanded payload has outcome o and sets
--- i, the answer medians m.
-pub length-refused-raw : (p : List ℕ) (o : Result EntropyInfo Refusal) (r : Refusal) → o ≡ Err r → outcome_number o ≡ entropy_refusal p → Seeds p (number_of r) zero_pair
-length-refused-raw p o r f g = length-refused p (number_of r) (number-positive r) (rw f at g)
-
-pub not_stereo-raw : (p : List ℕ) (o : Result EntropyInfo Refusal) (i : EntropyInfo) → o ≡ Ok i → outcome_number o ≡ entropy_refusal p → not_stereo p ≡ true → Seeds p 2 zero_pair
-not_stereo-raw p o i f g t = not_stereo_lem p (rw f at g) t
-
-pub accepted-raw : (p : List ℕ) (o : Result EntropyInfo Refusal) (i : EntropyInfo) (a b : Medians) → o ≡ Ok i → outcome_number o ≡ entropy_refusal p → i ≡ entropy_info p → not_stereo p ≡ false → a ≡ seed_set i.medians_left → b ≡ seed_set i.medians_right → Seeds p 0 (record { left = a; right = b })
-accepted-raw p o i a b f g j t ha hb = rw (ha, hb, j) (accepted p (rw f at g) t)
+-- with the sets i that the payload expands to, as the code holds them
+pub accepted-raw : (p : List ℕ) (i : EntropyInfo) (a b : Medians) → 0 ≡ entropy_refusal p → i ≡ entropy_info p → not_stereo p ≡ false → a ≡ seed_set i.medians_left → b ≡ seed_set i.medians_right → Seeds p 0 (record { left = a; right = b })
+accepted-raw p i a b g j t ha hb = rw (ha, hb, j) (accepted p g t)

@@ -19,7 +19,7 @@ use entropy_info::{expand_entropy, is_mono};
 fn any_negative(set: [i32; 3]) -> bool
     ensures { result ≡ any_negative set }
 {
-    set[0] < 0 || set[1] < 0 || set[2] < 0
+    (set[0] < 0) | (set[1] < 0) | (set[2] < 0)
 }
 
 // The test behind refusal 2: whether a payload is mono, or holds a negative median. `info` is what
@@ -28,7 +28,7 @@ fn is_not_stereo(payload: &[u8], info: EntropyInfo) -> bool
     requires { info ≡ entropy_info payload.now }
     ensures { result ≡ not_stereo payload.now }
 {
-    is_mono(payload) || any_negative(info.medians_left) || any_negative(info.medians_right)
+    is_mono(payload) | any_negative(info.medians_left) | any_negative(info.medians_right)
 }
 
 // A set without a negative median, as the medians of a word state.
