@@ -8,15 +8,15 @@ use native.Mathlib.Omega.{arith}
 use borrow.Author.Tests.{ltb-false}
 use lib.Dec.{ltb}
 use lib.ListN.{length}
-use Rattle.answers.specs.declared.Outcome.{Outcome}
+use Rattle.std.specs.Prelude.{Ok, Err}
 use Rattle.answers.specs.declared.Refusal.{Refusal}
 use Rattle.answers.specs.Limits.{max_payload_bytes}
-use Rattle.answers.specs.Numbers.{outcome_number}
+use Rattle.answers.specs.Numbers.{number_of}
 use Rattle.overlay.specs.Overlay.{overlay}
 use Rattle.slots.proofs.FillLaws.{fill-short, fill-refused, fill-laid}
 use Rattle.archive.specs.Recording.{Recording, recording_bytes}
 use Rattle.archive.proofs.BlockLaws.{recording_length}
-use Rattle.archive_writer.specs.Write.{WriteTold, write_refusal, write_entry}
+use Rattle.archive_writer.specs.Write.{WriteTold, write_refusal, view_write, write_entry}
 use Rattle.archive_slots.specs.ArchiveSlots.{leave_write, write_call}
 
 module _ (r : Recording) (out : List ℕ) where
@@ -38,25 +38,20 @@ module _ (r : Recording) (out : List ℕ) where
 
 module _ (r : Recording) (out answer : List ℕ) where
   -- no slot: 6, and nothing is written
-  pub write_short : (n : ℕ) → n ≡ 6 → length answer < 1
-      → record { refusal = n; list = out; answer = answer } ≡ write_call r out answer
+  pub write_short : length answer < 1
+      → record { refusal = 6; list = out; answer = answer } ≡ write_call r out answer
   unfolding write_call
-  write_short n e h = fill-short 1 out _ answer _ _ n e h
+  write_short h = fill-short 1 out _ answer _ _ h
 
   -- what the writer refuses: the slot is as it was
-  pub write_refused : (o : Outcome) (x : Refusal) (b n : ℕ) (after : List ℕ) → 1 ≤ length answer
-      → record { refusal = outcome_number o; bytes = b; out = after } ≡ write_entry r out
-      → o ≡ Outcome.Refused x → n ≡ outcome_number o
-      → record { refusal = n; list = after; answer = answer } ≡ write_call r out answer
+  pub write_refused : (x : Refusal) (after : List ℕ) → 1 ≤ length answer → view_write (Err x) after ≡ write_entry r out
+      → record { refusal = number_of x; list = after; answer = answer } ≡ write_call r out answer
   unfolding write_call
-  write_refused o x b n after h e q k = fill-refused 1 out after answer (b ∷ []) o x n h q k
-      ∙ ap (leave_write out answer) e
+  write_refused x after h e = fill-refused 1 out after answer (0 ∷ []) x h ∙ ap (leave_write out answer) e
 
   -- what it accepts: the bytes written stand in the slot
-  pub write_laid : (o : Outcome) (b : ℕ) (after laid : List ℕ) → 1 ≤ length answer
-      → record { refusal = outcome_number o; bytes = b; out = after } ≡ write_entry r out
-      → o ≡ Outcome.Accepted → laid ≡ overlay answer 0 (b ∷ [])
+  pub write_laid : (b : ℕ) (after laid : List ℕ) → 1 ≤ length answer → view_write (Ok b) after ≡ write_entry r out
+      → laid ≡ overlay answer 0 (b ∷ [])
       → record { refusal = 0; list = after; answer = laid } ≡ write_call r out answer
   unfolding write_call
-  write_laid o b after laid h e q l = fill-laid 1 out after answer (b ∷ []) o laid h q l
-      ∙ ap (leave_write out answer) e
+  write_laid b after laid h e l = fill-laid 1 out after answer (b ∷ []) laid h l ∙ ap (leave_write out answer) e

@@ -3,13 +3,14 @@
 #![tactic(auto)]
 
 ghost use Rattle.std.specs.Prelude.{◌≡◌, [], ◌∷◌, ◌≤◌, length};
+ghost use Rattle.answers.specs.Numbers.{outcome_number};
 ghost use Rattle.overlay.specs.Overlay.{overlay};
 ghost use Rattle.archive_slots.specs.ArchiveSlots.{write_call, low_bits, read_call};
 
-use answers::{Outcome, Refusal, number, outcome_number};
-use archive_reader::read_archive;
+use answers::Refusal;
+use archive_reader::{ArchiveFault, read_archive};
 use archive_writer::write_recording;
-use slots::lay_words;
+use slots::lay;
 
 // `wv_archive_write`: the blocks of a recording into `out`, and into 1 slot how many bytes they have.
 // Refuses 6 for `answer`, then 5 and 11; both lists are then as they were.
@@ -20,22 +21,17 @@ pub fn write_call(
     payload: &[u8],
     out: &mut [u8],
     answer: &mut [u32],
-) -> u32
-    ensures { record { refusal = result; list = out.new; answer = answer.new }
+) -> Result<(), Refusal>
+    ensures { record { refusal = outcome_number result; list = out.new; answer = answer.new }
         ≡ write_call (record { house = house; start = start; issue = issue; payload = payload.now })
         out.old answer.old }
 {
     if answer.len() < 1 {
-        return number(Refusal::ListLength);
+        return Err(Refusal::ListLength);
     }
-    let told = write_recording(house, start, issue, payload, out);
-    let outcome = told.outcome;
-    let Outcome::Accepted = outcome else {
-        return outcome_number(outcome);
-    };
-    let values = [told.bytes as u32];
-    lay_words(&values, 0, answer);
-    0
+    let written = write_recording(house, start, issue, payload, out)?;
+    lay(&[written as u32], 0, answer);
+    Ok(())
 }
 
 // Lays two numbers, each kept to its low 32 bits, into the first 2 slots.
@@ -44,7 +40,7 @@ fn lay_two(first: usize, second: usize, answer: &mut [u32])
     ensures { answer.new ≡ overlay answer.old 0 (low_bits first ∷ low_bits second ∷ []) }
 {
     let values = [(first % 4294967296) as u32, (second % 4294967296) as u32];
-    lay_words(&values, 0, answer);
+    lay(&values, 0, answer);
 }
 
 // `wv_archive_read`: the recordings in force into `list`, 4 numbers each, their payloads into `payloads`,
@@ -52,9 +48,14 @@ fn lay_two(first: usize, second: usize, answer: &mut [u32])
 // written; then 18, with the bad block and 0 in the 2 slots, 19 and 11. Each refusal leaves `list` and
 // `payloads` as they were, and each but 18 `answer` too.
 #[tactic(auto, using(crate::proofs::ReadSlotLaws::short_answer))]
-pub fn read_call(file: &[u8], list: &mut [u32], payloads: &mut [u8], answer: &mut [u32]) -> u32
+pub fn read_call(
+    file: &[u8],
+    list: &mut [u32],
+    payloads: &mut [u8],
+    answer: &mut [u32],
+) -> Result<(), Refusal>
     ensures { record {
-      refusal = result;
+      refusal = outcome_number result;
       list = list.new;
       payloads = payloads.new;
       answer = answer.new;
@@ -62,18 +63,18 @@ pub fn read_call(file: &[u8], list: &mut [u32], payloads: &mut [u8], answer: &mu
         ≡ read_call file.now list.old payloads.old answer.old }
 {
     if answer.len() < 2 {
-        return number(Refusal::ListLength);
+        return Err(Refusal::ListLength);
     }
-    let told = read_archive(file, list, payloads);
-    let outcome = told.outcome;
-    let refused = outcome_number(outcome);
-    if refused == 0 {
-        lay_two(told.recordings, told.bytes, answer);
-        return refused;
+    match read_archive(file, list, payloads) {
+        Ok(contents) => {
+            lay_two(contents.recordings, contents.bytes, answer);
+            Ok(())
+        }
+        Err(ArchiveFault::BadBlock { block }) => {
+            lay_two(block, 0, answer);
+            Err(Refusal::BadBlock)
+        }
+        Err(ArchiveFault::RecordingTwice) => Err(Refusal::RecordingTwice),
+        Err(ArchiveFault::OutputTooShort) => Err(Refusal::OutputTooShort),
     }
-    if refused == number(Refusal::BadBlock) {
-        lay_two(told.block, 0, answer);
-        return refused;
-    }
-    refused
 }

@@ -1,23 +1,20 @@
--- `archive_slots::read_call` meets its contract: one law for each of its four answers.
+-- `archive_slots::read_call` meets its contract: one law for each of its answers.
 -- Assumes nothing.
-use mathlib.Core.Path.{sym, ◌∙◌}
-use native.Mathlib.Omega.{arith}
-use Rattle.archive_slots.proofs.ReadSlotLaws.{read-laid, read_bad, read-refused}
+use Rattle.archive_slots.proofs.ReadSlotLaws.{read-laid, read_bad, read-twice, storage-short}
 use Rattle.archive_slots.proofs.read_call.Goals as goal
 
-pub returns-then-refused-eq0 : goal.returns-then-refused-eq0
-returns-then-refused-eq0 c =
-    read-laid _ _ _ _ _ _ _ _ _ _ (omega arith) c.read_archive-told.ensures _ _
-    c.outcome_number-refused.ensures c.if-refused-eq0.true c.lay_two.ensures
+pub returns-in-Ok : goal.returns-in-Ok
+returns-in-Ok c = read-laid _ _ _ _ _ _ c.if-answer-lt2.false _ _ c.in-Ok.ensures c.lay_two.ensures
 
-pub returns-then-refused-number : goal.returns-then-refused-number
-returns-then-refused-number c =
-    read_bad _ _ _ _ _ _ _ _ _ _ (omega arith) c.read_archive-told.ensures _ _
-    c.outcome_number-refused.ensures (c.if-refused-number.true ∙ c.number-2.ensures)
-    c.lay_two-then-refused-number.ensures
+pub returns-in-Err-BadBlock : goal.returns-in-Err-BadBlock
+returns-in-Err-BadBlock c =
+    read_bad _ _ _ _ _ _ c.if-answer-lt2.false _ _ (rw c.in-Err-BadBlock.field-0-is at c.in-Err-BadBlock.ensures)
+    c.lay_two-in-Err-BadBlock.ensures
 
-pub returns : goal.returns
-returns c =
-    read-refused _ _ _ _ _ _ _ _ _ _ (omega arith) c.read_archive-told.ensures _
-    c.outcome_number-refused.ensures c.if-refused-eq0.false
-    (λ e. c.if-refused-number.false (e ∙ sym c.number-2.ensures))
+pub returns-in-Err-RecordingTwice : goal.returns-in-Err-RecordingTwice
+returns-in-Err-RecordingTwice c =
+    read-twice _ _ _ _ _ _ c.if-answer-lt2.false (rw c.in-Err-RecordingTwice.field-0-is at c.in-Err-RecordingTwice.ensures)
+
+pub returns-in-Err-OutputTooShort : goal.returns-in-Err-OutputTooShort
+returns-in-Err-OutputTooShort c =
+    storage-short _ _ _ _ _ _ c.if-answer-lt2.false (rw c.in-Err-OutputTooShort.field-0-is at c.in-Err-OutputTooShort.ensures)
