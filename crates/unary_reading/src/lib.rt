@@ -21,11 +21,11 @@ fn get_unary_in_bytes(s: &[u8], at: usize) -> Option<(u32, usize)>
     let mut p = at;
     while p / 8 < s.len() {
         let k = p % 8;
-        let n = u8::trailing_zeros(!(s[p / 8] >> k)) as usize;
+        let n = (s[p / 8] >> k).trailing_ones() as usize;
         if n + k < 8 {
             return Some(((p + n - at) as u32, p + n + 1));
         }
-        p = p + n;
+        p += n;
     }
     None
 }
@@ -39,11 +39,11 @@ pub fn get_unary(s: &[u8], at: usize) -> Option<(u32, usize)>
     let mut p = at;
     while p / 8 + 8 <= s.len() {
         let k = p % 8;
-        let n = u64::trailing_zeros(!(eight(s, p / 8) >> k)) as usize;
+        let n = (eight(s, p / 8) >> k).trailing_ones() as usize;
         if n + k < 64 {
             return Some(((p + n - at) as u32, p + n + 1));
         }
-        p = p + 64 - k;
+        p += 64 - k;
     }
     let (n, next) = get_unary_in_bytes(s, p)?;
     Some(((p - at) as u32 + n, next))

@@ -16,19 +16,20 @@ use Rattle.bits.proofs.Window.{place-window}
 use Rattle.unary_reading.proofs.get_unary.Goals as goal
 
 -- what the count of the window at p says
-here : (s : List ℕ) (p w : ℕ) → p / 8 + 8 ≤ length s → w ≡ num (bits_of (take 8 (drop (p / 8) s))) →
-    Counted (bits_of s) p (8 * 8 - p % 8) (count_trailing_zeros 64 (2 ^ 64 - 1 - w / 2 ^ (p % 8)))
-here s p w inside e =
-    counted (bits_of s) p (8 * 8 - p % 8) 64 _ (place-window s p 8 _ (omega arith) (omega arith) e) (omega arith)
+here : (s : List ℕ) (p w n : ℕ) → p / 8 + 8 ≤ length s → w ≡ num (bits_of (take 8 (drop (p / 8) s)))
+    → n ≡ count_trailing_zeros 64 (2 ^ 64 - 1 - w / 2 ^ (p % 8))
+    → Counted (bits_of s) p (8 * 8 - p % 8) n
+here s p w n inside e f =
+    rw f (counted (bits_of s) p (8 * 8 - p % 8) 64 _ (place-window s p 8 _ (omega arith) (omega arith) e) (omega arith))
 
 pub returns-then-n-k-lt64 : goal.returns-then-n-k-lt64
 returns-then-n-k-lt64 c =
-    let h = here c.args.s.now c.loop-p.p c.eight.result (omega arith) c.eight.ensures in
+    let h = here c.args.s.now c.loop-p.p _ _ (omega arith) c.eight.ensures c.trailing_ones-n.ensures in
     sym (passed-stop c.loop-p.invariant h (omega arith))
 
 pub loop-p-preserved : goal.loop-p-preserved
 loop-p-preserved c =
-    let h = here c.args.s.now c.loop-p.p c.eight.result (omega arith) c.eight.ensures in
+    let h = here c.args.s.now c.loop-p.p _ _ (omega arith) c.eight.ensures c.trailing_ones-n.ensures in
     passed_on _ c.loop-p.invariant h (omega arith) (omega arith)
 
 pub returns-in_err-n : goal.returns-in_err-n
