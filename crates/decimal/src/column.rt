@@ -25,12 +25,10 @@ fn put_front(out: &mut [u8], at: usize, width: usize, left: u32)
     requires wide { Room width left }
     ensures { out.new ≡ overlay out.old at (front width left) }
 {
-    let mut place = at + width;
     let mut rest = left;
-    while place > at {
-        place = place - 1;
+    for place in (at..at + width).rev() {
         out[place] = mark(rest);
-        rest = rest / 10;
+        rest /= 10;
     }
 }
 

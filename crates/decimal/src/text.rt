@@ -2,6 +2,8 @@
 ghost use Rattle.std.specs.Prelude.{[], ◌∷◌, ◌+◌, ◌≤◌, ◌<◌, length};
 ghost use Rattle.decimal.specs.TextPut.{TextPut};
 
+use overlay::lay;
+
 // Lays one byte.
 pub fn put_byte(out: &mut [u8], at: usize, byte: u8) -> usize
     requires { at < length out.old }
@@ -16,11 +18,6 @@ pub fn put_text(out: &mut [u8], at: usize, text: &[u8]) -> usize
     requires { at + length text.now ≤ length out.old }
     ensures { TextPut out.old out.new at result text.now }
 {
-    let mut place = at;
-    let mut i = 0;
-    while i < text.len() {
-        place = put_byte(out, place, text[i]);
-        i += 1;
-    }
-    place
+    lay(text, at, out);
+    at + text.len()
 }

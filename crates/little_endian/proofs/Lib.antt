@@ -1,4 +1,3 @@
 -- What other crates cite.
 pub mod LittleEndianLaws
-pub mod PatternLaws
 pub mod StoreLaws

@@ -7,7 +7,6 @@ use native.Mathlib.Omega.{arith}
 use lib.ListN.{length, get_or, set, take, drop}
 use lib.Seq.{sets-eq, drop-cons}
 use Rattle.overlay.specs.Overlay.{overlay}
-use Rattle.little_endian.specs.LittleEndian.{little_endian}
 
 -- four stores lay four bytes
 pub four-laid : (out : List ℕ) (at a b c d : ℕ) (bytes : List ℕ) → at + 4 ≤ length out → a ∷ b ∷ c ∷ d ∷ [] ≡ bytes
@@ -18,11 +17,6 @@ four-laid out at a b c d bytes h e =
     let two : at + 2 ≡ suc (suc at) = omega arith in
     let three : at + 3 ≡ suc (suc (suc at)) = omega arith in
     rw (one, two, three, ← e) (sets-eq (a ∷ b ∷ c ∷ d ∷ []) out at h)
-
--- the bytes of a number, one by one
-pub number_is : (n : ℕ) (bytes : List ℕ) → bytes ≡ little_endian 4 n → get_or bytes 0 0 ∷ get_or bytes 1 0 ∷ get_or bytes 2 0 ∷ get_or bytes 3 0 ∷ [] ≡ little_endian 4 n
-unfolding little_endian
-number_is n bytes e = rw e
 
 -- four bytes of a list, one by one
 pub four-taken : (bytes : List ℕ) (at : ℕ) → at + 4 ≤ length bytes
