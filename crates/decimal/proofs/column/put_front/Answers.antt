@@ -1,5 +1,5 @@
 -- `decimal::column::put_front` meets its contract. The loop's invariant: the bytes from the place on
--- are laid. The measure is how many are left.
+-- are laid.
 -- Assumes nothing.
 use mathlib.Core.Path.{refl}
 use native.Mathlib.Omega.{arith}
