@@ -1,6 +1,6 @@
 -- The keys of a chunk, loaded one after the other.
 -- Assumes nothing.
-use mathlib.Core.Path.{◌≡◌, refl, ◌∙◌}
+use mathlib.Core.Path.{◌≡◌, refl, subst, ◌∙◌}
 use mathlib.Core.List.{List}
 use Prim.Native.Nat.{ℕ, ◌+◌, ◌≤◌, ◌<◌}
 use native.Mathlib.Omega.{arith}
@@ -58,5 +58,7 @@ module _ {file : List ℕ} {at first : ℕ} {loaded : List ℕ} {next count : �
       loaded_is (λ h. let ne : count ≡ 0 → ⊥ = λ q. let n = l.none q in omega arith in omega arith)
 
   -- the chunk is full
-  pub loading_full : chunk ≤ count → LoadedIs file at first loaded count next
-  loading_full full = loaded_is (λ h. omega arith)
+  pub loading_full : chunk ≤ count → LoadedIs file at first loaded chunk next
+  loading_full full =
+      let e : count ≡ chunk = omega (arith, l.few) in
+      subst (λ (k : ℕ). LoadedIs file at first loaded k next) e (loaded_is (λ h. omega arith))

@@ -12,7 +12,7 @@ ghost use Rattle.archive_keys.specs.Keys.{chunk};
 ghost use Rattle.archive_keys.specs.Chains.{Chained};
 ghost use Rattle.archive_chunks.specs.Chunks.{KeyIs, LoadedIs, Unmarked, MarkedAll, MetAll, ChunkIs};
 
-use archive_keys::{CHUNK, chain, either, mark_key};
+use archive_keys::{CHUNK, chain, mark_key};
 use recording_heads::{Head, bytes_taken, head_at};
 
 // Keys that were loaded, and the place of the recording after them.
@@ -37,10 +37,7 @@ fn key_of(head: Head) -> u64
     requires { (head.house < 65536) × (head.start < 4294967296) × (head.issue < 65536) }
     ensures { KeyIs head.house head.start head.issue result }
 {
-    let house = head.house as u64;
-    let start = head.start as u64;
-    let issue = head.issue as u64;
-    (house * 4294967296 + start) * 65536 + issue
+    (u64::from(head.house) * 4294967296 + u64::from(head.start)) * 65536 + u64::from(head.issue)
 }
 
 // Loads the keys of a chunk, from the recording `first` on, which stands at the place.
@@ -50,24 +47,16 @@ fn load_keys(file: &[u8], at: usize, first: usize, keys: &mut [u64]) -> Loaded
     requires room { length keys.old ≡ chunk }
     ensures { LoadedIs file.now at first keys.new result.count result.next }
 {
-    let mut place = at;
-    let mut count: usize = 0;
-    while count < CHUNK {
-        if place >= file.len() {
-            return Loaded {
-                count: count,
-                next: place,
-            };
+    let mut next = at;
+    for count in 0..CHUNK {
+        if next >= file.len() {
+            return Loaded { count, next };
         }
-        let head = head_at(file, place, first + count);
+        let head = head_at(file, next, first + count);
         keys[count] = key_of(head);
-        place = place + bytes_taken(head.payload);
-        count = count + 1;
+        next += bytes_taken(head.payload);
     }
-    Loaded {
-        count: count,
-        next: place,
-    }
+    Loaded { count: CHUNK, next }
 }
 
 // Walks the file once: marks the keys of a chunk that are superseded, and answers whether one of them
@@ -90,17 +79,14 @@ fn mark_all(
     ensures met { MetAll file.now first keys.now count result }
 {
     let mut twice = false;
-    let mut at: usize = 0;
-    let mut index: usize = 0;
+    let mut at = 0;
+    let mut index = 0;
     while at < file.len() {
         let head = head_at(file, at, index);
         let key = key_of(head);
-        twice = either(
-            twice,
-            mark_key(key, index, first, keys, count, heads, links, marks),
-        );
-        at = at + bytes_taken(head.payload);
-        index = index + 1;
+        twice |= mark_key(key, index, first, keys, count, heads, links, marks);
+        at += bytes_taken(head.payload);
+        index += 1;
     }
     twice
 }
@@ -120,9 +106,9 @@ pub fn chunk_at(file: &[u8], at: usize, first: usize) -> Chunk
     chain(&keys, count, &mut heads, &mut links);
     let twice = mark_all(file, first, &keys, count, &heads, &links, &mut marks);
     Chunk {
-        count: count,
+        count,
         next: loaded.next,
-        twice: twice,
+        twice,
         superseded: marks,
     }
 }

@@ -5,7 +5,7 @@
 
 #![tactic(auto)]
 
-ghost use Rattle.std.specs.Prelude.{◌≡◌, Bool, ◌||◌, ◌+◌, ◌≤◌, ◌<◌, length};
+ghost use Rattle.std.specs.Prelude.{◌≡◌, ◌+◌, ◌≤◌, ◌<◌, length};
 ghost use Rattle.archive_keys.specs.Keys.{bucket_of, beats, chunk, buckets};
 ghost use Rattle.archive_keys.specs.Chains.{Chained, NoHeads, Marked, Met, elsewhere};
 
@@ -24,19 +24,7 @@ fn bucket(key: u64) -> usize
 fn supersedes(key: u64, other: u64) -> bool
     ensures { result ≡ beats key other }
 {
-    if key / 65536 == other / 65536 {
-        return other < key;
-    }
-    false
-}
-
-pub fn either(a: bool, b: bool) -> bool
-    ensures { result ≡ (a || b) }
-{
-    if a {
-        return true;
-    }
-    b
+    key / 65536 == other / 65536 && other < key
 }
 
 // Chains the first `count` keys of a chunk.
@@ -46,12 +34,10 @@ pub fn chain(keys: &[u64], count: usize, heads: &mut [u16], links: &mut [u16])
     requires links { length links.old ≡ chunk }
     ensures { Chained keys.now count heads.new links.new }
 {
-    let mut i: usize = 0;
-    while i < count {
+    for i in 0..count {
         let b = bucket(keys[i]);
         links[i] = heads[b];
         heads[b] = (i + 1) as u16;
-        i = i + 1;
     }
 }
 
@@ -59,10 +45,7 @@ pub fn chain(keys: &[u64], count: usize, heads: &mut [u16], links: &mut [u16])
 fn repeats(key: u64, index: usize, other: u64, place: usize) -> bool
     ensures { result ≡ elsewhere key index other place }
 {
-    if key == other {
-        return index != place;
-    }
-    false
+    key == other && index != place
 }
 
 // Marks the keys of a chunk that a key supersedes, and answers whether one of them is the same key at
@@ -85,11 +68,11 @@ pub fn mark_key(
 {
     let mut twice = false;
     let mut j = heads[bucket(key)] as usize;
-    while 0 < j {
+    while j > 0 {
         let m = j - 1;
         let other = keys[m];
-        marks[m] = either(marks[m], supersedes(key, other));
-        twice = either(twice, repeats(key, index, other, first + m));
+        marks[m] |= supersedes(key, other);
+        twice |= repeats(key, index, other, first + m);
         j = links[m] as usize;
     }
     twice

@@ -41,11 +41,7 @@ fn part(done: usize, payload: usize) -> usize
     requires { (done < payload) × (payload < 4294967296) }
     ensures { PartIs done payload result }
 {
-    let room = 504 - (12 + done) % 504;
-    if payload - done < room {
-        return payload - done;
-    }
-    room
+    (payload - done).min(504 - (12 + done) % 504)
 }
 
 // Where the payload byte after those that are done stands in the file.
@@ -66,13 +62,13 @@ fn copy_payload(file: &[u8], place: usize, i: usize, payload: usize, to: usize, 
     requires room { to + payload ≤ length out.old }
     ensures { out.new ≡ overlay out.old to (recording_at file.now i).payload }
 {
-    let mut done: usize = 0;
+    let mut done = 0;
     while done < payload {
         let count = part(done, payload);
         let from = source(place, done);
         let end = from + count;
         put_text(out, to + done, &file[from..end]);
-        done = done + count;
+        done += count;
     }
 }
 
@@ -83,16 +79,12 @@ fn counted(done: Done, superseded: bool, payload: u32) -> Done
         × (done.place + 512 * blocks_for (12 + payload) < 18446744073709551616) }
     ensures { CountedIs done superseded payload result }
 {
-    let next = done.place + bytes_taken(payload);
+    let place = done.place + bytes_taken(payload);
     if superseded {
-        return Done {
-            place: next,
-            recordings: done.recordings,
-            bytes: done.bytes,
-        };
+        return Done { place, ..done };
     }
     Done {
-        place: next,
+        place,
         recordings: done.recordings + 1,
         bytes: done.bytes + payload as usize,
     }
@@ -106,11 +98,9 @@ pub fn count_chunk(file: &[u8], first: usize, superseded: &[bool], count: usize,
     ensures { DoneIs file.now (first + count) result.place result.recordings result.bytes }
 {
     let mut now = done;
-    let mut m: usize = 0;
-    while m < count {
+    for m in 0..count {
         let head = head_at(file, now.place, first + m);
         now = counted(now, superseded[m], head.payload);
-        m = m + 1;
     }
     now
 }
@@ -170,10 +160,8 @@ pub fn lay_chunk(
         ≡ overlay out.old done.bytes (payloads (between file.now first count)) }
 {
     let mut now = done;
-    let mut m: usize = 0;
-    while m < count {
+    for m in 0..count {
         now = lay_one(file, first + m, superseded[m], now, list, out);
-        m = m + 1;
     }
     now
 }

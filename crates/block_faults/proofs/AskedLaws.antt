@@ -3,25 +3,24 @@
 use mathlib.Core.Path.{◌≡◌, refl}
 use mathlib.Core.Bool.{Bool, true, false, cond}
 use mathlib.Core.List.{List}
-use Prim.Native.Nat.{ℕ, zero, suc, ◌+◌, ◌-◌, ◌*◌, ◌≤◌, ◌<◌}
+use Prim.Native.Nat.{ℕ, zero, suc, ◌+◌, ◌-◌, ◌*◌, ◌≤◌, ◌<◌, min}
 use native.Mathlib.Omega.{arith}
-use borrow.Author.Tests.{lt-ltb, le-ltb, ltb-true}
+use borrow.Author.Tests.{ltb-true, ltb-false}
 use lib.Dec.{ltb}
 use Rattle.archive.specs.Block.{number_at}
 use Rattle.archive.specs.Faults.{announced_by, used_asked, finished, next_before}
 use Rattle.block_faults.specs.Open.{Open}
 
 module _ (announced before : ℕ) where
-  -- what is left of a stream
-  pub asked-rest : 12 + announced < 504 * (before + 1)
-      → 12 + announced - 504 * before ≡ used_asked announced before
+  -- what is left of a stream, or all the data bytes of a block
+  pub asked-is : min (12 + announced - 504 * before) 504 ≡ used_asked announced before
   unfolding used_asked
-  asked-rest h = rw (lt-ltb (12 + announced) (504 * (before + 1)) h)
-
-  -- or all the data bytes of a block
-  pub asked_full : 504 * (before + 1) ≤ 12 + announced → 504 ≡ used_asked announced before
-  unfolding used_asked
-  asked_full h = rw (le-ltb (12 + announced) (504 * (before + 1)) h)
+  asked-is = go (ltb (12 + announced) (504 * (before + 1))) refl
+    where
+      go : (t : Bool) → ltb (12 + announced) (504 * (before + 1)) ≡ t
+          → min (12 + announced - 504 * before) 504 ≡ cond t (12 + announced - 504 * before) 504
+      go true e = omega (arith, ltb-true (12 + announced) (504 * (before + 1)) e)
+      go false e = omega (arith, ltb-false (12 + announced) (504 * (before + 1)) e)
 
   -- never more
   pub asked-fits : used_asked announced before ≤ 504

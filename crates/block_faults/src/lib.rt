@@ -4,9 +4,10 @@
 
 #![tactic(auto)]
 
-ghost use Rattle.std.specs.Prelude.{◌≡◌, ◌+◌, ◌-◌, ◌/◌, ◌≤◌, ◌<◌, length, take, drop};
+ghost use Rattle.std.specs.Prelude.{◌≡◌, ◌==◌, ◌+◌, ◌-◌, ◌/◌, ◌≤◌, ◌<◌, length, take, drop};
+ghost use Rattle.std.specs.List.{list_all};
 ghost use Rattle.archive.specs.Block.{block_bytes, number_at};
-ghost use Rattle.archive.specs.Faults.{announced_by, used_asked, finished, all_zero, wrong, next_before};
+ghost use Rattle.archive.specs.Faults.{announced_by, used_asked, finished, wrong, next_before};
 ghost use Rattle.archive.specs.Faults.{good_blocks};
 ghost use Rattle.block_faults.specs.Open.{Open};
 
@@ -39,30 +40,19 @@ fn is_last(announced: usize, before: usize) -> bool
     HEAD_BYTES + announced <= MAX_USED * (before + 1)
 }
 
-// The used bytes that the block has to have.
+// The used bytes that the block has to have: what is left of the stream, at most 504.
 fn used_asked(announced: usize, before: usize) -> usize
     requires { Open announced before }
     ensures { result ≡ used_asked announced before }
 {
-    if HEAD_BYTES + announced < MAX_USED * (before + 1) {
-        return HEAD_BYTES + announced - MAX_USED * before;
-    }
-    MAX_USED
+    (HEAD_BYTES + announced - MAX_USED * before).min(MAX_USED)
 }
 
-// Whether the bytes from a place up to another are 0.
-fn is_clear(block: &[u8], from: usize, to: usize) -> bool
-    requires { (from ≤ to) × (to ≤ length block.now) }
-    ensures { result ≡ all_zero (take (to - from) (drop from block.now)) }
+// Whether every byte is 0.
+fn is_clear(bytes: &[u8]) -> bool
+    ensures { result ≡ list_all (λ byte. byte == 0) bytes.now }
 {
-    let mut i = from;
-    while i < to {
-        if block[i] != 0 {
-            return false;
-        }
-        i = i + 1;
-    }
-    true
+    bytes.iter().all(|byte| *byte == 0)
 }
 
 // Whether something is wrong with a whole block.
@@ -72,26 +62,16 @@ fn block_wrong(block: &[u8], announced: usize, before: usize, last: bool) -> boo
     requires open { Open announced before }
     ensures { result ≡ wrong last announced before block.now }
 {
-    if check_of(block) as usize != number_at(block, CHECKED_BYTES) {
-        return true;
-    }
-    if announced > MAX_PAYLOAD_BYTES {
-        return true;
-    }
-    if short_at(block, 0) != before {
-        return true;
-    }
     let used = short_at(block, 2);
-    if used != used_asked(announced, before) {
+    if check_of(block) as usize != number_at(block, CHECKED_BYTES)
+        || announced > MAX_PAYLOAD_BYTES
+        || short_at(block, 0) != before
+        || used != used_asked(announced, before)
+        || !is_clear(&block[4 + used..CHECKED_BYTES])
+    {
         return true;
     }
-    if !is_clear(block, 4 + used, CHECKED_BYTES) {
-        return true;
-    }
-    if last {
-        return !is_last(announced, before);
-    }
-    false
+    last && !is_last(announced, before)
 }
 
 // The payload length that the block's recording announced: in its first block, or before.
@@ -102,9 +82,10 @@ fn announced_by(block: &[u8], announced: usize, before: usize) -> usize
     ensures open { Open result before }
 {
     if before == 0 {
-        return number_at(block, 12);
+        number_at(block, 12)
+    } else {
+        announced
     }
-    announced
 }
 
 // How many blocks of its recording stand before the next block.
@@ -113,19 +94,17 @@ fn next_before(announced: usize, before: usize) -> usize
     ensures { result ≡ next_before announced before }
 {
     if is_last(announced, before) {
-        return 0;
+        0
+    } else {
+        before + 1
     }
-    before + 1
 }
 
 // How many blocks so many bytes are: a started one counts.
 pub fn blocks_in(bytes: usize) -> usize
     ensures { result ≡ (bytes + 511) / 512 }
 {
-    if bytes % BLOCK_BYTES == 0 {
-        return bytes / BLOCK_BYTES;
-    }
-    bytes / BLOCK_BYTES + 1
+    bytes.div_ceil(BLOCK_BYTES)
 }
 
 // How many blocks are right up to the first bad one: its number, or that of all blocks where none is bad.
@@ -133,10 +112,9 @@ pub fn good_blocks(file: &[u8]) -> usize
     ensures { result ≡ good_blocks file.now }
 {
     let count = blocks_in(file.len());
-    let mut announced: usize = 0;
-    let mut before: usize = 0;
-    let mut i: usize = 0;
-    while i < count {
+    let mut announced = 0;
+    let mut before = 0;
+    for i in 0..count {
         let at = BLOCK_BYTES * i;
         if file.len() - at < BLOCK_BYTES {
             return i;
@@ -147,7 +125,6 @@ pub fn good_blocks(file: &[u8]) -> usize
             return i;
         }
         before = next_before(announced, before);
-        i = i + 1;
     }
     count
 }

@@ -7,7 +7,7 @@ ghost use Rattle.archive.specs.Recording.{blocks_for};
 ghost use Rattle.archive.specs.Listing.{recordings_of, Sound};
 ghost use Rattle.archive.specs.Places.{At, HeadAt, HeadOf, recording_at};
 
-use block_check::{BLOCK_BYTES, MAX_USED};
+use block_check::{BLOCK_BYTES, HEAD_BYTES, MAX_USED};
 use little_endian::{number, short_number};
 
 // House, start second, issue, and the payload's length.
@@ -46,5 +46,5 @@ pub fn head_at(file: &[u8], at: usize, i: usize) -> Head
 pub fn bytes_taken(payload: u32) -> usize
     ensures { result ≡ 512 * blocks_for (12 + payload) }
 {
-    BLOCK_BYTES * ((payload as usize + 515) / MAX_USED)
+    BLOCK_BYTES * (payload as usize + HEAD_BYTES).div_ceil(MAX_USED)
 }

@@ -12,22 +12,22 @@ pub overflow_add-first : goal.overflow_add-first
 overflow_add-first c =
     let file = c.args.file.now in
     let l = c.loop-count in
-    let more = at-inside file l.place (c.args.first + l.count) l.invariant.place c.if-place-file.false in
+    let more = at-inside file l.next (c.args.first + l.count) l.invariant.place c.if-next-file.false in
     omega (arith, more, recordings-few file c.requires.sound)
 
 pub head_at-head-requires-clause-one : goal.head_at-head-requires-clause-one
-head_at-head-requires-clause-one c = at-inside _ _ _ c.loop-count.invariant.place c.if-place-file.false
+head_at-head-requires-clause-one c = at-inside _ _ _ c.loop-count.invariant.place c.if-next-file.false
 
 pub key_of-requires : goal.key_of-requires
 key_of-requires c =
     let a = c.loop-count.invariant.place in
-    step_small c.requires.sound a (at-inside _ _ _ a c.if-place-file.false) c.head_at-head.ensures
+    step_small c.requires.sound a (at-inside _ _ _ a c.if-next-file.false) c.head_at-head.ensures
 
 pub loop-count-preserved : goal.loop-count-preserved
 loop-count-preserved c =
     let a = c.loop-count.invariant.place in
     let sound = c.requires.sound in
-    let one = at-inside _ _ _ a c.if-place-file.false in
+    let one = at-inside _ _ _ a c.if-next-file.false in
     let h = c.head_at-head.ensures in
     loading_more c.loop-count.invariant _ _ (omega arith) (step_key sound a one h _ c.key_of.ensures)
-    (step-next sound a one h _ c.bytes_taken-place.ensures)
+    (step-next sound a one h _ c.bytes_taken-next.ensures)

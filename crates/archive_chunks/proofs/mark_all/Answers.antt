@@ -1,5 +1,6 @@
 -- `archive_chunks::mark_all` meets its contract: where the file does not end there is a recording more.
 -- Assumes nothing.
+use mathlib.Core.Path.{refl}
 use native.Mathlib.Omega.{arith}
 use Rattle.archive.proofs.PlaceLaws.{at-start, at-inside, recordings-few}
 use Rattle.archive_chunks.proofs.StepLaws.{step_small, step_key, step-next}
@@ -31,8 +32,8 @@ loop-at-preserved c =
     let sound = c.requires.sound in
     let one = at-inside _ _ _ w.place c.loop-at-test.true in
     let h = c.head_at-head.ensures in
-    walked_more w one (step_key sound w.place one h _ c.key_of-key.ensures) c.mark_key.ensures.marks
-    c.mark_key.ensures.met c.either-twice.ensures
+    walked_more w one (step_key sound w.place one h _ c.key_of-key.ensures) c.mark_key-twice.ensures.marks
+    c.mark_key-twice.ensures.met refl
     (step-next sound w.place one h _ c.bytes_taken-at.ensures)
 
 pub returns-clause-marks : goal.returns-clause-marks

@@ -19,4 +19,4 @@ bounds-heads-b-in-loop-i c = omega (arith, bucket-below)
 
 pub loop-i-preserved : goal.loop-i-preserved
 loop-i-preserved c =
-    (omega arith, chained_more _ _ _ c.loop-i.i _ c.loop-i.invariant.1 (omega arith) c.bucket-b.ensures)
+    chained_more _ _ _ c.loop-i.i _ c.loop-i.invariant (omega arith) c.bucket-b.ensures

@@ -1,6 +1,6 @@
 -- `archive_keys::mark_key` meets its contract. The key's bucket has a head.
 -- Assumes nothing.
-use mathlib.Core.Path.{ap, ◌∙◌}
+use mathlib.Core.Path.{ap}
 use mathlib.Core.Bool.{Bool, false, ◌||◌}
 use Prim.Native.Nat.{◌-◌}
 use native.Mathlib.Omega.{arith}
@@ -22,6 +22,6 @@ pub loop-j-preserved : goal.loop-j-preserved
 loop-j-preserved c =
     let l = c.loop-j in
     let old = get_or l.marks (l.j - 1) false in
-    let m = c.either.ensures ∙ ap (λ (b : Bool). old || b) c.supersedes.ensures in
-    let t = c.either-twice.ensures ∙ ap (λ (b : Bool). l.twice || b) c.repeats.ensures in
+    let m = ap (λ (b : Bool). old || b) c.supersedes.ensures in
+    let t = ap (λ (b : Bool). l.twice || b) c.repeats-twice.ensures in
     passed-more c.requires.chained l.invariant (omega arith) (l.j - 1) (omega arith) _ _ m t

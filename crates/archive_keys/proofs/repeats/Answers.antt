@@ -9,6 +9,6 @@ pub returns-then-key-other : goal.returns-then-key-other
 unfolding elsewhere
 returns-then-key-other c = rw (eq-eqb c.args.key c.args.other (omega arith))
 
-pub returns : goal.returns
+pub returns-else-key-other : goal.returns-else-key-other
 unfolding elsewhere
-returns c = rw (ne_eqb c.args.key c.args.other (λ e. omega arith))
+returns-else-key-other c = rw (ne_eqb c.args.key c.args.other (λ e. omega arith))

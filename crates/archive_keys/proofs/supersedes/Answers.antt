@@ -10,6 +10,6 @@ pub returns-then-key-other : goal.returns-then-key-other
 unfolding beats
 returns-then-key-other c = rw (eq-eqb (c.args.key / 65536) (c.args.other / 65536) (omega arith))
 
-pub returns : goal.returns
+pub returns-else-key-other : goal.returns-else-key-other
 unfolding beats
-returns c = rw (ne_eqb (c.args.key / 65536) (c.args.other / 65536) (λ e. omega arith))
+returns-else-key-other c = rw (ne_eqb (c.args.key / 65536) (c.args.other / 65536) (λ e. omega arith))

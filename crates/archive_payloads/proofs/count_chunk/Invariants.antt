@@ -1,13 +1,8 @@
--- `archive_payloads::count_chunk`: the loop's invariant is that the walk has come to recording first + m, and
--- the measure what is left of the chunk.
+-- `archive_payloads::count_chunk`: the loop's invariant is that the walk has come to recording first + m.
 -- Assumes nothing.
-use Prim.Native.Nat.{◌+◌, ◌-◌, ◌≤◌}
+use Prim.Native.Nat.{◌+◌}
 use Rattle.archive_payloads.specs.Kept.{DoneIs}
 use Rattle.archive_payloads.proofs.count_chunk.Given as goal
 
 abbrev pub invariant-loop-m : goal.invariant-loop-m
-invariant-loop-m l =
-    (l.m ≤ l.count) × DoneIs l.file (l.first + l.m) l.now.place l.now.recordings l.now.bytes
-
-abbrev pub decreases-loop-m : goal.decreases-loop-m
-decreases-loop-m l = l.count - l.m
+invariant-loop-m l = DoneIs l.file (l.first + l.m) l.now.place l.now.recordings l.now.bytes

@@ -11,7 +11,6 @@ pub loop-m-init : goal.loop-m-init
 loop-m-init c =
     let file = c.args.file.now in
     let first = c.args.first in (
-      omega arith,
       rw (add-zero first) c.requires.done,
       list-none file first _ _,
       out_none file first _ _,
@@ -26,8 +25,7 @@ loop-m-preserved c =
     let l = c.loop-m in
     let r = c.requires in
     let e = c.lay_one-now.ensures in (
-      omega arith,
       done_on _ _ l.m e.done,
-      list-more _ _ l.m r.done l.invariant.1 _ _ _ r.list l.invariant.2 e.list,
-      out-more _ _ l.m r.done l.invariant.1 _ _ _ r.out l.invariant.3 e.out,
+      list-more _ _ l.m r.done l.invariant.0 _ _ _ r.list l.invariant.1 e.list,
+      out-more _ _ l.m r.done l.invariant.0 _ _ _ r.out l.invariant.2 e.out,
     )

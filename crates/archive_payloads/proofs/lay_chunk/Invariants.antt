@@ -1,7 +1,7 @@
 -- `archive_payloads::lay_chunk`: the loop's invariant is that the walk has come to recording first + m, and
--- that those in force before it are laid. The measure is what is left of the chunk.
+-- that those in force before it are laid.
 -- Assumes nothing.
-use Prim.Native.Nat.{◌+◌, ◌-◌, ◌*◌, ◌≤◌}
+use Prim.Native.Nat.{◌+◌, ◌*◌}
 use Rattle.archive.specs.Listing.{listed, payloads}
 use Rattle.archive_payloads.specs.Kept.{between, DoneIs}
 use Rattle.archive_payloads.proofs.LaidLaws.{Grown}
@@ -9,9 +9,6 @@ use Rattle.archive_payloads.proofs.lay_chunk.Given as goal
 
 abbrev pub invariant-loop-m : goal.invariant-loop-m
 invariant-loop-m l =
-    (l.m ≤ l.count) × DoneIs l.file (l.first + l.m) l.now.place l.now.recordings l.now.bytes
+    DoneIs l.file (l.first + l.m) l.now.place l.now.recordings l.now.bytes
     × Grown l.initial.list l.list (4 * l.initial.now.recordings) (listed (between l.file l.first l.m))
     × Grown l.initial.out l.out l.initial.now.bytes (payloads (between l.file l.first l.m))
-
-abbrev pub decreases-loop-m : goal.decreases-loop-m
-decreases-loop-m l = l.count - l.m

@@ -8,5 +8,5 @@ pub returns-then-before-eq0-clause-is : goal.returns-then-before-eq0-clause-is
 returns-then-before-eq0-clause-is c =
     c.number_at.ensures.is ∙ announced_first _ _ _ c.if-before-eq0.true
 
-pub returns-clause-is : goal.returns-clause-is
-returns-clause-is c = announced_before _ _ _ c.if-before-eq0.false
+pub returns-else-before-eq0-clause-is : goal.returns-else-before-eq0-clause-is
+returns-else-before-eq0-clause-is c = announced_before _ _ _ c.if-before-eq0.false

@@ -1,12 +1,8 @@
 -- `block_faults::good_blocks`: the loop's invariant is that the first i blocks are right, and that with what
--- is left they count as the whole file does. The measure is what is left of the blocks.
+-- is left they count as the whole file does.
 -- Assumes nothing.
-use Prim.Native.Nat.{◌-◌}
 use Rattle.block_faults.proofs.GoodLaws.{Judged}
 use Rattle.block_faults.proofs.good_blocks.Given as goal
 
 abbrev pub invariant-loop-i : goal.invariant-loop-i
 invariant-loop-i l = Judged l.file l.announced l.before l.i
-
-abbrev pub decreases-loop-i : goal.decreases-loop-i
-decreases-loop-i l = l.count - l.i

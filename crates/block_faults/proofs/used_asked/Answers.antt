@@ -1,10 +1,8 @@
--- `block_faults::used_asked` meets its contract: what is left of the stream, or 504.
+-- `block_faults::used_asked` meets its contract.
 -- Assumes nothing.
-use Rattle.block_faults.proofs.AskedLaws.{asked-rest, asked_full}
+use mathlib.Core.Path.{◌∙◌}
+use Rattle.block_faults.proofs.AskedLaws.{asked-is}
 use Rattle.block_faults.proofs.used_asked.Goals as goal
 
-pub returns-then-announced-before : goal.returns-then-announced-before
-returns-then-announced-before c = asked-rest _ _ c.if-announced-before.true
-
 pub returns : goal.returns
-returns c = asked_full _ _ c.if-announced-before.false
+returns c = c.min.ensures ∙ asked-is c.args.announced c.args.before
