@@ -1,8 +1,8 @@
 -- A payload, copied block by block.
 -- Assumes nothing.
 use mathlib.Core.Path.{◌≡◌, refl, sym, ap, ◌∙◌}
-use mathlib.Core.List.{List, ◌++◌}
-use Prim.Native.Nat.{ℕ, ◌+◌, ◌*◌, ◌/◌, ◌%◌, ◌≤◌, ◌<◌}
+use mathlib.Core.List.{List, [], ◌∷◌, ◌++◌, append_assoc}
+use Prim.Native.Nat.{ℕ, ◌+◌, ◌-◌, ◌*◌, ◌/◌, ◌%◌, ◌≤◌, ◌<◌}
 use native.Mathlib.Omega.{arith}
 use lib.ListN.{length, take, drop, length-take, length-drop}
 use lib.Seq.{take-add, take_all, drop_at, drop-drop, length-take-le}
@@ -14,6 +14,14 @@ use Rattle.archive.specs.Places.{At, recording_at}
 use Rattle.archive.proofs.BlockLaws.{head-length}
 use Rattle.archive.proofs.PlaceLaws.{at-stream, at-part-fits}
 use Rattle.archive_payloads.specs.Kept.{PartIs, source_of}
+
+-- four numbers in the place of four of a list
+pub entry-laid : (list : List ℕ) (at a b c d : ℕ) (part : List ℕ) → part ≡ a ∷ b ∷ c ∷ d ∷ []
+    → take at list ++ (part ++ drop (at + 4 - at) (drop at list)) ≡ overlay list at (a ∷ b ∷ c ∷ d ∷ [])
+unfolding overlay
+entry-laid list at a b c d part e =
+    let n : at + 4 - at ≡ 4 = omega arith in
+    rw (e, n, drop-drop, append_assoc)
 
 -- the payload behind the first twelve bytes of a stream
 stream-payload : (r : Recording) → drop 12 (stream r) ≡ r.payload

@@ -30,10 +30,7 @@ fn lay_entry(head: Head, at: usize, list: &mut [u32])
         ≡ overlay list.old at
         (head.house ∷ head.start ∷ head.issue ∷ head.payload ∷ []) }
 {
-    list[at] = head.house;
-    list[at + 1] = head.start;
-    list[at + 2] = head.issue;
-    list[at + 3] = head.payload;
+    list[at..at + 4].copy_from_slice(&[head.house, head.start, head.issue, head.payload]);
 }
 
 // How many payload bytes stand in one block, after those that are done.

@@ -14,6 +14,6 @@ loop-m-preserved c =
     let l = c.loop-m in
     let chunk = c.requires.chunk in
     done_on _ _ l.m (done-told _ _
-        (done_more _ _ (omega (arith, chunk.within)) _ (chunk.marks l.m (omega arith)) l.invariant
-        c.head_at-head.ensures.payload)
-        c.counted-now.ensures)
+    (done_more _ _ (omega (arith, chunk.within)) _ (chunk.marks l.m (omega arith)) l.invariant
+    c.head_at-head.ensures.payload)
+    c.counted-now.ensures)

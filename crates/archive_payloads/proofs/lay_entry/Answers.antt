@@ -1,8 +1,7 @@
--- `archive_payloads::lay_entry` meets its contract: four stores lay four numbers.
+-- `archive_payloads::lay_entry` meets its contract.
 -- Assumes nothing.
-use mathlib.Core.Path.{refl}
-use Rattle.little_endian.proofs.StoreLaws.{four-laid}
+use Rattle.archive_payloads.proofs.CopyLaws.{entry-laid}
 use Rattle.archive_payloads.proofs.lay_entry.Goals as goal
 
 pub returns : goal.returns
-returns c = four-laid _ _ _ _ _ _ _ c.requires refl
+returns c = entry-laid _ _ _ _ _ _ _ c.copy_from_slice.ensures.after
