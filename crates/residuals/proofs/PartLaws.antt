@@ -1,29 +1,30 @@
 -- The residuals of a recording, part by part: those of the parts that are done lie in the span, and the
 -- rest decides. Assumes nothing.
 use mathlib.Core.Path.{◌≡◌, refl, sym, ap, ◌∙◌}
-use mathlib.Core.Bool.{Bool, true, false, ◌&&◌, and_assoc}
+use mathlib.Core.Bool.{Bool, true, false, cond, ◌&&◌, and_assoc}
 use mathlib.Core.List.{List, [], ◌∷◌, ◌++◌, append-nil}
-use Prim.Native.Nat.{ℕ, ◌+◌, ◌-◌, ◌≤◌, ◌<◌, min}
+use Prim.Native.Nat.{ℕ, ◌≤◌, ◌<◌, min}
 use native.Mathlib.Decide.{dec_lt}
 use native.Mathlib.Omega.{arith}
 use lib.Dec.{ltb}
 use lib.IntN.{ℤ}
-use lib.ListN.{length, take, drop, length-take, length-drop, drop_of_length-le}
-use lib.Seq.{length-take-le, take_all, take_at, drop-drop}
+use lib.ListN.{length, take, drop, length-take, length-append, drop_of_length-le}
+use lib.Seq.{length-take-le, take_all, take_at}
+use Rattle.std.proofs.lemmas.List.{drop_at}
 use lib.Signed.{mag}
-use Rattle.answers.specs.Limits.{residual_span, max_elements}
+use Rattle.std.specs.Prelude.{Option, Some, None}
+use Rattle.answers.specs.Limits.{residual_span}
 use Rattle.spans.specs.Spans.{within}
 use Rattle.passes.specs.Run.{Chain, analysed}
 use Rattle.passes.specs.declared.DecorrPass.{DecorrPass}
 use Rattle.passes.specs.declared.Direction.TheVariants.{Analysis}
-use Rattle.decorrelation.specs.Lists.{Answer, done, followed, array_answer}
+use Rattle.decorrelation.specs.Lists.{done, followed, array_answer}
 use Rattle.decorrelation.proofs.Theorems.{array_runs}
 use Rattle.cut_buffers.specs.Cut.{MayCut}
 use Rattle.cut_buffers.proofs.KeptLaws.{chained_terms, same-valid, same_count}
 use Rattle.cut_buffers.proofs.Parts.{chained-nothing, chained-cut}
 use Rattle.word_bits.specs.Residuals.{spanned}
-use Rattle.residuals.specs.declared.PartAnswer.{PartAnswer}
-use Rattle.residuals.specs.Residuals.{part_frames, part_elements, Analysable, PartIs}
+use Rattle.residuals.specs.Residuals.{part_frames, part_elements, Analysable, kept_in_span, part_answer}
 
 -- ---- parts of a list
 
@@ -43,27 +44,32 @@ first_run n ps qs e = go (dec_lt (length ps) n)
         rw (drop_of_length-le ps {i = n} (omega arith), append-nil qs) (take_all n qs m)
     go (no h) = take_at qs (drop n ps) n (e ∙ length-take-le n ps (omega arith))
 
-module _ (l : List ℤ) (at end : ℕ) (here : at ≤ length l) (ends : end ≡ min (at + part_elements) (length l)) where
-  -- a part is the first 2,048 elements of what is left, or all of it
-  part-taken : take (end - at) (drop at l) ≡ take part_elements (drop at l)
-  part-taken = go (dec_lt (length l) (at + part_elements))
-    where
-      left : length (drop at l) ≡ length l - at
-      left = length-drop at l
+-- a list behind its first n elements, or behind all of it
+record Cut (n : ℕ) (part rest : List ℤ) : Type 0 where
+  first : take n (part ++ rest) ≡ part
+  after : drop n (part ++ rest) ≡ rest
 
-      go : Dec (length l < at + part_elements) → take (end - at) (drop at l) ≡ take part_elements (drop at l)
-      go (yes h) =
-          take_all (end - at) (drop at l) (omega (arith, left))
-          ∙ sym (take_all part_elements (drop at l) (omega (arith, left)))
-      go (no h) = let n : end - at ≡ part_elements = omega arith in rw n
+-- so it is behind a part of that many elements, or of all that there are
+cut_at : (n : ℕ) (part rest : List ℤ) → length part ≡ min n (length (part ++ rest)) → Cut n part rest
+cut_at n part [] h =
+    let whole = append-nil part in
+    let e : length part ≤ n = omega (arith, ap length whole) in
+    record { first = ap (take n) whole ∙ take_all n part e; after = ap (drop n) whole ∙ drop_of_length-le part {i = n} e }
+cut_at n part (x ∷ rest) h =
+    let e : length part ≡ n = omega (arith, length-append part (x ∷ rest)) in
+    record { first = take_at part (x ∷ rest) n e; after = drop_at part (x ∷ rest) n e }
 
-  -- and the rest is what is left after it
-  rest-left : drop end l ≡ drop part_elements (drop at l)
-  rest-left = go (dec_lt (length l) (at + part_elements)) ∙ sym (drop-drop part_elements at l)
-    where
-      go : Dec (length l < at + part_elements) → drop end l ≡ drop (at + part_elements) l
-      go (yes h) = drop_of_length-le l {i = end} (omega arith) ∙ sym (drop_of_length-le l {i = at + part_elements} (omega arith))
-      go (no h) = let n : end ≡ at + part_elements = omega arith in rw n
+-- ---- by what looking at a part says
+
+-- no passes: the test failed
+outside : (t : Bool) (ps : List DecorrPass) → cond t (Some ps) None ≡ None → t ≡ false
+outside true ps e = cc
+outside false ps e = refl
+
+-- passes: it held, and they are these
+inside : (t : Bool) (ps after : List DecorrPass) → cond t (Some ps) None ≡ Some after → (t ≡ true) × (ps ≡ after)
+inside true ps after e = (refl, cc)
+inside false ps after e = cc
 
 -- ---- by turns
 
@@ -72,71 +78,59 @@ module _ (ps : List DecorrPass) (n : ℕ) (l : List ℤ) where
   abbrev pub answer : Bool
   answer = spanned (analysed (take n ps) l).buffer
 
-  -- the residuals before `at` do, and the list is the passes as analysis of that much left them
-  pub record Looked (list : List DecorrPass) (at : ℕ) : Type 0 where
-    pub here : at ≤ length l
+  -- the residuals before what is left do, and the list is the passes as analysis of that much left them
+  pub record Looked (list : List DecorrPass) (left : List ℤ) : Type 0 where
     pub analysable : Analysable list n
-    pub rest : answer ≡ spanned (analysed (take n list) (drop at l)).buffer
+    pub rest : answer ≡ spanned (analysed (take n list) left).buffer
 
   -- nothing is looked at yet
-  pub looked_start : Analysable ps n → Looked ps 0
-  looked_start h = record { here = omega arith; analysable = h; rest = refl }
+  pub looked_start : Analysable ps n → Looked ps l
+  looked_start h = record { analysable = h; rest = refl }
 
   -- nothing is left
-  pub looked_end : (list : List DecorrPass) (at : ℕ) → Looked list at → length l ≤ at → true ≡ answer
+  pub looked_end : (list : List DecorrPass) (left : List ℤ) → Looked list left → length left ≡ 0 → true ≡ answer
   unfolding within
-  looked_end list at k h =
-      let none : drop at l ≡ [] = drop_of_length-le l h in
-      sym (k.rest ∙ rw (none, chained-nothing Analysis (take n list)))
+  looked_end list [] k h = sym (k.rest ∙ rw (chained-nothing Analysis (take n list)))
+  looked_end list (x ∷ left) k h = absurd (omega arith)
 
-  module _ (list : List DecorrPass) (at end : ℕ) (k : Looked list at) (ends : end ≡ min (at + part_elements) (length l))
-      (r : PartAnswer) (is : PartIs list n (take (end - at) (drop at l)) r) where
-    -- the next part, and analysis of it
-    abbrev part : List ℤ
-    part = take part_elements (drop at l)
-
+  module _ (list : List DecorrPass) (whole part left : List ℤ) (k : Looked list whole) (cuts : whole ≡ part ++ left)
+      (size : length part ≡ min part_elements (length whole))
+      (r : Option (List DecorrPass)) (is : r ≡ part_answer list n part) where
+    -- analysis of the part
     abbrev one : Chain
     one = analysed (take n list) part
 
-    -- what looking at it said
-    looked_part : PartIs list n part r
-    looked_part = rw (part-taken l at end k.here ends) at is
-
     ran : array_answer Analysis list n part ≡ done (followed (drop n list) one)
-    ran =
-        let size : length part ≤ max_elements = simp length-take (omega arith) in
-        array_runs Analysis list n part (record { few = k.analysable.few; size = size; valid = k.analysable.valid })
+    ran = array_runs Analysis list n part (record { few = k.analysable.few; size = omega arith; valid = k.analysable.valid })
 
-    within-part : r.within ≡ spanned one.buffer
-    within-part = looked_part.within-is ∙ ap (λ (a : Answer). spanned a.buffer) ran
-
-    passes-next : take n r.passes ≡ one.passes
-    passes-next =
-        let terms = chained_terms Analysis (take n list) part in
-        let after : r.passes ≡ one.passes ++ drop n list = looked_part.passes-after ∙ ap (λ (a : Answer). a.passes) ran in
-        ap (take n) after ∙ first_run n list one.passes (same_count one.passes (take n list) terms)
+    -- what looking at it said
+    looked_part : r ≡ kept_in_span (done (followed (drop n list) one))
+    looked_part = is ∙ ap kept_in_span ran
 
     -- the cut falls on eights: this part and the rest decide together
-    together : answer ≡ (r.within && spanned (analysed (take n r.passes) (drop end l)).buffer)
+    together : answer ≡ (spanned one.buffer && spanned (analysed one.passes left).buffer)
     together =
-        let cut = chained-cut Analysis (take n list) part_frames (drop at l) k.analysable.valid (MayCut.on-eights refl) in
-        let two = analysed one.passes (drop part_elements (drop at l)) in
-        k.rest ∙ ap (λ (c : Chain). spanned c.buffer) cut ∙ within-joined residual_span one.buffer two.buffer
-        ∙ rw (within-part, passes-next, rest-left l at end k.here ends)
+        let c = cut_at part_elements part left (rw (← cuts) size) in
+        let cut = chained-cut Analysis (take n list) part_frames (part ++ left) k.analysable.valid (MayCut.on-eights refl) in
+        k.rest ∙ ap (λ (l : List ℤ). spanned (analysed (take n list) l).buffer) cuts
+        ∙ ap (λ (c : Chain). spanned c.buffer) (rw (c.first, c.after) at cut)
+        ∙ within-joined residual_span one.buffer (analysed one.passes left).buffer
 
     -- a residual of this part lies outside
-    pub looked_out : r.within ≡ false → false ≡ answer
-    looked_out e = sym (together ∙ rw e)
+    pub looked_out : r ≡ None → false ≡ answer
+    looked_out e = sym (together ∙ rw (outside (spanned one.buffer) (one.passes ++ drop n list) (sym looked_part ∙ e)))
 
     -- none does
-    pub looked_turn : r.within ≡ true → Looked r.passes end
-    looked_turn e =
+    pub looked_turn : (after : List DecorrPass) → r ≡ Some after → Looked after left
+    looked_turn after e =
+        let s = inside (spanned one.buffer) (one.passes ++ drop n list) after (sym looked_part ∙ e) in
         let terms = chained_terms Analysis (take n list) part in
+        let next : take n after ≡ one.passes =
+        ap (take n) (sym s.1) ∙ first_run n list one.passes (same_count one.passes (take n list) terms) in
         record {
-          here = omega arith;
           analysable = record {
             few = k.analysable.few;
-            valid = rw passes-next (same-valid one.passes (take n list) terms ∙ k.analysable.valid);
+            valid = rw next (same-valid one.passes (take n list) terms ∙ k.analysable.valid);
           };
-          rest = together ∙ rw e;
+          rest = together ∙ rw (s.0, next);
         }

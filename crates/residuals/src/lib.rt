@@ -5,11 +5,12 @@
 
 #![tactic(auto)]
 
-ghost use Rattle.std.specs.Prelude.{◌≡◌, ◌+◌, ◌≤◌, min, length, take};
+ghost use Rattle.std.specs.Prelude.{◌≡◌, ◌≤◌, length, take};
 ghost use Rattle.passes.specs.Run.{analysed};
 ghost use Rattle.word_bits.specs.Residuals.{spanned};
-ghost use Rattle.residuals.specs.Residuals.{part_elements, Analysable, FoundIs, PartIs};
+ghost use Rattle.residuals.specs.Residuals.{part_elements, part_answer, Analysable, FoundIs};
 
+use answers::Refusal;
 use answers::limits::{MAX_PASSES, RESIDUAL_SPAN};
 use decorrelation::recorrelate_array;
 use passes::DecorrPass;
@@ -19,55 +20,38 @@ use trip_lists::copy;
 // The elements of a part: 1,024 frames, a multiple of eight.
 const PART: usize = 2048;
 
-// What analysis says of a part: whether its residuals lie in the span, and the passes after it.
-#[derive(Clone, Copy)]
-struct PartAnswer {
-    within: bool,
-    passes: [DecorrPass; MAX_PASSES],
-}
-
 // The residuals that analysis by the first `count` passes of an array finds, into a lent list, and the
-// passes after it.
+// passes after it. What analysis refuses (5, 9, 7) leaves the recording in the list.
 pub fn find_residuals(
     passes: [DecorrPass; MAX_PASSES],
     count: usize,
     recording: &[i32],
     list: &mut [i32],
-) -> [DecorrPass; MAX_PASSES]
+) -> Result<[DecorrPass; MAX_PASSES], Refusal>
     requires { length recording.now ≡ length list.old }
     ensures { FoundIs passes count recording.now list.new result }
 {
     copy(recording, list);
-    let answer = recorrelate_array(passes, count, list);
-    answer.passes
+    recorrelate_array(passes, count, list)
 }
 
-// Where the part that begins at `at` ends.
-fn part_end(at: usize, length: usize) -> usize
-    requires { at ≤ length }
-    ensures { result ≡ min (at + part_elements) length }
-{
-    if length - at < PART {
-        return length;
-    }
-    at + PART
-}
-
-// Whether the residuals of a part lie in the span, found in a lent list.
+// The passes after a part whose residuals lie in the span, found in a lent list; none where one lies
+// outside.
 fn look_in(
     passes: [DecorrPass; MAX_PASSES],
     count: usize,
     part: &[i32],
     list: &mut [i32],
-) -> PartAnswer
+) -> Option<[DecorrPass; MAX_PASSES]>
     requires same { length part.now ≡ length list.old }
     requires short { length part.now ≤ part_elements }
-    ensures { PartIs passes count part.now result }
+    ensures { result ≡ part_answer passes count part.now }
 {
-    let after = find_residuals(passes, count, part, list);
-    PartAnswer {
-        within: is_within(list, RESIDUAL_SPAN),
-        passes: after,
+    let after = find_residuals(passes, count, part, list).unwrap_or(passes);
+    if is_within(list, RESIDUAL_SPAN) {
+        Some(after)
+    } else {
+        None
     }
 }
 
@@ -78,10 +62,14 @@ fn room() -> [i32; PART]
     [0; PART]
 }
 
-// Whether the residuals of a part lie in the span, found in an array of its own.
-fn look_at_part(passes: [DecorrPass; MAX_PASSES], count: usize, part: &[i32]) -> PartAnswer
+// The same, found in an array of its own.
+fn look_at_part(
+    passes: [DecorrPass; MAX_PASSES],
+    count: usize,
+    part: &[i32],
+) -> Option<[DecorrPass; MAX_PASSES]>
     requires { length part.now ≤ part_elements }
-    ensures { PartIs passes count part.now result }
+    ensures { result ≡ part_answer passes count part.now }
 {
     let mut list = room();
     let size = part.len();
@@ -95,16 +83,11 @@ pub fn residuals_in_span(passes: [DecorrPass; MAX_PASSES], count: usize, recordi
     ensures { result ≡ spanned (analysed (take count passes) recording.now).buffer }
 {
     let mut list = passes;
-    let mut at: usize = 0;
-    while at < recording.len() {
-        let end = part_end(at, recording.len());
-        let answer = look_at_part(list, count, &recording[at..end]);
-        if !answer.within {
+    for part in recording.chunks(PART) {
+        let Some(after) = look_at_part(list, count, part) else {
             return false;
-        }
-        let after = answer.passes;
+        };
         list = after;
-        at = end;
     }
     true
 }

@@ -1,10 +1,10 @@
-use Rattle.std.proofs.Common.{◌-◌, length}
+use Rattle.std.proofs.Common.{◌≡◌}
+use Rattle.std.specs.Slice.Iter.{chunks_rest, chunks_size}
+use Rattle.residuals.specs.Residuals.{part_elements}
 use Rattle.residuals.proofs.PartLaws.{Looked}
 use Rattle.residuals.proofs.residuals_in_span.Given as goal
 
--- the residuals before `at` lie in the span
-abbrev pub invariant-loop-at : goal.invariant-loop-at
-invariant-loop-at l = Looked l.fn.passes l.count l.recording l.list l.at
-
-abbrev pub decreases-loop-at : goal.decreases-loop-at
-decreases-loop-at l = length l.recording - l.at
+-- the residuals before what is left lie in the span
+abbrev pub invariant-loop-part : goal.invariant-loop-part
+invariant-loop-part l = (chunks_size l.part-iterator ≡ part_elements)
+    × Looked l.fn.passes l.count l.recording l.list (chunks_rest l.part-iterator)
