@@ -19,5 +19,5 @@ pub struct Gathered {
 pub fn bit_length(number: u32) -> u32
     ensures { result ≡ bit_length number }
 {
-    32 - u32::leading_zeros(number)
+    32 - number.leading_zeros()
 }
