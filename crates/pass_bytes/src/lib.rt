@@ -18,7 +18,7 @@ pub fn decode_term_byte(byte: u8) -> TermDelta
 {
     TermDelta {
         term: (byte % 32) as i8 - 5,
-        delta: (byte / 32) as i32,
+        delta: i32::from(byte / 32),
     }
 }
 
@@ -27,10 +27,10 @@ pub fn expand_weight_byte(byte: u8) -> i32
     ensures { result ≡ weight_of_byte byte }
 {
     if byte < 128 {
-        let n = byte as u32 * 8;
+        let n = u32::from(byte) * 8;
         (n + (n + 64) / 128) as i32
     } else {
-        let n = (256 - byte as u32) * 8;
-        0 - n as i32
+        let n = (256 - u32::from(byte)) * 8;
+        -(n as i32)
     }
 }

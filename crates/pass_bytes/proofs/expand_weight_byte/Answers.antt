@@ -4,7 +4,7 @@ use Rattle.pass_bytes.proofs.ByteLaws.{weight-up, weight-down}
 use Rattle.pass_bytes.proofs.expand_weight_byte.Goals as goal
 
 pub returns-then-byte-lt128 : goal.returns-then-byte-lt128
-returns-then-byte-lt128 c = weight-up _ (search rules)
+returns-then-byte-lt128 c = rw c.from-n.ensures (weight-up _ (search rules))
 
 pub returns-else-byte-lt128 : goal.returns-else-byte-lt128
-returns-else-byte-lt128 c = weight-down _ (search rules) (search rules)
+returns-else-byte-lt128 c = rw c.from.ensures (weight-down _ (search rules) (search rules))
