@@ -1,6 +1,6 @@
 -- The laws of pass making: its answer by each of the code's returns. Assumes nothing.
 use mathlib.Core.Path.{◌≡◌, refl}
-use mathlib.Core.Bool.{Bool, true, false, cond, not, ◌&&◌}
+use mathlib.Core.Bool.{Bool, true, false, cond, ◌&&◌}
 use mathlib.Core.List.{List}
 use Prim.Native.Nat.{ℕ, zero, suc, ◌≤◌}
 use native.Mathlib.Omega.{arith}
@@ -35,16 +35,6 @@ count_small (negsuc zero) = omega arith
 count_small (negsuc (suc zero)) = omega arith
 count_small (negsuc (suc (suc zero))) = omega arith
 count_small (negsuc (suc (suc (suc n)))) = omega arith
-
--- a test of a negation
-pub not-false : (b : Bool) → not b ≡ false → b ≡ true
-not-false true e = refl
-not-false false e = cc
-
--- and one that holds
-pub not-true : (b : Bool) → not b ≡ true → b ≡ false
-not-true true e = cc
-not-true false e = refl
 
 -- what a test of a seed tells
 short-told : {x : Refusal} (b : Bool) → ◌≡◌ {A = Result Unit Refusal} (cond b (Err Refusal.SeedTooShort) (Ok tt)) (Err x) → (b ≡ true) × (x ≡ Refusal.SeedTooShort)

@@ -1,87 +1,26 @@
--- The laws of seeds: what stands in each slot of a seeded history, and what an answer about a seed
--- tells. Assumes nothing.
-use mathlib.Core.Path.{◌≡◌, refl, sym, ap, ◌∙◌}
-use mathlib.Core.Bool.{Bool, true, false, cond, ◌&&◌, ◌||◌}
-use mathlib.Core.List.{List, [], ◌∷◌, ◌++◌, reverse, reverse-append}
-use Prim.Native.Nat.{ℕ, zero, suc, ◌+◌, ◌-◌, ◌<◌, ◌≤◌}
+-- The laws of seeds: what stands in a seeded history. Assumes nothing.
+use mathlib.Core.Path.{◌≡◌}
+use mathlib.Core.List.{List, ◌++◌, reverse}
+use Prim.Native.Nat.{ℕ, min}
 use native.Mathlib.Omega.{arith}
-use native.Mathlib.Numerals.{add-one}
-use borrow.Author.Tests.{ltb-false, lt-ltb}
-use lib.Dec.{ltb}
 use lib.IntN.{ℤ, pos}
-use lib.ListN.{length, get_or, set, take, replicate, length-append, length-replicate, length-reverse, length-take, get_or-append}
-use lib.Seq.{take-suc, take_all, take-suc-set, get_or-take}
-use Rattle.passes.specs.Making.{ordered, padded, seed_length}
-use Rattle.std.specs.Prelude.{Result, Ok, Err}
-use Rattle.answers.specs.declared.Refusal.{Refusal}
+use lib.ListN.{length, take, drop, replicate, length-reverse, length-take}
+use Rattle.std.proofs.lemmas.List.{take_min, take_at, drop_at, drop-replicate}
+use Rattle.passes.specs.Making.{padded}
 
-zeros : (k j : ℕ) → get_or (replicate k (pos 0)) j (pos 0) ≡ pos 0
-zeros zero j = refl
-zeros (suc k) zero = refl
-zeros (suc k) (suc j) = zeros k j
+module _ (count : ℕ) (seed s : List ℤ) (n : ℕ) (e : n ≡ min count (length seed)) (f : s ≡ take n seed) where
+  all-taken : take n seed ≡ take count seed
+  all-taken = rw e (take_min count seed)
 
-behind : (l : List ℤ) (k j : ℕ) → length l ≤ j → get_or (l ++ replicate k (pos 0)) j (pos 0) ≡ pos 0
-behind [] k j h = zeros k j
-behind (x ∷ l) k zero h = absurd (omega arith)
-behind (x ∷ l) k (suc j) h = behind l k j (omega arith)
+  taken : length s ≡ n
+  taken = rw (f, length-take n seed) (omega arith)
 
-taken : (n : ℕ) (seed : List ℤ) → n ≤ length seed → length (take n seed) ≡ n
-taken n seed h = simp length-take (omega arith)
+  -- in order, with zeros behind
+  pub placed : s ++ drop n (replicate 8 (pos 0)) ≡ padded (take count seed)
+  placed = rw (f, all-taken, drop-replicate n 8 (pos 0), length-take count seed, ← e)
 
-ordered-length : (reversed : Bool) (l : List ℤ) → length (ordered reversed l) ≡ length l
-ordered-length true l = length-reverse l
-ordered-length false l = refl
-
--- a history has eight slots
-pub padded-length : (reversed : Bool) (n : ℕ) (seed : List ℤ) → n ≤ 8 → length (padded (ordered reversed (take n seed))) ≡ 8
-padded-length reversed n seed h = simp (length-append, length-replicate, ordered-length, length-take) (omega arith)
-
--- in order: slot j holds sample j
-pub slot-ordered : (n j : ℕ) (seed : List ℤ) → n ≤ length seed → j < n → get_or (padded (take n seed)) j (pos 0) ≡ get_or seed j (pos 0)
-slot-ordered n j seed h k = get_or-append (take n seed) _ (pos 0) j (rw (taken n seed h) k) ∙ get_or-take n seed j (pos 0) k
-
-last-first : (n : ℕ) (seed : List ℤ) → n < length seed → reverse (take (suc n) seed) ≡ get_or seed n (pos 0) ∷ reverse (take n seed)
-last-first n seed h = rw (take-suc seed n (pos 0) h) (reverse-append (take n seed) (get_or seed n (pos 0) ∷ []))
-
-reversed_at : (n j : ℕ) (seed : List ℤ) → n ≤ length seed → j < n → get_or (reverse (take n seed)) j (pos 0) ≡ get_or seed (n - 1 - j) (pos 0)
-reversed_at zero j seed h k = absurd (omega arith)
-reversed_at (suc n) zero seed h k = let e : n ≡ suc n - 1 - 0 = omega arith in rw (last-first n seed h) (ap (λ i. get_or seed i (pos 0)) e)
-reversed_at (suc n) (suc j) seed h k =
-    let e : n - 1 - j ≡ suc n - 1 - suc j = omega arith in
-    rw (last-first n seed h) (reversed_at n j seed (omega arith) (omega arith) ∙ ap (λ i. get_or seed i (pos 0)) e)
-
--- in reverse: slot j holds sample n - 1 - j
-pub slot_reversed : (n j : ℕ) (seed : List ℤ) → n ≤ length seed → j < n → get_or (padded (reverse (take n seed))) j (pos 0) ≡ get_or seed (n - 1 - j) (pos 0)
-slot_reversed n j seed h k =
-    get_or-append (reverse (take n seed)) _ (pos 0) j (rw (length-reverse (take n seed), taken n seed h) k) ∙ reversed_at n j seed h k
-
--- behind them: 0
-pub slot-behind : (reversed : Bool) (n j : ℕ) (seed : List ℤ) → n ≤ length seed → n ≤ j → get_or (padded (ordered reversed (take n seed))) j (pos 0) ≡ pos 0
-slot-behind reversed n j seed h k = behind (ordered reversed (take n seed)) (8 - length (ordered reversed (take n seed))) j (rw (ordered-length reversed (take n seed), taken n seed h) k)
-
--- an empty seed gives zeros
-pub empty-seed : (reversed : Bool) (n : ℕ) (seed : List ℤ) → length seed ≡ 0 → padded (ordered reversed (take n seed)) ≡ replicate 8 (pos 0)
-empty-seed true zero [] e = refl
-empty-seed true (suc n) [] e = refl
-empty-seed false zero [] e = refl
-empty-seed false (suc n) [] e = refl
-empty-seed reversed n (x ∷ seed) e = absurd (omega arith)
-
--- one more slot is filled
-pub slot_filled : (history placed : List ℤ) (j : ℕ) (x : ℤ) → j < length history → j < length placed → x ≡ get_or placed j (pos 0) → take j history ≡ take j placed
-    → take (j + 1) (set history j x) ≡ take (j + 1) placed
-slot_filled history placed j x h k e t = rw (add-one j, take-suc-set history j x h, take-suc placed j (pos 0) k, e, t)
-
--- all eight are
-pub all_filled : (history placed : List ℤ) (j : ℕ) → length history ≤ j → length placed ≤ j → take j history ≡ take j placed → history ≡ placed
-all_filled history placed j h k e = sym (take_all j history h) ∙ e ∙ take_all j placed k
-
-enough_cases : (needed some less : Bool) → ◌≡◌ {A = Result Unit Refusal} (cond ((needed || some) && less) (Err Refusal.SeedTooShort) (Ok tt)) (Ok tt) → some ≡ true → less ≡ false
-enough_cases needed some false e f = refl
-enough_cases true true true e f = cc
-enough_cases false true true e f = cc
-enough_cases needed false true e f = cc
-
--- a seed that has enough, and is not empty, has what the term takes
-pub enough-long : (needed : Bool) (count len : ℕ) {a : Result Unit Refusal} → a ≡ seed_length needed count len → a ≡ Ok tt → 0 < len → count ≤ len
-enough-long needed count len ea e h = ltb-false len count (enough_cases needed (ltb 0 len) (ltb len count) (sym ea ∙ e) (lt-ltb 0 len h))
+  -- in reverse
+  pub placed-reversed : (r : List ℤ) → r ≡ reverse (take n (s ++ drop n (replicate 8 (pos 0))))
+      → r ++ drop n (s ++ drop n (replicate 8 (pos 0))) ≡ padded (reverse (take count seed))
+  placed-reversed r g =
+      rw (g, take_at s _ n taken, drop_at s _ n taken, f, all-taken, drop-replicate n 8 (pos 0), length-reverse (take count seed), length-take count seed, ← e)

@@ -97,34 +97,22 @@ fn seed_count(t: Term) -> usize
 fn seed_length(needed: bool, count: usize, len: usize) -> Result<(), Refusal>
     ensures { result ≡ seed_length needed count len }
 {
-    if (needed | (0 < len)) & (len < count) {
+    if (needed || 0 < len) && len < count {
         return Err(Refusal::SeedTooShort);
     }
     Ok(())
 }
 
-// Slot j of a history that is seeded with the first n samples of a seed.
-fn seed_slot(reversed: bool, n: usize, seed: &[i32], j: usize) -> i32
-    requires { n ≤ length seed.now }
-    ensures { result ≡ get_or (padded (ordered reversed (take n seed.now))) j (pos 0) }
-{
-    if j < n {
-        if reversed { seed[n - 1 - j] } else { seed[j] }
-    } else {
-        0
-    }
-}
-
-// The history that a seed gives a term which takes `count` samples: zeros for an empty seed.
+// The history that a seed gives a term which takes `count` samples: zeros behind them.
 fn seed_history(reversed: bool, count: usize, seed: &[i32]) -> [i32; 8]
-    requires { (count ≤ 8) × (0 < length seed.now → count ≤ length seed.now) }
+    requires { count ≤ 8 }
     ensures { result ≡ padded (ordered reversed (take count seed.now)) }
 {
-    let mut history = [0i32; 8];
-    if !seed.is_empty() {
-        for j in 0..8 {
-            history[j] = seed_slot(reversed, count, seed, j);
-        }
+    let taken = count.min(seed.len());
+    let mut history = [0; 8];
+    history[..taken].copy_from_slice(&seed[..taken]);
+    if reversed {
+        history[..taken].reverse();
     }
     history
 }
@@ -159,7 +147,7 @@ impl DecorrPass {
         }
         let count = seed_count(t);
         seed_length(false, count, seed_a.len())?;
-        let paired = is_cross(t) & (0 < seed_a.len());
+        let paired = is_cross(t) && 0 < seed_a.len();
         seed_length(paired, count, seed_b.len())?;
         let reversed = is_lag(t);
         Ok(DecorrPass {
