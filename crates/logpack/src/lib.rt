@@ -27,7 +27,7 @@ fn expand_magnitude(word: u32) -> i32
     if exponent <= 9 {
         (mantissa(word) >> (9 - exponent)) as i32
     } else {
-        wrapping::narrow(((mantissa(word) as u64) << ((exponent - 9) % 32)) as i64)
+        wrapping::narrow((u64::from(mantissa(word)) << ((exponent - 9) % 32)) as i64)
     }
 }
 
@@ -38,7 +38,7 @@ fn expand(word: i32) -> i32
     ensures { result ≡ log_word word }
 {
     if word < 0 {
-        return wrapping::wrapping_neg(expand(-word));
+        return expand(-word).wrapping_neg();
     }
     expand_magnitude(word as u32)
 }

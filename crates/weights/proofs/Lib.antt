@@ -1,5 +1,4 @@
 -- What the proofs of the functions and other crates cite.
-pub mod StdWrap
 pub mod PredictLaws
 pub mod SignLaws
 pub mod UpdateLaws

@@ -2,3 +2,4 @@
 pub mod WrapLaws
 pub mod RangeLaws
 pub mod ReadBack
+pub mod StdWrap

@@ -2,6 +2,7 @@
 -- within 40 bits and then narrowed.
 -- Assumes nothing.
 use Prim.Native.Nat.{◌-◌, ◌/◌}
+use mathlib.Core.Path.{◌∙◌}
 use native.Mathlib.Omega.{arith}
 use mir.Syntax.{w32}
 use mir.ValLaws.{to_z_pos}
@@ -20,4 +21,4 @@ returns-then-exponent-le9 c =
 
 pub returns-else-exponent-le9 : goal.returns-else-exponent-le9
 returns-else-exponent-le9 c =
-    left-raw _ _ _ c.mantissa-else-exponent-le9.ensures c.narrow.ensures (search rules)
+    left-raw _ _ _ (c.from.ensures ∙ c.mantissa-else-exponent-le9.ensures) c.narrow.ensures (search rules)

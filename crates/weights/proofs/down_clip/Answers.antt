@@ -2,7 +2,7 @@
 use Rattle.std.proofs.Common.{rules}
 use mir.Syntax.{w32}
 use mir.ValLaws.{to_z-of_z}
-use Rattle.weights.proofs.StdWrap.{difference-is, negation-is}
+use Rattle.wrapping.proofs.StdWrap.{difference-is, negation-is}
 use Rattle.weights.proofs.down_clip.Goals as goal
 
 pub returns : goal.returns

@@ -3,7 +3,7 @@ use Rattle.std.proofs.Common.{rules}
 use mir.Syntax.{w32}
 use mir.ValLaws.{to_z-of_z}
 use Rattle.weights.specs.Weights.{residual}
-use Rattle.weights.proofs.StdWrap.{difference-is}
+use Rattle.wrapping.proofs.StdWrap.{difference-is}
 use Rattle.weights.proofs.residual_of.Goals as goal
 
 pub returns : goal.returns

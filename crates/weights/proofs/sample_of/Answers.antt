@@ -3,7 +3,7 @@ use Rattle.std.proofs.Common.{rules}
 use mir.Syntax.{w32}
 use mir.ValLaws.{to_z-of_z}
 use Rattle.weights.specs.Weights.{sample}
-use Rattle.weights.proofs.StdWrap.{sum-is}
+use Rattle.wrapping.proofs.StdWrap.{sum-is}
 use Rattle.weights.proofs.sample_of.Goals as goal
 
 pub returns : goal.returns

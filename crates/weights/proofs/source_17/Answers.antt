@@ -1,7 +1,7 @@
 -- `weights::source_17` meets its contract. Assumes nothing.
 use Rattle.std.proofs.Common.{rules, pos}
 use Rattle.weights.specs.Weights.{source17}
-use Rattle.weights.proofs.StdWrap.{product_less}
+use Rattle.wrapping.proofs.StdWrap.{product_less}
 use Rattle.weights.proofs.source_17.Goals as goal
 
 pub returns : goal.returns

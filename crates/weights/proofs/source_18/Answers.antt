@@ -1,7 +1,7 @@
 -- `weights::source_18` meets its contract. Assumes nothing.
 use Rattle.std.proofs.Common.{rules, pos}
 use Rattle.weights.specs.Weights.{source18}
-use Rattle.weights.proofs.StdWrap.{product_less, half_is}
+use Rattle.wrapping.proofs.StdWrap.{product_less, half_is}
 use Rattle.weights.proofs.source_18.Goals as goal
 
 pub returns : goal.returns

@@ -2,7 +2,7 @@
 use Rattle.std.proofs.Common.{rules}
 use mir.Syntax.{w32}
 use mir.ValLaws.{to_z-of_z}
-use Rattle.weights.proofs.StdWrap.{sum-is}
+use Rattle.wrapping.proofs.StdWrap.{sum-is}
 use Rattle.weights.proofs.up_clip.Goals as goal
 
 pub returns : goal.returns

@@ -3,7 +3,7 @@ use Rattle.std.proofs.Common.{rules}
 use mir.Syntax.{w32, w64}
 use mir.ValLaws.{to_z-of_z}
 use Rattle.wrapping.proofs.RangeLaws.{widen}
-use Rattle.weights.proofs.StdWrap.{sum-is, negation-is}
+use Rattle.wrapping.proofs.StdWrap.{sum-is, negation-is}
 use Rattle.weights.proofs.UpdateLaws.{stepped}
 use Rattle.weights.proofs.update_weight.Goals as goal
 
