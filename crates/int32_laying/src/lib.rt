@@ -13,7 +13,6 @@ ghost use Rattle.int32.specs.Deconstruct.{literal_of};
 use bit_laying::put_bits;
 use int32_sample::{low_bits, shifted};
 use little_endian::lay_number;
-use wrapping::casts::u32_to_u64;
 
 // Lays the `count` low bits of each sample, shifted right first, from the first bit on.
 pub fn lay_literals(samples: &[i32], shift: u32, count: u32, out: &mut [u8])
@@ -32,7 +31,7 @@ pub fn lay_literals(samples: &[i32], shift: u32, count: u32, out: &mut [u8])
     let mut at: usize = 0;
     let mut i: usize = 0;
     while i < samples.len() {
-        let bits = u32_to_u64(low_bits(shifted(samples[i], shift), count));
+        let bits = u64::from(low_bits(shifted(samples[i], shift), count));
         held = held + (bits << filled);
         filled = filled + count;
         if filled >= 32 {
