@@ -43,14 +43,14 @@ loop-i-preserved c =
     c.shifted.ensures ∙ ap (above c.args.shift) (to_z-of_z f) in
     let g : SFits w32 c.shifted.result = subst (SFits w32) (sym e) (above-fits c.args.shift x f) in
     -- the bits of the sample that was read
-    let bits : c.u32_to_u64-bits.result ≡ low_bits k (above c.args.shift x) =
-    c.u32_to_u64-bits.ensures ∙ c.low_bits.ensures ∙ ap (low_bits k) (to_z-of_z g ∙ e) in
-    let small : c.u32_to_u64-bits.result < 2 ^ k = rw bits (low_lt (32 - k) k (omega arith) _) in
+    let bits : c.from-bits.result ≡ low_bits k (above c.args.shift x) =
+    c.from-bits.ensures ∙ c.low_bits.ensures ∙ ap (low_bits k) (to_z-of_z g ∙ e) in
+    let small : c.from-bits.result < 2 ^ k = rw bits (low_lt (32 - k) k (omega arith) _) in
     let y = l.invariant.2 in
     let sum = joins l.held _ l.filled k y.small small (omega arith) in
     -- the bits of one more sample are held
     let more : Laying s c.args.shift k c.args.out.now l.out
-    (l.held + c.u32_to_u64-bits.result * 2 ^ l.filled % 18446744073709551616) (l.filled + k) l.at (l.i + 1) =
+    (l.held + c.from-bits.result * 2 ^ l.filled % 18446744073709551616) (l.filled + k) l.at (l.i + 1) =
     rw sum.exact (laying_more _ _ _ _ l.out l.held l.filled l.at l.i _ (omega arith) bits small y) in
     let room = laying_room _ _ _ _ _ _ _ _ _ c.requires.widths.1 more in
     elim c.if-filled-ge32.branch [
