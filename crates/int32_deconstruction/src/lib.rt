@@ -34,11 +34,8 @@ fn shorten(samples: &mut [i32], shift: u32, count: u32)
     ensures { samples.new
         ≡ map (above count) (map (above shift) samples.old) }
 {
-    let mut i: usize = 0;
-    while i < samples.len() {
-        let sample = samples[i];
-        samples[i] = shifted(shifted(sample, shift), count);
-        i = i + 1;
+    for sample in samples.iter_mut() {
+        *sample = shifted(shifted(*sample, shift), count);
     }
 }
 

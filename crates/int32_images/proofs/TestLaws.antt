@@ -6,7 +6,6 @@ use mathlib.Core.List.{List}
 use Prim.Native.Nat.{ℕ, suc, ◌+◌, ◌-◌, ◌≤◌, ◌<◌}
 use native.Mathlib.Numerals.{add-one}
 use native.Mathlib.Omega.{arith}
-use borrow.Author.Tests.{eq-eqb, ne_eqb}
 use lib.Dec.{eqb}
 use lib.IntN.{ℤ, pos}
 use lib.ListN.{length, drop, get_or, drop_of_length-le}
@@ -29,40 +28,27 @@ nothing-more : (b : Bool) → (b && true) ≡ b
 nothing-more true = refl
 nothing-more false = refl
 
-fails : (all rest : Bool) → (all && (false && rest)) ≡ (false && rest)
-fails true rest = refl
-fails false rest = refl
+regroup : (a b c : Bool) → ((a && b) && c) ≡ (a && (b && c))
+regroup true b c = refl
+regroup false b c = refl
 
 module _ (s : Setting) (samples : List ℤ) where
   pub tested-none : Tested s samples true 0
   tested-none = record { here = omega arith; whole = refl }
 
-  -- a sample that passed, and one that failed
-  pub tested-passed : (all : Bool) (i : ℕ) → i < length samples
-      → reinsertable s (get_or samples i (pos 0)) ≡ true → Tested s samples all i → Tested s samples all (i + 1)
+  -- one sample more
+  pub tested_more : (all found : Bool) (i : ℕ) → i < length samples
+      → found ≡ reinsertable s (get_or samples i (pos 0)) → Tested s samples all i
+      → Tested s samples (all && found) (i + 1)
   unfolding all_reinsertable
-  tested-passed all i h e t =
-      let d : all_reinsertable s (drop i samples)
-      ≡ (reinsertable s (get_or samples i (pos 0)) && all_reinsertable s (drop (suc i) samples)) =
-      ap (all_reinsertable s) (drop-cons samples i (pos 0) h) in
-      rw (add-one i) (record {
-        here = h;
-        whole = ap (λ (b : Bool). all && b)
-            (sym (d ∙ ap (λ (b : Bool). b && all_reinsertable s (drop (suc i) samples)) e)) ∙ t.whole;
-      })
-
-  pub tested_failed : (all : Bool) (i : ℕ) → i < length samples
-      → reinsertable s (get_or samples i (pos 0)) ≡ false → Tested s samples all i
-      → Tested s samples false (i + 1)
-  unfolding all_reinsertable
-  tested_failed all i h e t =
+  tested_more all found i h e t =
       let rest = all_reinsertable s (drop (suc i) samples) in
       let d : all_reinsertable s (drop i samples) ≡ (reinsertable s (get_or samples i (pos 0)) && rest) =
       ap (all_reinsertable s) (drop-cons samples i (pos 0) h) in
       rw (add-one i) (record {
         here = h;
-        whole = sym (fails all rest) ∙ ap (λ (b : Bool). all && b)
-            (sym (d ∙ ap (λ (b : Bool). b && rest) e)) ∙ t.whole;
+        whole = regroup all found rest
+            ∙ ap (λ (b : Bool). all && b) (ap (λ (b : Bool). b && rest) e ∙ sym d) ∙ t.whole;
       })
 
   pub tested-all : (all : Bool) (i : ℕ) → length samples ≤ i → Tested s samples all i
@@ -81,9 +67,5 @@ module _ (s : Setting) (r : Redundancy) (y : ℤ) (low n : ℕ) (w : width s ≤
   fill_is : n ≡ fill s (above (width s) y)
   fill_is = q ∙ rw e
 
-  pub passes : low ≡ n → reinsertable s y ≡ true
-  passes h = tested s (31 - width s) y (above-count (width s) w) f ∙ eq-eqb _ _ (sym low-is ∙ h ∙ fill_is)
-
-  pub fails-test : (low ≡ n → ⊥) → reinsertable s y ≡ false
-  fails-test h = tested s (31 - width s) y (above-count (width s) w) f
-      ∙ ne_eqb _ _ (λ g. h (low-is ∙ g ∙ sym fill_is))
+  pub compared : eqb low n ≡ reinsertable s y
+  compared = rw (low-is, fill_is) (sym (tested s (31 - width s) y (above-count (width s) w) f))

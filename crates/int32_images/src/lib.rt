@@ -19,13 +19,8 @@ pub fn is_reinsertable(samples: &[i32], zeros: u32, ones: u32, dups: u32) -> boo
     let even = put.even;
     let odd = put.odd;
     let mut all = true;
-    let mut i: usize = 0;
-    while i < samples.len() {
-        let sample = samples[i];
-        i = i + 1;
-        if low_bits(sample, count) != bits_below(shifted(sample, count), even, odd) {
-            all = false;
-        }
+    for sample in samples {
+        all &= low_bits(*sample, count) == bits_below(shifted(*sample, count), even, odd);
     }
     all
 }

@@ -29,18 +29,16 @@ pub fn lay_literals(samples: &[i32], shift: u32, count: u32, out: &mut [u8])
     let mut held: u64 = 0;
     let mut filled: u32 = 0;
     let mut at: usize = 0;
-    let mut i: usize = 0;
-    while i < samples.len() {
-        let bits = u64::from(low_bits(shifted(samples[i], shift), count));
-        held = held + (bits << filled);
-        filled = filled + count;
+    for sample in samples {
+        let bits = u64::from(low_bits(shifted(*sample, shift), count));
+        held += bits << filled;
+        filled += count;
         if filled >= 32 {
             lay_number((held % 4294967296) as u32, at, out);
-            held = held / 4294967296;
-            filled = filled - 32;
-            at = at + 4;
+            held /= 4294967296;
+            filled -= 32;
+            at += 4;
         }
-        i = i + 1;
     }
     put_bits(&mut out[at..], 0, held as u32, filled);
 }

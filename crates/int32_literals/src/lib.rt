@@ -27,11 +27,8 @@ pub fn append_literals(samples: &mut [i32], literal: &[u8], count: u32)
     ensures { samples.new
         ≡ appended count (bits_of literal.now) samples.old }
 {
-    let mut i: usize = 0;
-    while i < samples.len() {
+    for (i, sample) in samples.iter_mut().enumerate() {
         let bits = literal_at(literal, i * count as usize, count);
-        let sample = samples[i];
-        samples[i] = put_below(sample, count, bits);
-        i = i + 1;
+        *sample = put_below(*sample, count, bits);
     }
 }

@@ -17,11 +17,8 @@ fn put_each(samples: &mut [i32], count: u32, n: u32)
     ensures put { samples.new ≡ map (below count n) samples.old }
     ensures read { Samples32 samples.old }
 {
-    let mut i: usize = 0;
-    while i < samples.len() {
-        let sample = samples[i];
-        samples[i] = put_below(sample, count, n);
-        i = i + 1;
+    for sample in samples.iter_mut() {
+        *sample = put_below(*sample, count, n);
     }
 }
 
@@ -32,11 +29,8 @@ fn put_copies(samples: &mut [i32], count: u32)
     ensures read { Samples32 samples.old }
 {
     let mask = low_bits_mask(count);
-    let mut i: usize = 0;
-    while i < samples.len() {
-        let sample = samples[i];
-        samples[i] = put_below(sample, count, bits_below(sample, 0, mask));
-        i = i + 1;
+    for sample in samples.iter_mut() {
+        *sample = put_below(*sample, count, bits_below(*sample, 0, mask));
     }
 }
 

@@ -1,5 +1,5 @@
 -- `int32_laying::lay_literals` meets its contract. The loop's invariant is `Laying`, with under
--- 32 bits held. The measure is what is left of the samples.
+-- 32 bits held.
 -- Assumes nothing.
 use mathlib.Core.Path.{◌≡◌, sym, ap, subst, ◌∙◌}
 use mathlib.Core.List.{List, map}
@@ -29,15 +29,15 @@ returns-then-count-eq0 c =
     nothing-laid c.args.out.now xs
     ∙ ap (λ (k : ℕ). overlay c.args.out.now 0 (bytes_holding (literal_of k xs))) (sym c.if-count-eq0.true)
 
-pub loop-i-init : goal.loop-i-init
-loop-i-init c = (omega arith, search rules, laying_none _ _ _ _)
+pub loop-sample-init : goal.loop-sample-init
+loop-sample-init c = (omega arith, search rules, laying_none _ _ _ _)
 
-pub loop-i-preserved : goal.loop-i-preserved
-loop-i-preserved c =
+pub loop-sample-preserved : goal.loop-sample-preserved
+loop-sample-preserved c =
     let s = c.args.samples.now in
     let k = c.args.count in
-    let l = c.loop-i in
-    let x = get_or s l.i (pos 0) in
+    let l = c.loop-sample in
+    let x = get_or s l.sample-index (pos 0) in
     let f : SFits w32 x = search rules in
     let e : c.shifted.result ≡ above c.args.shift x =
     c.shifted.ensures ∙ ap (above c.args.shift) (to_z-of_z f) in
@@ -50,8 +50,8 @@ loop-i-preserved c =
     let sum = joins l.held _ l.filled k y.small small (omega arith) in
     -- the bits of one more sample are held
     let more : Laying s c.args.shift k c.args.out.now l.out
-    (l.held + c.from-bits.result * 2 ^ l.filled % 18446744073709551616) (l.filled + k) l.at (l.i + 1) =
-    rw sum.exact (laying_more _ _ _ _ l.out l.held l.filled l.at l.i _ (omega arith) bits small y) in
+    (l.held + c.from-bits.result * 2 ^ l.filled % 18446744073709551616) (l.filled + k) l.at (l.sample-index + 1) =
+    rw sum.exact (laying_more _ _ _ _ l.out l.held l.filled l.at l.sample-index _ (omega arith) bits small y) in
     let room = laying_room _ _ _ _ _ _ _ _ _ c.requires.widths.1 more in
     elim c.if-filled-ge32.branch [
       | then-filled-ge32 w ↦ rw (w.out-is, w.held-is, w.filled-is, w.at-is) (
@@ -65,7 +65,7 @@ loop-i-preserved c =
 
 pub returns : goal.returns
 returns c =
-    let l = c.loop-i in
+    let l = c.loop-sample in
     let y = l.invariant.2 in
     -- the bytes that are laid are within the buffer
     let m : l.at ≤ length l.out = omega (
@@ -78,4 +78,4 @@ returns c =
     let e : c.put_bits.new.out ≡ put (drop l.at l.out) 0 (low l.filled l.held) =
     c.put_bits.ensures ∙ ap (λ (x : List ℕ). put x 0 (low l.filled l.held)) (rest-whole l.out l.at) in
     given_back l.out _ _ l.at m e
-    ∙ laying_all _ _ _ _ l.out l.held l.filled l.at l.i (omega arith) l.invariant.1 m y
+    ∙ laying_all _ _ _ _ l.out l.held l.filled l.at l.sample-index (omega arith) l.invariant.1 m y

@@ -1,5 +1,5 @@
 -- `int32_literals::append_literals` meets its contract. The loop's invariant: the first i samples
--- have their literal bits. The measure is what is left of them.
+-- have their literal bits.
 -- Assumes nothing.
 use mathlib.Core.Path.{◌≡◌, sym, ap₂, subst, ◌∙◌}
 use Prim.Native.Nat.{ℕ}

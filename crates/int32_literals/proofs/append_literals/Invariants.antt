@@ -1,8 +1,6 @@
 -- `int32_literals::append_literals` meets its contract. The loop's invariant: the first i samples
--- have their literal bits. The measure is what is left of them.
+-- have their literal bits.
 -- Assumes nothing.
-use Prim.Native.Nat.{◌-◌}
-use lib.ListN.{length}
 use Rattle.bits.specs.Bits.{bits_of}
 use Rattle.int32.proofs.InPlace.{Replaced}
 use Rattle.int32_literals.proofs.LiteralLaws.{append_at}
@@ -10,6 +8,3 @@ use Rattle.int32_literals.proofs.append_literals.Given as goal
 
 abbrev pub invariant-loop-i : goal.invariant-loop-i
 invariant-loop-i l = Replaced (append_at l.count (bits_of l.literal)) l.initial.samples l.samples l.i
-
-abbrev pub decreases-loop-i : goal.decreases-loop-i
-decreases-loop-i l = length l.initial.samples - l.i
