@@ -1,30 +1,27 @@
 -- A threshold, read digit by digit, and that every number of 32 bits reads back as itself.
 -- Assumes nothing.
 use mathlib.Core.Path.{◌≡◌, refl, sym, ap, ◌∙◌}
-use mathlib.Core.Bool.{Bool, true, false, cond, ◌&&◌, and-true, and-false, and_assoc}
+use mathlib.Core.Bool.{Bool, true, false, ◌&&◌, and-false, and_assoc}
 use mathlib.Core.List.{List, [], ◌∷◌, ◌++◌}
 use Prim.Native.Nat.{ℕ, ◌+◌, ◌*◌, ◌-◌, ◌/◌, ◌%◌, ◌≤◌, ◌<◌}
 use native.Mathlib.Numerals.{add-one}
 use native.Mathlib.Omega.{arith}
-use borrow.Author.Tests.{lt-ltb, le-ltb, le-leb, lt-leb, leb-true}
+use borrow.Author.Tests.{lt-ltb, le-ltb, le-leb, leb-true}
+use Rattle.std.specs.Prelude.{Option, Some, None}
+use Rattle.std.specs.Char.{is_ascii_digit}
 use lib.Dec.{ltb, leb}
 use lib.ListN.{length, drop, get_or, drop_of_length-le}
 use lib.Seq.{drop-cons}
 use Rattle.answers.proofs.TestLaws.{both}
 use Rattle.decimal.specs.Decimal.{decimal, read_digits}
 use Rattle.decimal.proofs.DecimalLaws.{by_tenths, decimal-one, decimal-more, decimal-some, decimal-back}
-use Rattle.threshold.specs.declared.Threshold.{Threshold}
 use Rattle.threshold.specs.Threshold.{is_digit, all_digits, is_threshold, threshold_in}
 
 -- ---- one digit
 
-pub digit-below : (c : ℕ) → c < 48 → false ≡ is_digit c
+pub digit-is : (c : ℕ) → is_ascii_digit c ≡ is_digit c
 unfolding is_digit
-digit-below c h = rw (lt-leb 48 c h)
-
-pub digit-above : (c : ℕ) → 48 ≤ c → leb c 57 ≡ is_digit c
-unfolding is_digit
-digit-above c h = rw (le-leb 48 c h)
+digit-is c = refl
 
 -- a digit is at least `0`, and at most `9`
 pub digit_low : (c : ℕ) → is_digit c ≡ true → (48 ≤ c) × (c ≤ 57)
@@ -45,13 +42,6 @@ read-grows : (n : ℕ) (text : List ℕ) → n ≤ read_digits n text
 unfolding read_digits
 read-grows n [] = omega arith
 read-grows n (c ∷ text) = omega (arith, read-grows (10 * n + (c - 48)) text)
-
--- a text's number, but for the empty one, whose number is 0
-or_empty : (s : List ℕ) → ◌≡◌ {A = Threshold} (record { valid = ltb 0 (length s); value = read_digits 0 s })
-    (record { valid = ltb 0 (length s); value = cond (ltb 0 (length s)) (read_digits 0 s) 0 })
-unfolding read_digits
-or_empty [] = refl
-or_empty (c ∷ s) = rw (lt-ltb 0 (length (c ∷ s)) (omega arith))
 
 module _ (text : List ℕ) where
   pub typed_none : Typed text 0 0
@@ -76,12 +66,12 @@ module _ (text : List ℕ) where
   }
 
   -- a text that is no threshold
-  none_is : is_threshold text ≡ false → record { valid = false; value = 0 } ≡ threshold_in text
+  none_is : is_threshold text ≡ false → ◌≡◌ {A = Option ℕ} None (threshold_in text)
   none_is e = rw e
 
   -- a byte that is no digit
   pub typed_other : (value i : ℕ) → i < length text → Typed text value i → is_digit (get_or text i 0) ≡ false
-      → record { valid = false; value = 0 } ≡ threshold_in text
+      → ◌≡◌ {A = Option ℕ} None (threshold_in text)
   unfolding all_digits is_threshold
   typed_other value i h t d =
       let e : all_digits text ≡ false =
@@ -92,7 +82,7 @@ module _ (text : List ℕ) where
   -- a number that is too large
   pub typed_large : (value i : ℕ) → i < length text → Typed text value i
       → 4294967296 ≤ 10 * value + (get_or text i 0 - 48)
-      → record { valid = false; value = 0 } ≡ threshold_in text
+      → ◌≡◌ {A = Option ℕ} None (threshold_in text)
   unfolding read_digits is_threshold
   typed_large value i h t l =
       let next = 10 * value + (get_or text i 0 - 48) in
@@ -106,27 +96,19 @@ module _ (text : List ℕ) where
             (ltb 0 (length text)),
       ))
 
-  pub too_large : (value i : ℕ) → Typed text value i → i < length text
-      → 4294967296 ≤ 10 * value + (get_or text i 0 - 48)
-      → threshold_in text ≡ record { valid = false; value = 0 }
-  too_large value i t h l = sym (typed_large value i h t l)
-
-  -- a text of digits and a small number is a threshold, but for the empty one, whose number is 0
-  all_digits_lem : (value : ℕ) → all_digits text ≡ true → value ≡ read_digits 0 text → value < 4294967296
-      → record { valid = ltb 0 (length text); value = value } ≡ threshold_in text
+  -- a text of digits and a small number is a threshold, but for the empty one
+  pub typed_empty : length text ≡ 0 → ◌≡◌ {A = Option ℕ} None (threshold_in text)
   unfolding is_threshold
-  all_digits_lem value d e h =
-      let small : read_digits 0 text < 4294967296 = omega arith in
-      rw (d, lt-ltb (read_digits 0 text) 4294967296 small, and-true (ltb 0 (length text)), e) (or_empty text)
+  typed_empty e = rw e
 
-  -- all bytes are digits
-  pub typed_all : (value i : ℕ) → length text ≤ i → Typed text value i
-      → record { valid = ltb 0 (length text); value = value } ≡ threshold_in text
-  unfolding read_digits all_digits
-  typed_all value i h t =
+  pub typed_all : (value i : ℕ) → length text ≤ i → 0 < length text → Typed text value i
+      → ◌≡◌ {A = Option ℕ} (Some value) (threshold_in text)
+  unfolding is_threshold read_digits all_digits
+  typed_all value i h some t =
       let none = drop_of_length-le text {i = i} h in
-      all_digits_lem value (sym t.digits ∙ ap all_digits none) (sym (ap (read_digits value) none) ∙ t.left)
-      t.small
+      let d : all_digits text ≡ true = sym t.digits ∙ ap all_digits none in
+      let e : read_digits 0 text ≡ value = sym t.left ∙ ap (read_digits value) none in
+      rw (lt-ltb 0 (length text) some, d, e, lt-ltb value 4294967296 t.small)
 
 -- ---- what is typed is what was meant
 

@@ -3,50 +3,18 @@
 #![tactic(auto)]
 
 ghost use Rattle.std.specs.Prelude.{◌≡◌};
-ghost use Rattle.threshold.specs.Threshold.{is_digit, threshold_in};
-
-// Whether a text is a threshold, and which; 0 where it is none.
-#[derive(Clone, Copy)]
-pub struct Threshold {
-    pub valid: bool,
-    pub value: u32,
-}
-
-// Whether a byte is a digit.
-fn is_digit(byte: u8) -> bool
-    ensures { result ≡ is_digit byte }
-{
-    if byte < 48 {
-        return false;
-    }
-    byte <= 57
-}
+ghost use Rattle.threshold.specs.Threshold.{threshold_in};
 
 // Reads a threshold: decimal digits alone, of a number below 2 to the 32. Any other text has none.
-#[tactic(auto, using(crate::proofs::ThresholdLaws::too_large))]
-pub fn threshold_of(text: &[u8]) -> Threshold
+pub fn threshold_of(text: &[u8]) -> Option<u32>
     ensures { result ≡ threshold_in text.now }
 {
-    let mut value: u64 = 0;
-    let mut i: usize = 0;
-    while i < text.len() {
-        if !is_digit(text[i]) {
-            return Threshold {
-                valid: false,
-                value: 0,
-            };
+    let mut value: u32 = 0;
+    for byte in text {
+        if !byte.is_ascii_digit() {
+            return None;
         }
-        value = 10 * value + (text[i] - 48) as u64;
-        if value >= 4294967296 {
-            return Threshold {
-                valid: false,
-                value: 0,
-            };
-        }
-        i = i + 1;
+        value = value.checked_mul(10)?.checked_add(u32::from(*byte - b'0'))?;
     }
-    Threshold {
-        valid: text.len() > 0,
-        value: value as u32,
-    }
+    if text.is_empty() { None } else { Some(value) }
 }

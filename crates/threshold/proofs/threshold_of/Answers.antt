@@ -1,44 +1,48 @@
--- `threshold::threshold_of` meets its contract. The loop's invariant: the digits passed,
--- read on by those that are left, are the whole number. The measure is how many are left.
+-- `threshold::threshold_of` meets its contract.
 -- Assumes nothing.
 use mathlib.Core.Path.{◌≡◌, sym, ◌∙◌}
-use Prim.Native.Nat.{ℕ, ◌≤◌, ◌<◌}
-use mathlib.Core.Bool.{true}
-use mathlib.Core.List.{List}
+use Prim.Native.Nat.{◌+◌, ◌*◌, ◌-◌}
 use native.Mathlib.Omega.{arith}
-use lib.ListN.{length, get_or}
-use Rattle.threshold.specs.Threshold.{is_digit}
-use Rattle.threshold.proofs.ThresholdLaws.{Typed, typed_more, typed_other}
-use Rattle.threshold.proofs.ThresholdLaws.{typed_all, digit_low}
+use borrow.Author.Tests.{eqb-true, eqb-false}
+use lib.ListN.{get_or}
+use Rattle.threshold.proofs.ThresholdLaws.{digit-is, typed_other, typed_large, typed_more}
+use Rattle.threshold.proofs.ThresholdLaws.{typed_empty, typed_all}
 use Rattle.threshold.proofs.threshold_of.Goals as goal
 
-pub returns-then-not-is_digit : goal.returns-then-not-is_digit
-returns-then-not-is_digit c =
-    typed_other c.args.text.now c.loop-i.value c.loop-i.i c.loop-i-test.true c.loop-i.invariant
-    (sym c.is_digit.ensures ∙ c.if-not-is_digit.true)
+pub returns-then-not-is_ascii_digit : goal.returns-then-not-is_ascii_digit
+returns-then-not-is_ascii_digit c =
+    typed_other _ _ _ c.loop-byte-test.true c.loop-byte.invariant
+    (sym (digit-is _) ∙ sym c.is_ascii_digit.ensures.value ∙ c.if-not-is_ascii_digit.true)
 
--- what holds where the byte at i is a digit
-record Digit (text : List ℕ) (value i : ℕ) : Type 0 where
-  within : i < length text
-  typed : Typed text value i
-  is_one : is_digit (get_or text i 0) ≡ true
-  low : 48 ≤ get_or text i 0
-  high : get_or text i 0 ≤ 57
+pub returns-in_err-checked_mul : goal.returns-in_err-checked_mul
+returns-in_err-checked_mul c =
+    let e = c.in_err-checked_mul.ensures in
+    c.from_residual.ensures ∙ typed_large _ _ _ c.loop-byte-test.true c.loop-byte.invariant (omega (arith, e))
 
-digit : (text : List ℕ) (value i : ℕ) → i < length text → Typed text value i
-    → is_digit (get_or text i 0) ≡ true → Digit text value i
-digit text value i h t e =
-    let b = digit_low _ e in
-    record { within = h; typed = t; is_one = e; low = b.0; high = b.1 }
+pub returns-in_err-value : goal.returns-in_err-value
+returns-in_err-value c =
+    let e = c.in_err-value.ensures in
+    let d = c.from.ensures in
+    let m = c.in_ok-checked_mul.ensures in
+    c.from_residual-in_err-value.ensures
+    ∙ typed_large _ _ _ c.loop-byte-test.true c.loop-byte.invariant (omega (arith, e, m))
 
-pub loop-i-preserved : goal.loop-i-preserved
-loop-i-preserved c =
-    let d = digit _ _ _ c.loop-i-test.true c.loop-i.invariant
-    (sym c.is_digit.ensures ∙ c.if-not-is_digit.false) in
-    typed_more _ _ _ d.within d.typed d.is_one (omega arith)
+pub loop-byte-preserved : goal.loop-byte-preserved
+loop-byte-preserved c =
+    let i = c.loop-byte.byte-index in
+    let e = c.in_ok-value.ensures in
+    let d = c.from.ensures in
+    let m = c.in_ok-checked_mul.ensures in
+    let n : c.in_ok-value.value ≡ 10 * c.loop-byte.value + (get_or c.args.text.now i 0 - 48) =
+    omega (arith, e.1, m.1) in
+    rw n (typed_more _ _ _ c.loop-byte-test.true c.loop-byte.invariant
+    (sym (digit-is _) ∙ sym c.is_ascii_digit.ensures.value ∙ c.if-not-is_ascii_digit.false)
+    (omega (arith, e.0)))
 
-pub overflow_sub-value : goal.overflow_sub-value
-overflow_sub-value c = (digit_low _ (sym c.is_digit.ensures ∙ c.if-not-is_digit.false)).0
+pub returns-then-is_empty : goal.returns-then-is_empty
+returns-then-is_empty c = typed_empty _ (eqb-true _ _ (sym c.if-is_empty.ensures))
 
-pub returns : goal.returns
-returns c = typed_all _ _ _ (omega arith) c.loop-i.invariant
+pub returns-else-is_empty : goal.returns-else-is_empty
+returns-else-is_empty c =
+    let some = eqb-false _ _ (sym c.if-is_empty.ensures) in
+    typed_all _ _ _ c.loop-byte-test.false (omega (arith, some)) c.loop-byte.invariant
