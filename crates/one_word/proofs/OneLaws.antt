@@ -9,7 +9,9 @@ use borrow.Author.Tests.{lt-ltb, le-ltb, ltb-false}
 use lib.Dec.{ltb}
 use lib.IntN.{ℤ, pos}
 use lib.ListN.{length, get_or}
+use Rattle.std.specs.Prelude.{Result, Ok}
 use Rattle.answers.specs.Limits.{max_payload_bytes}
+use Rattle.answers.specs.declared.Refusal.{Refusal}
 use Rattle.bits.specs.Bits.{bits_of}
 use Rattle.entropy.specs.Medians.{medians_of}
 use Rattle.word_state.specs.State.{State, with_bits, run_due, plus_bits, charged, exceeds}
@@ -49,7 +51,7 @@ one_word_lem payload p s w h l x e =
     (ap (λ (w : Word). tell_word p s (charge p s w)) e)
 
 -- where no zero is owed, the word is what was read
-pub word_read : (payload : List ℕ) (p : ℕ) (st : StereoDecodeState) (run : Bool) (r : Coded)
+pub word_read : (payload : List ℕ) (p : ℕ) (st : StereoDecodeState) (run : Bool) (r : Result Coded Refusal)
     → st.next_channel ≤ 1 → st.zero_run_pending ≡ 0 → length st.medians ≡ 2
     → run ≡ (not st.run_break && run_due (medians_of (get_or st.medians 0 no_set)) (medians_of (get_or st.medians 1 no_set)) st.last_zero st.last_one)
     → CodedIs (bits_of payload) p run (medians_of (get_or st.medians st.next_channel no_set)) st.last_zero st.last_one r
@@ -64,13 +66,11 @@ word_read payload p st run r l n m e c =
 
 -- the steps of a word leave the totals alone, so they may be charged before them
 pub charged-before : (p : ℕ) (s : State) (r : Coded)
-    → coded_word (with_bits (plus_bits s.channel (bits_taken p r) s.bits_read) s) r
-    ≡ charge p s (coded_word s r)
+    → coded_word (with_bits (plus_bits s.channel (bits_taken p r) s.bits_read) s) (Ok r)
+    ≡ charge p s (coded_word s (Ok r))
 unfolding charged in_run after unbroken
 charged-before p s (Coded.Run d q) = refl
 charged-before p s (Coded.Sample v k q z o) = refl
-charged-before p s Coded.EndOfStream = refl
-charged-before p s Coded.Truncated = refl
 
 -- a zero that was owed takes nothing
 pub one-paid : (payload : List ℕ) (p : ℕ) (s : State) → length payload ≤ max_payload_bytes → s.channel ≤ 1

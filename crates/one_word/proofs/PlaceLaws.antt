@@ -11,15 +11,14 @@ use borrow.Author.Tests.{ltb-false, leb-true, leb-false}
 use lib.Dec.{ltb, leb}
 use lib.IntN.{ℤ}
 use lib.ListN.{length, get_or, drop_of_length-le}
+use Rattle.std.specs.Prelude.{Option, Some, None, Ok, Err}
 use Rattle.answers.specs.Limits.{max_payload_bytes}
+use Rattle.answers.specs.declared.Refusal.{Refusal}
 use Rattle.bits.specs.Bits.{ones, bits_of}
 use Rattle.bits.specs.Fields.{get_bits, unary}
-use Rattle.bits.specs.declared.Field.{Field}
-use Rattle.bits.specs.declared.Field.TheVariants.{Value, Truncated}
 use Rattle.bits.proofs.BitLaws.{length-bits}
 use Rattle.fields.specs.Counts.{run_length, prefix}
 use Rattle.fields.specs.Code.{truncated_binary}
-use Rattle.fields.specs.declared.Prefix.{Prefix}
 use Rattle.fields.proofs.Local.{field_end}
 use Rattle.fields.proofs.LocalLaws.{truncated_binary-local}
 use Rattle.medians.specs.Interval.{low_of, high_of}
@@ -53,19 +52,19 @@ pub data Ends (a : List Bool) (p q : ℕ) : Type 0 where
 -- ---- at the end of the payload and behind it
 
 module _ (a : List Bool) where
-  unary-past : (p : ℕ) → length a ≤ p → unary a p ≡ Truncated
+  unary-past : (p : ℕ) → length a ≤ p → unary a p ≡ None
   unfolding unary ones
   unary-past p h = rw (drop_of_length-le a h)
 
-  bit_past : (p : ℕ) → length a ≤ p → get_bits a p 1 ≡ Truncated
+  bit_past : (p : ℕ) → length a ≤ p → get_bits a p 1 ≡ None
   unfolding get_bits
   bit_past p h = rw (drop_of_length-le a h)
 
-  run_past : (p : ℕ) → length a ≤ p → run_length a p ≡ Truncated
+  run_past : (p : ℕ) → length a ≤ p → run_length a p ≡ None
   unfolding run_length
   run_past p h = rw (unary-past p h)
 
-  prefix-past : (p : ℕ) → length a ≤ p → prefix a p ≡ Prefix.Truncated
+  prefix-past : (p : ℕ) → length a ≤ p → prefix a p ≡ Err Refusal.Truncated
   unfolding prefix
   prefix-past p h = rw (unary-past p h)
 
@@ -74,10 +73,10 @@ module _ (a : List Bool) where
   unfolding value
   value-past p k s h = go (truncated_binary a p (high_of (due s) k - low_of (due s) k)) refl
     where
-      go : (f : Field) → truncated_binary a p (high_of (due s) k - low_of (due s) k) ≡ f
+      go : (f : Option (ℕ × ℕ)) → truncated_binary a p (high_of (due s) k - low_of (due s) k) ≡ f
           → on_field f (λ c q. on_field (get_bits a q 1) λ t n. given (signed t (low_of (due s) k + c)) n (after k s) (zone_of k)) ≡ refused 3
-      go (Value c q) e = rw (bit_past q (omega (arith, h, (truncated_binary-local p (high_of (due s) k - low_of (due s) k)).on a q (ap field_end e))))
-      go Truncated e = refl
+      go (Some (c, q)) e = rw (bit_past q (omega (arith, h, (truncated_binary-local p (high_of (due s) k - low_of (due s) k)).on a q (ap field_end e))))
+      go None e = refl
 
   plain-past : (p : ℕ) (s : State) → length a ≤ p → plain a p s ≡ refused 3
   unfolding plain
@@ -131,14 +130,12 @@ total_fits payload p q x s t v z h e l m = go (word-ends (bits_of payload) p q s
 
 module _ (payload : List ℕ) (p : ℕ) (st : StereoDecodeState) where
   -- the word ends at its place or after it
-  pub coded-on : (r : Coded) → coded_word (state_of st) r ≡ word (bits_of payload) p (state_of st) → EndsAfter p r
+  pub coded-on : (r : Coded) → coded_word (state_of st) (Ok r) ≡ word (bits_of payload) p (state_of st) → EndsAfter p r
   coded-on (Coded.Run d q) e = word_on (bits_of payload) p q (state_of st) _ _ _ (sym e)
   coded-on (Coded.Sample v k q z o) e = word_on (bits_of payload) p q (state_of st) _ _ _ (sym e)
-  coded-on Coded.EndOfStream e = omega arith
-  coded-on Coded.Truncated e = omega arith
 
   -- the total of the channel due, as the code's array holds it, and what the word took
-  pub coded-fits : (r : Coded) → coded_word (state_of st) r ≡ word (bits_of payload) p (state_of st)
+  pub coded-fits : (r : Coded) → coded_word (state_of st) (Ok r) ≡ word (bits_of payload) p (state_of st)
       → length payload ≤ max_payload_bytes → exceeds (state_of st).bits_read p ≡ false
       → SmallBits (state_of st).bits_read
       → st.next_channel < 2 → get_or st.bits_read st.next_channel 0 + bits_taken p r < 4294967296
@@ -164,12 +161,10 @@ module _ (payload : List ℕ) (p : ℕ) (st : StereoDecodeState) where
           (low 4294967295 m.small-left m.small-right) in
           omega arith
 
-      go : (r : Coded) → coded_word (state_of st) r ≡ word (bits_of payload) p (state_of st)
+      go : (r : Coded) → coded_word (state_of st) (Ok r) ≡ word (bits_of payload) p (state_of st)
           → due + bits_taken p r < 4294967296
       go (Coded.Run d q) e = some q _ _ _ (sym e)
       go (Coded.Sample v k q z o) e = some q _ _ _ (sym e)
-      go Coded.EndOfStream e = omega (arith, low 4294967295 m.small-left m.small-right)
-      go Coded.Truncated e = omega (arith, low 4294967295 m.small-left m.small-right)
 
 -- the place after a word that was given a place of 32 bits
 word_fits : (payload : List ℕ) (p : ℕ) (s : State) → p ≤ 4294967295 → (one_word payload p s).place ≤ 4294967295

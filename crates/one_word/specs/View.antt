@@ -50,16 +50,12 @@ one_word payload p s =
 
 -- ---- for the code alone
 
--- the bits that a word took, as it was read at p; none where it was refused
+-- the bits that a word took, as it was read at p
 abbrev pub bits_taken : ℕ → Coded → ℕ
 bits_taken p (Coded.Run d q) = q - p
 bits_taken p (Coded.Sample v k q z o) = q - p
-bits_taken p Coded.EndOfStream = 0
-bits_taken p Coded.Truncated = 0
 
 -- a word that was read at p ends there or after it
 abbrev pub EndsAfter : ℕ → Coded → Type 0
 EndsAfter p (Coded.Run d q) = p ≤ q
 EndsAfter p (Coded.Sample v k q z o) = p ≤ q
-EndsAfter p Coded.EndOfStream = p ≤ p
-EndsAfter p Coded.Truncated = p ≤ p

@@ -11,18 +11,18 @@ ghost use Rattle.word_state.specs.View.{state_of, bits_read_of};
 ghost use Rattle.zones.specs.Report.{none, zone_of};
 ghost use Rattle.one_word.specs.View.{view_word, tell_word, bits_taken, EndsAfter, one_word};
 
+use answers::Refusal;
 use answers::limits::MAX_PAYLOAD_BYTES;
-use answers::{Outcome, Refusal};
 use entropy::AdaptiveMedians;
 use medians::adaptation::adapt;
 use word_state::{StereoDecodeState, bits_exceed, charged, zero_run_eligible};
 use words::coded::{Coded, read_word};
-use zones::{MaybeZone, WordReport, Zone};
+use zones::{WordReport, Zone};
 
 // What the one-word entry answers.
 #[derive(Clone, Copy)]
 pub struct WordAnswer {
-    pub outcome: Outcome,
+    pub outcome: Result<(), Refusal>,
     pub sample: i32,
     pub place: usize,
     pub state: StereoDecodeState,
@@ -34,13 +34,11 @@ fn refused(refusal: Refusal, place: usize, state: StereoDecodeState) -> WordAnsw
     ensures { view_word result ≡ tell_word place (state_of state) (refused (number_of refusal)) }
 {
     WordAnswer {
-        outcome: Outcome::Refused(refusal),
+        outcome: Err(refusal),
         sample: 0,
         place,
         state,
-        report: WordReport {
-            zone: MaybeZone::None,
-        },
+        report: WordReport { zone: None },
     }
 }
 
@@ -49,13 +47,11 @@ fn zero(place: usize, state: StereoDecodeState) -> WordAnswer
     ensures { view_word result ≡ tell_word place (state_of state) (given (pos 0) place (state_of state) none) }
 {
     WordAnswer {
-        outcome: Outcome::Accepted,
+        outcome: Ok(()),
         sample: 0,
         place,
         state,
-        report: WordReport {
-            zone: MaybeZone::None,
-        },
+        report: WordReport { zone: None },
     }
 }
 
@@ -66,12 +62,12 @@ fn given(sample: i32, place: usize, state: StereoDecodeState, ones_count: u32) -
         (given sample place (state_of state) (zone_of ones_count)) }
 {
     WordAnswer {
-        outcome: Outcome::Accepted,
+        outcome: Ok(()),
         sample,
         place,
         state,
         report: WordReport {
-            zone: MaybeZone::Some(Zone::from_ones_count(ones_count)),
+            zone: Some(Zone::from_ones_count(ones_count)),
         },
     }
 }
@@ -81,10 +77,11 @@ fn paid(state: StereoDecodeState, owed: u32) -> StereoDecodeState
     requires { state.next_channel < 2 }
     ensures { state_of result ≡ paid owed (state_of state) }
 {
-    let mut next = state;
-    next.zero_run_pending = owed;
-    next.next_channel = 1 - state.next_channel;
-    next
+    StereoDecodeState {
+        zero_run_pending: owed,
+        next_channel: 1 - state.next_channel,
+        ..state
+    }
 }
 
 // Step 2: the first zero of a run, after which `owed` are left, and the totals with its bits.
@@ -92,16 +89,15 @@ fn in_run(state: StereoDecodeState, totals: [u32; 2], owed: u32) -> StereoDecode
     requires { state.next_channel < 2 }
     ensures { state_of result ≡ in_run owed (with_bits (bits_read_of totals) (state_of state)) }
 {
-    let none = AdaptiveMedians { values: [0, 0, 0] };
-    let medians = [none, none];
-    let mut next = state;
-    next.medians = medians;
-    next.zero_run_pending = owed;
-    next.run_break = true;
-    next.ever_took_zero_run = true;
-    next.next_channel = 1 - state.next_channel;
-    next.bits_read = totals;
-    next
+    StereoDecodeState {
+        medians: [AdaptiveMedians::ZERO; 2],
+        zero_run_pending: owed,
+        run_break: true,
+        ever_took_zero_run: true,
+        next_channel: 1 - state.next_channel,
+        bits_read: totals,
+        ..state
+    }
 }
 
 // Steps 3 and 4: the flags after a word, the medians due adapted to its count, and the totals with its
@@ -110,37 +106,35 @@ fn adapted(
     state: StereoDecodeState,
     totals: [u32; 2],
     ones_count: u32,
-    last_zero: bool,
-    last_one: bool,
+    zero_after: bool,
+    one_after: bool,
 ) -> StereoDecodeState
     requires { state.next_channel < 2 }
     ensures { state_of result
         ≡ after ones_count
-        (with_flags last_zero last_one (unbroken (with_bits (bits_read_of totals) (state_of state)))) }
+        (with_flags zero_after one_after (unbroken (with_bits (bits_read_of totals) (state_of state)))) }
 {
     let channel = state.next_channel as usize;
     let mut medians = state.medians;
     medians[channel] = adapt(medians[channel], ones_count);
-    let mut next = state;
-    next.medians = medians;
-    next.last_zero = last_zero;
-    next.last_one = last_one;
-    next.run_break = false;
-    next.next_channel = 1 - state.next_channel;
-    next.bits_read = totals;
-    next
+    StereoDecodeState {
+        medians,
+        last_zero: zero_after,
+        last_one: one_after,
+        run_break: false,
+        next_channel: 1 - state.next_channel,
+        bits_read: totals,
+        ..state
+    }
 }
 
-// The bits that a word took, from its place to the next; a refused one takes none.
+// The bits that a word took, from its place to the next.
 fn bits_taken(word: Coded, place: usize) -> usize
     requires { EndsAfter place word }
     ensures { result ≡ bits_taken place word }
 {
     match word {
-        Coded::Run(_, next) => next - place,
-        Coded::Sample(_, _, next, _, _) => next - place,
-        Coded::EndOfStream => 0,
-        Coded::Truncated => 0,
+        Coded::Run { next, .. } | Coded::Sample { next, .. } => next - place,
     }
 }
 
@@ -171,19 +165,27 @@ pub fn decode_sample_stateful_stereo(
     let zero_before = state.last_zero;
     let one_before = state.last_one;
     let run = zero_run_eligible(sets[0], sets[1], state.run_break, zero_before, one_before);
-    let word = read_word(payload, place, run, sets[channel], zero_before, one_before);
+    let read = read_word(payload, place, run, sets[channel], zero_before, one_before);
+    let word = match read {
+        Ok(word) => word,
+        Err(refusal) => return refused(refusal, place, state),
+    };
     let totals = charged(before, state.next_channel, bits_taken(word, place));
     match word {
-        Coded::Run(owed, next) => zero(next, in_run(state, totals, owed)),
-        Coded::Sample(sample, ones_count, next, last_zero, last_one) => {
+        Coded::Run { owed, next } => zero(next, in_run(state, totals, owed)),
+        Coded::Sample {
+            value,
+            ones_count,
+            next,
+            last_zero,
+            last_one,
+        } => {
             given(
-                sample,
+                value,
                 next,
                 adapted(state, totals, ones_count, last_zero, last_one),
                 ones_count,
             )
         }
-        Coded::EndOfStream => refused(Refusal::EndOfStream, place, state),
-        Coded::Truncated => refused(Refusal::Truncated, place, state),
     }
 }

@@ -3,7 +3,7 @@
 -- Assumes nothing.
 use borrow.Author.Rules.{rules}
 use native.Mathlib.Omega.{arith}
-use mathlib.Core.Path.{◌≡◌, ap, ◌∙◌}
+use mathlib.Core.Path.{◌≡◌, sym, ap, ◌∙◌}
 use mathlib.Core.Bool.{Bool, false, ◌||◌}
 use mathlib.Core.List.{List}
 use Prim.Native.Nat.{ℕ, ◌≤◌}
@@ -14,6 +14,7 @@ use lib.ListN.{length}
 use mir.Facts.{to_z-of_z}
 use mir.Syntax.{w32}
 use mir.Val.{SFits}
+use Rattle.std.specs.Prelude.{Ok}
 use Rattle.answers.specs.Limits.{max_payload_bytes}
 use Rattle.answers.proofs.TestLaws.{neither}
 use Rattle.bits.specs.Bits.{bits_of}
@@ -66,8 +67,8 @@ bits_taken-requires c =
     let two : length c.args.state.medians ≡ 2 = search (rules, length_mapped) in
     let r =
     word_read c.args.payload.now c.args.place c.args.state _ _ x.channel (omega arith) two
-    c.zero_run_eligible-run.ensures c.read_word-word.ensures in
-    coded-on c.args.payload.now c.args.place c.args.state c.read_word-word.result r
+    c.zero_run_eligible-run.ensures c.read_word-read.ensures in
+    coded-on c.args.payload.now c.args.place c.args.state c.in-Ok.word (rw c.in-Ok.is at r)
 
 pub charged-totals-requires-clause-fits : goal.charged-totals-requires-clause-fits
 charged-totals-requires-clause-fits c =
@@ -76,9 +77,9 @@ charged-totals-requires-clause-fits c =
     let two : length c.args.state.medians ≡ 2 = search (rules, length_mapped) in
     let r =
     word_read c.args.payload.now c.args.place c.args.state _ _ x.channel (omega arith) two
-    c.zero_run_eligible-run.ensures c.read_word-word.ensures in
+    c.zero_run_eligible-run.ensures c.read_word-read.ensures in
     let fits =
-    coded-fits c.args.payload.now c.args.place c.args.state c.read_word-word.result r
+    coded-fits c.args.payload.now c.args.place c.args.state c.in-Ok.word (rw c.in-Ok.is at r)
     (omega arith) x.within c.bits_exceed.ensures.small (omega (arith, x.channel)) in
     rw c.bits_taken.ensures fits
 
@@ -86,11 +87,14 @@ charged-totals-requires-clause-fits c =
 told : (payload : List ℕ) (p : ℕ) (s : State) (b : BitsRead) (n : ℕ) (r x : Coded) → r ≡ x
     → n ≡ bits_taken p r
     → b ≡ plus_bits s.channel n s.bits_read → length payload ≤ max_payload_bytes → Passed s p
-    → coded_word s r ≡ word (bits_of payload) p s → tell_word p s
-    (coded_word (with_bits b s) x) ≡ one_word payload p s
+    → coded_word s (Ok r) ≡ word (bits_of payload) p s → tell_word p s
+    (coded_word (with_bits b s) (Ok x)) ≡ one_word payload p s
 told payload p s b n r x f g h few t e =
-    rw (← f, h, g)
-    (ap (tell_word p s) (charged-before p s r) ∙ one_word_lem payload p s _ few t.channel t.within e)
+    ap (λ (y : Coded). tell_word p s (coded_word (with_bits b s) (Ok y))) (sym f)
+    ∙ ap (λ (a : BitsRead). tell_word p s (coded_word (with_bits a s) (Ok r)))
+    (h ∙ ap (λ (m : ℕ). plus_bits s.channel m s.bits_read) g)
+    ∙ ap (tell_word p s) (charged-before p s r)
+    ∙ one_word_lem payload p s _ few t.channel t.within e
 
 pub returns-in-Run : goal.returns-in-Run
 returns-in-Run c =
@@ -99,11 +103,11 @@ returns-in-Run c =
     let two : length c.args.state.medians ≡ 2 = search (rules, length_mapped) in
     let r =
     word_read c.args.payload.now c.args.place c.args.state _ _ x.channel (omega arith) two
-    c.zero_run_eligible-run.ensures c.read_word-word.ensures in
+    c.zero_run_eligible-run.ensures c.read_word-read.ensures in
     c.zero-in-Run.ensures
     ∙ ap (λ (t : State). tell_word c.args.place s (given (pos 0) c.in-Run.next t none)) c.in_run.ensures
-    ∙ told c.args.payload.now c.args.place s _ _ _ _ c.in-Run.is c.bits_taken.ensures
-    c.charged-totals.ensures (omega arith) x r
+    ∙ told c.args.payload.now c.args.place s _ _ c.in-Ok.word _ c.in-Run.is c.bits_taken.ensures
+    c.charged-totals.ensures (omega arith) x (rw c.in-Ok.is at r)
 
 pub returns-in-Sample : goal.returns-in-Sample
 returns-in-Sample c =
@@ -112,35 +116,22 @@ returns-in-Sample c =
     let two : length c.args.state.medians ≡ 2 = search (rules, length_mapped) in
     let r =
     word_read c.args.payload.now c.args.place c.args.state _ _ x.channel (omega arith) two
-    c.zero_run_eligible-run.ensures c.read_word-word.ensures in
+    c.zero_run_eligible-run.ensures c.read_word-read.ensures in
     let w = c.in-Sample in
-    let f : SFits w32 c.in-Sample.sample = search rules in
+    let f : SFits w32 c.in-Sample.value = search rules in
     rw (to_z-of_z f) at c.given.ensures
-    ∙ ap (λ (t : State). tell_word c.args.place s (given w.sample w.next t (zone_of w.ones_count)))
+    ∙ ap (λ (t : State). tell_word c.args.place s (given w.value w.next t (zone_of w.ones_count)))
     c.adapted.ensures
-    ∙ told c.args.payload.now c.args.place s _ _ _ _ w.is c.bits_taken.ensures c.charged-totals.ensures
-    (omega arith) x r
+    ∙ told c.args.payload.now c.args.place s _ _ c.in-Ok.word _ w.is c.bits_taken.ensures c.charged-totals.ensures
+    (omega arith) x (rw c.in-Ok.is at r)
 
-pub returns-in-EndOfStream : goal.returns-in-EndOfStream
-returns-in-EndOfStream c =
+pub returns-in-Err : goal.returns-in-Err
+returns-in-Err c =
     let s = state_of c.args.state in
     let x = passed s c.args.place c.bits_exceed.ensures.exceeds c.if-state-bits_exceed.false in
     let two : length c.args.state.medians ≡ 2 = search (rules, length_mapped) in
     let r =
     word_read c.args.payload.now c.args.place c.args.state _ _ x.channel (omega arith) two
-    c.zero_run_eligible-run.ensures c.read_word-word.ensures in
-    c.refused-in-EndOfStream.ensures
-    ∙ told c.args.payload.now c.args.place s _ _ _ _ c.in-EndOfStream.is c.bits_taken.ensures
-    c.charged-totals.ensures (omega arith) x r
-
-pub returns-in-Truncated : goal.returns-in-Truncated
-returns-in-Truncated c =
-    let s = state_of c.args.state in
-    let x = passed s c.args.place c.bits_exceed.ensures.exceeds c.if-state-bits_exceed.false in
-    let two : length c.args.state.medians ≡ 2 = search (rules, length_mapped) in
-    let r =
-    word_read c.args.payload.now c.args.place c.args.state _ _ x.channel (omega arith) two
-    c.zero_run_eligible-run.ensures c.read_word-word.ensures in
-    c.refused-in-Truncated.ensures
-    ∙ told c.args.payload.now c.args.place s _ _ _ _ c.in-Truncated.is c.bits_taken.ensures
-    c.charged-totals.ensures (omega arith) x r
+    c.zero_run_eligible-run.ensures c.read_word-read.ensures in
+    c.refused-in-Err.ensures
+    ∙ one_word_lem c.args.payload.now c.args.place s _ (omega arith) x.channel x.within (rw c.in-Err.is at r)
