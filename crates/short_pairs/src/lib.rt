@@ -10,7 +10,7 @@ ghost use Rattle.word_state.specs.State.{run_due};
 ghost use Rattle.short_steps.specs.Onward.{Onward};
 
 use bit_windows::register::first_window;
-use short_steps::{Standing, left_step, right_step};
+use short_steps::{Standing, short_step};
 
 // Short words into `out`, two a turn, up to the first that is none, to the place `stop` or to the end
 // of `out`.
@@ -31,12 +31,11 @@ pub fn read_pairs(payload: &[u8], out: &mut [i32], from: Standing, stop: usize) 
         if at.place > stop {
             return at;
         }
-        let left = left_step(payload, out, at, w);
-        let middle = left.at;
+        let left = short_step::<0>(payload, out, at, w);
         if !left.on {
-            return middle;
+            return left.at;
         }
-        let right = right_step(payload, out, middle, left.w);
+        let right = short_step::<1>(payload, out, left.at, left.w);
         at = right.at;
         w = right.w;
         if !right.on {

@@ -7,7 +7,6 @@ ghost use Rattle.std.specs.Prelude.{◌≤◌, length};
 ghost use Rattle.answers.specs.Limits.{max_payload_bytes};
 ghost use Rattle.short_steps.specs.Onward.{Onward};
 
-use entropy::AdaptiveMedians;
 use short_pairs::read_pairs;
 use short_steps::Standing;
 use word_state::zero_run_eligible;
@@ -20,8 +19,6 @@ pub fn read_short_words(payload: &[u8], out: &mut [i32], from: Standing) -> Stan
     requires written { from.written ≤ length out.old }
     ensures { Onward payload.now out.old out.new from result }
 {
-    let left: AdaptiveMedians = from.left;
-    let right: AdaptiveMedians = from.right;
     if from.written % 2 == 1 {
         return from;
     }
@@ -32,7 +29,7 @@ pub fn read_short_words(payload: &[u8], out: &mut [i32], from: Standing) -> Stan
     if from.place > stop {
         return from;
     }
-    if zero_run_eligible(left, right, false, from.last_zero, from.last_one) {
+    if zero_run_eligible(from.left, from.right, false, from.last_zero, from.last_one) {
         return from;
     }
     read_pairs(payload, out, from, stop)

@@ -3,10 +3,12 @@
 use mathlib.Core.Path.{◌≡◌, refl, sym, ◌∙◌}
 use mathlib.Core.Bool.{true, false}
 use mathlib.Core.List.{List, [], ◌∷◌}
-use Prim.Native.Nat.{ℕ, ◌+◌, ◌-◌, ◌%◌, ◌≤◌, ◌<◌}
+use Prim.Native.Nat.{ℕ, zero, suc, ◌+◌, ◌-◌, ◌%◌, ◌≤◌, ◌<◌}
 use native.Mathlib.Omega.{arith}
 use lib.IntN.{ℤ}
 use lib.ListN.{length, get_or, set, length-set}
+use Rattle.std.specs.Prelude.{Result, Ok}
+use Rattle.answers.specs.declared.Refusal.{Refusal}
 use Rattle.answers.proofs.TestLaws.{clash}
 use Rattle.bits.specs.Bits.{bits_of}
 use Rattle.entropy.specs.Medians.{Medians, medians_of}
@@ -55,7 +57,7 @@ module _ (payload : List ℕ) (out : List ℤ) (x : Standing) (w : ℕ) (h : x.w
   onward-word c total due left right other e a d f t =
       let bits = bits_of payload in
       let sets = x.left ∷ x.right ∷ [] in
-      let word = Coded.Sample y.value t.count (x.place + y.used) y.last_zero y.last_one in
+      let word : Result Coded Refusal = Ok (Coded.Sample y.value t.count (x.place + y.used) y.last_zero y.last_one) in
       let k = coded_word_lem bits x.place (medians_of due) x.last_zero x.last_one false x.place _ (run_skipped bits x.place) (t.is bits x.place v.window) in
       record {
         goes = λ out₀ s₀ l.
@@ -102,14 +104,23 @@ module _ (payload : List ℕ) (out after : List ℤ) (x : Standing) (w : ℕ) (h
     near = rw s.at-is (omega arith);
   }
 
-  pub left_step : x.written % 2 ≡ 0
+  left_step : x.written % 2 ≡ 0
       → ShortWordIs w (medians_of x.left) (medians_of x.right) x.last_zero x.last_one y
       → SteppedIs payload out after x y (x.left_bits + y.used) y.medians x.right r
       → StepIs payload out after x r
   left_step e t s = stepped-on _ y.medians x.right (onward-left payload out x w h part v y e t) t.most t.unbroken s
 
-  pub right_step : x.written % 2 ≡ 1
+  right_step : x.written % 2 ≡ 1
       → ShortWordIs w (medians_of x.right) (medians_of x.left) x.last_zero x.last_one y
       → SteppedIs payload out after x y x.left_bits x.left y.medians r
       → StepIs payload out after x r
   right_step e t s = stepped-on _ x.left y.medians (onward-right payload out x w h part v y e t) t.most (λ o. due-either _ _ _ _ ∙ t.unbroken o) s
+
+  -- the word of either channel
+  pub either_step : (c : ℕ) → x.written % 2 ≡ c
+      → ShortWordIs w (medians_of (side c x.left x.right)) (medians_of (side c x.right x.left)) x.last_zero x.last_one y
+      → SteppedIs payload out after x y (x.left_bits + side c y.used 0) (side c y.medians x.left) (side c x.right y.medians) r
+      → StepIs payload out after x r
+  either_step zero e t s = left_step e t s
+  either_step (suc zero) e t s = let z : x.left_bits + 0 ≡ x.left_bits = omega arith in right_step e t (rw z at s)
+  either_step (suc (suc c)) e t s = absurd (omega arith)

@@ -7,11 +7,12 @@ ghost use Rattle.std.specs.Prelude.{◌≡◌, ◌+◌, ◌/◌, ◌%◌, ◌≤
 ghost use Rattle.answers.specs.Limits.{max_payload_bytes};
 ghost use Rattle.bits.specs.Bits.{bits_of};
 ghost use Rattle.bits.specs.Window.{Window};
+ghost use Rattle.word_state.specs.State.{side};
 ghost use Rattle.short_steps.specs.Steps.{Ready, SteppedIs, StepIs};
 
 use bit_windows::register::moved;
 use entropy::AdaptiveMedians;
-use short_words::{ShortWord, left_word, right_word};
+use short_words::{ShortWord, short_word};
 
 // Where a reading stands between two words. Of the bits before its place `left_bits` were left's; the
 // others are right's, so that one number more is all that the loop holds.
@@ -56,8 +57,7 @@ fn stepped(
         from word left_bits left right result }
 {
     let i = from.written;
-    let value = word.value;
-    out[i] = value;
+    out[i] = word.value;
     Step {
         on: word.on,
         w: moved(payload, from.place, w, word.used),
@@ -73,51 +73,40 @@ fn stepped(
     }
 }
 
-// The left word of a frame: its bits are left's.
-pub fn left_step(payload: &[u8], out: &mut [i32], from: Standing, w: u64) -> Step
-    requires limit { length payload.now ≤ max_payload_bytes }
-    requires inside { from.place / 8 + 16 ≤ length payload.now }
-    requires room { from.written < length out.old }
-    requires channel { from.written % 2 ≡ 0 }
-    requires part { from.left_bits ≤ from.place }
-    requires ready { Ready payload.now from w }
-    ensures { StepIs payload.now out.old out.new from result }
+// Of two, the first for channel 0, the second for channel 1.
+fn side<const CHANNEL: usize, T: Copy>(left: T, right: T) -> T
+    ensures { result ≡ side CHANNEL left right }
 {
-    let left = from.left;
-    let right = from.right;
-    let word = left_word(w, left, right, from.last_zero, from.last_one);
-    if !word.fit {
-        return Step {
-            on: false,
-            w,
-            at: from,
-        };
-    }
-    let after = word.medians;
-    let left_bits = from.left_bits + word.used;
-    stepped(payload, out, from, w, word, left_bits, after, right)
+    if CHANNEL == 0 { left } else { right }
 }
 
-// The right word of a frame.
-pub fn right_step(payload: &[u8], out: &mut [i32], from: Standing, w: u64) -> Step
+// The word of a channel, whose bits are left's where the channel is. As in `short_word` the channel is no
+// argument of a call.
+pub fn short_step<const CHANNEL: usize>(
+    payload: &[u8],
+    out: &mut [i32],
+    from: Standing,
+    w: u64,
+) -> Step
     requires limit { length payload.now ≤ max_payload_bytes }
     requires inside { from.place / 8 + 16 ≤ length payload.now }
     requires room { from.written < length out.old }
-    requires channel { from.written % 2 ≡ 1 }
+    requires channel { from.written % 2 ≡ CHANNEL }
     requires part { from.left_bits ≤ from.place }
     requires ready { Ready payload.now from w }
     ensures { StepIs payload.now out.old out.new from result }
 {
-    let left = from.left;
-    let right = from.right;
-    let word = right_word(w, right, left, from.last_zero, from.last_one);
-    if !word.fit {
+    let due = side::<CHANNEL, _>(from.left, from.right);
+    let other = side::<CHANNEL, _>(from.right, from.left);
+    let Some(word) = short_word::<CHANNEL>(w, due, other, from.last_zero, from.last_one) else {
         return Step {
             on: false,
             w,
             at: from,
         };
-    }
-    let after = word.medians;
-    stepped(payload, out, from, w, word, from.left_bits, left, after)
+    };
+    let left_bits = from.left_bits + side::<CHANNEL, _>(word.used, 0);
+    let left = side::<CHANNEL, _>(word.medians, from.left);
+    let right = side::<CHANNEL, _>(from.right, word.medians);
+    stepped(payload, out, from, w, word, left_bits, left, right)
 }
