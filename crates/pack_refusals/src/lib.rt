@@ -7,31 +7,32 @@ ghost use Rattle.std.specs.Prelude.{◌≡◌};
 ghost use Rattle.answers.specs.Numbers.{outcome_number};
 ghost use Rattle.packing.specs.Entry.{refusal_before_span};
 
+use answers::Refusal;
 use answers::limits::{BYTES_PER_FRAME, MAX_FRAMES};
-use answers::{Outcome, Refusal};
 use stereo_pair::stereo_pair_from_entropy;
 
 // What packing refuses by the lengths of what is lent and by the entropy payload, before it looks
 // at a residual: 5 over 131,072 frames, 6 where there are not two residuals a frame, 1, 17 and 2
 // about the entropy payload, 11 where under 28 bytes a frame are lent. Writes nothing.
 #[tactic(auto, using(packing::proofs::RefusalLaws::before_frames))]
-pub fn refusal_before_span(elements: usize, entropy: &[u8], frames: usize, room: usize) -> Outcome
+pub fn refusal_before_span(
+    elements: usize,
+    entropy: &[u8],
+    frames: usize,
+    room: usize,
+) -> Result<(), Refusal>
     ensures { outcome_number result
         ≡ refusal_before_span elements entropy.now frames room }
 {
     if frames > MAX_FRAMES {
-        return Outcome::Refused(Refusal::TooLarge);
+        return Err(Refusal::TooLarge);
     }
     if elements != 2 * frames {
-        return Outcome::Refused(Refusal::ListLength);
+        return Err(Refusal::ListLength);
     }
-    let seed = stereo_pair_from_entropy(entropy);
-    let outcome = seed.outcome;
-    let Outcome::Accepted = outcome else {
-        return outcome;
-    };
+    stereo_pair_from_entropy(entropy)?;
     if room < BYTES_PER_FRAME * frames {
-        return Outcome::Refused(Refusal::OutputTooShort);
+        return Err(Refusal::OutputTooShort);
     }
-    Outcome::Accepted
+    Ok(())
 }
