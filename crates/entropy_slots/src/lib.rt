@@ -3,32 +3,26 @@
 #![tactic(auto)]
 
 ghost use Rattle.std.specs.Prelude.{◌≡◌};
+ghost use Rattle.answers.specs.Numbers.{outcome_number};
 ghost use Rattle.slots.specs.Slots.{leave_values};
 ghost use Rattle.entropy_slots.specs.EntropySlots.{entropy_values, entropy_answer};
 
-use answers::{Outcome, Refusal, number, outcome_number};
+use answers::Refusal;
 use entropy_info::expand_entropy;
 use slots::lay;
 
 // `wv_entropy`: the signed medians of an entropy payload, left then right, into 6 slots. Refuses 6,
 // then 1, then 17.
-pub fn entropy_medians(entropy: &[u8], medians: &mut [i32]) -> u32
-    ensures answer { result ≡ entropy_answer entropy.now medians.old }
+pub fn entropy_medians(entropy: &[u8], medians: &mut [i32]) -> Result<(), Refusal>
+    ensures answer { outcome_number result ≡ entropy_answer entropy.now medians.old }
     ensures medians { medians.new
-        ≡ leave_values result (entropy_values entropy.now) medians.old }
+        ≡ leave_values (outcome_number result) (entropy_values entropy.now) medians.old }
 {
     if medians.len() < 6 {
-        return number(Refusal::ListLength);
+        return Err(Refusal::ListLength);
     }
-    let answer = expand_entropy(entropy);
-    let outcome = answer.outcome;
-    let info = answer.info;
-    let Outcome::Accepted = outcome else {
-        return outcome_number(outcome);
-    };
-    let left = info.medians_left;
-    let right = info.medians_right;
-    lay(&left, 0, medians);
-    lay(&right, 3, medians);
-    0
+    let info = expand_entropy(entropy)?;
+    lay(&info.medians_left, 0, medians);
+    lay(&info.medians_right, 3, medians);
+    Ok(())
 }

@@ -8,19 +8,16 @@ ghost use Rattle.overlay.specs.Overlay.{overlay};
 ghost use Rattle.median_slots.specs.MedianSlots.{pair_slots, count_slots};
 
 use entropy::AdaptiveMedians;
-use slots::lay_words;
+use slots::lay;
 
 // Lays both sets of medians into 6 slots from a place on.
 pub fn lay_medians(medians: [AdaptiveMedians; 2], at: usize, slots: &mut [u32])
     requires { at + 6 ≤ length slots.old }
     ensures { slots.new ≡ overlay slots.old at (pair_slots (pair_of medians)) }
 {
-    let left = medians[0];
-    let right = medians[1];
-    let l = left.values;
-    let r = right.values;
-    let values = [l[0], l[1], l[2], r[0], r[1], r[2]];
-    lay_words(&values, at, slots);
+    let [left, right] = medians;
+    lay(&left.values, at, slots);
+    lay(&right.values, at + 3, slots);
 }
 
 // Lays bits and medians into the first 7 slots.
@@ -30,7 +27,6 @@ pub fn lay_counts(bits: usize, medians: [AdaptiveMedians; 2], slots: &mut [u32])
     ensures { slots.new
         ≡ overlay slots.old 0 (count_slots bits (pair_of medians)) }
 {
-    let first = [bits as u32];
-    lay_words(&first, 0, slots);
+    lay(&[bits as u32], 0, slots);
     lay_medians(medians, 1, slots);
 }

@@ -1,4 +1,4 @@
--- `entropy_slots::entropy_medians` meets its contract: one law for each of its three answers.
+-- `entropy_slots::entropy_medians` meets its contract: one law for what it lays.
 -- Assumes nothing.
 use Rattle.entropy_slots.proofs.EntropySlotLaws.{entropy_laid}
 use borrow.Author.Rules.{rules}
@@ -6,7 +6,6 @@ use Rattle.entropy_slots.proofs.entropy_medians.Goals as goal
 
 pub returns-clause-medians : goal.returns-clause-medians
 returns-clause-medians c =
-    let x = c.expand_entropy-answer in
-    (entropy_laid c.args.entropy.now c.args.medians.now _ _ x.result.outcome x.result.info
-    c.if-medians-lt6.false c.in-Accepted.is
-    x.ensures.outcome x.ensures.info (search rules) c.lay.ensures c.lay-2.ensures).1
+    (entropy_laid c.args.entropy.now c.args.medians.now _ _ c.in_ok-info.info
+    c.if-medians-lt6.false c.in_ok-info.ensures.outcome c.in_ok-info.ensures.info
+    (search rules) c.lay.ensures c.lay-2.ensures).1

@@ -11,5 +11,5 @@ pub returns : goal.returns
 returns c =
     overlay_two c.args.slots.now _ _ 0 1 (c.args.bits ∷ []) (pair_slots (pair_of c.args.medians))
     (omega arith)
-    (omega arith) c.lay_words.ensures
+    (omega arith) c.lay.ensures
     c.lay_medians.ensures
