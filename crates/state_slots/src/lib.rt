@@ -3,22 +3,14 @@
 #![tactic(auto)]
 
 ghost use Rattle.std.specs.Prelude.{◌≡◌, ◌≤◌, ◌<◌, length};
-ghost use Rattle.bits.specs.Bits.{val};
 ghost use Rattle.overlay.specs.Overlay.{overlay};
 ghost use Rattle.word_state.specs.View.{state_of};
 ghost use Rattle.state_slots.specs.StateSlots.{slots_state, state_slots};
 
 use entropy::AdaptiveMedians;
 use median_slots::lay_medians;
-use slots::lay_words;
+use slots::lay;
 use word_state::StereoDecodeState;
-
-// A flag as a slot holds it.
-fn flag_slot(flag: bool) -> u32
-    ensures { result ≡ val flag }
-{
-    if flag { 1 } else { 0 }
-}
 
 // The state that 14 slots after the place hold.
 pub fn state_in(slots: &[u32]) -> StereoDecodeState
@@ -50,23 +42,16 @@ pub fn lay_state(place: usize, state: StereoDecodeState, slots: &mut [u32])
     ensures { slots.new
         ≡ overlay slots.old 0 (state_slots place (state_of state)) }
 {
-    let medians = state.medians;
-    let bits_read = state.bits_read;
-    let last_zero = flag_slot(state.last_zero);
-    let last_one = flag_slot(state.last_one);
-    let run_break = flag_slot(state.run_break);
-    let ever_took_zero_run = flag_slot(state.ever_took_zero_run);
     let head = [
         place as u32,
         state.next_channel,
-        last_zero,
-        last_one,
+        u32::from(state.last_zero),
+        u32::from(state.last_one),
         state.zero_run_pending,
-        run_break,
-        ever_took_zero_run,
+        u32::from(state.run_break),
+        u32::from(state.ever_took_zero_run),
     ];
-    lay_words(&head, 0, slots);
-    lay_medians(medians, 7, slots);
-    let totals = [bits_read[0], bits_read[1]];
-    lay_words(&totals, 13, slots);
+    lay(&head, 0, slots);
+    lay_medians(state.medians, 7, slots);
+    lay(&state.bits_read, 13, slots);
 }

@@ -1,12 +1,13 @@
 -- `state_slots::lay_state` meets its contract.
 -- Assumes nothing.
+use borrow.Author.Rules.{rules}
 use Rattle.word_state.specs.View.{state_of}
-use Rattle.state_slots.proofs.StateSlotLaws.{state-laid}
+use Rattle.state_slots.proofs.StateSlotLaws.{totals-two, state-laid}
 use Rattle.state_slots.proofs.lay_state.Goals as goal
 
 pub returns : goal.returns
 returns c =
-    state-laid c.args.place _ _ _ _ (state_of c.args.state) c.args.slots.now _ _ _
-    c.flag_slot-last_zero.ensures
-    c.flag_slot-last_one.ensures c.flag_slot-run_break.ensures c.flag_slot-ever_took_zero_run.ensures
-    c.lay_words.ensures c.lay_medians.ensures c.lay_words-2.ensures
+    let totals = c.args.state.bits_read in
+    state-laid c.args.place _ _ _ _ (state_of c.args.state) totals c.args.slots.now _ _ _
+    c.from.ensures c.from-2.ensures c.from-3.ensures c.from-4.ensures
+    c.lay.ensures c.lay_medians.ensures (totals-two totals (search rules)) c.lay-2.ensures
