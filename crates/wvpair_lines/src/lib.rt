@@ -32,10 +32,8 @@ fn put_lines(out: &mut [u8], at: usize, samples: &[i32]) -> usize
     ensures short { result ≤ at + 12 * length samples.now }
 {
     let mut place = at;
-    let mut i = 0;
-    while i + 1 < samples.len() {
-        place = put_line(out, place, samples[i], samples[i + 1]);
-        i += 2;
+    for i in 0..samples.len() / 2 {
+        place = put_line(out, place, samples[2 * i], samples[2 * i + 1]);
     }
     place
 }
@@ -46,7 +44,7 @@ pub fn put_end(out: &mut [u8], at: usize, refusal: u32, bits: usize) -> usize
     ensures { TextPut out.old out.new at result (end_line refusal bits) }
 {
     let first = put_text(out, at, b"end ");
-    let word = put_decimal(out, first, refusal as u64);
+    let word = put_decimal(out, first, u64::from(refusal));
     let second = put_text(out, word, b" bits ");
     let newline = put_decimal(out, second, bits as u64);
     put_byte(out, newline, b'\n')

@@ -1,6 +1,7 @@
 -- The loop's invariant: the lines of the samples passed are laid.
 -- Assumes nothing.
-use Prim.Native.Nat.{◌+◌}
+use mathlib.Core.Path.{◌≡◌}
+use Prim.Native.Nat.{◌+◌, ◌*◌}
 use native.Mathlib.Omega.{arith}
 use borrow.Author.Rules.{rules}
 use lib.IntN.{pos}
@@ -17,11 +18,12 @@ loop-i-init c = printed-none _ _ _
 pub loop-i-preserved : goal.loop-i-preserved
 loop-i-preserved c =
     let v = c.args.samples.now in
-    let left : SFits w32 (get_or v c.loop-i.i (pos 0)) = search rules in
-    let right : SFits w32 (get_or v (c.loop-i.i + 1) (pos 0)) = search rules in
-    printed-more (omega (arith, c.requires)) (omega arith) c.loop-i.invariant
+    let left : SFits w32 (get_or v (2 * c.loop-i.i) (pos 0)) = search rules in
+    let right : SFits w32 (get_or v (2 * c.loop-i.i + 1) (pos 0)) = search rules in
+    let next : 2 * (c.loop-i.i + 1) ≡ 2 * c.loop-i.i + 2 = omega arith in
+    rw next (printed-more (omega (arith, c.requires)) (omega arith) c.loop-i.invariant
     (rw (to_z-of_z left, to_z-of_z right) at c.put_line-place.ensures.text)
-    c.put_line-place.ensures.short c.put_line-place.auto.out
+    c.put_line-place.ensures.short c.put_line-place.auto.out)
 
 pub returns-clause-text : goal.returns-clause-text
 returns-clause-text c =
