@@ -1,3 +1,2 @@
 -- What other crates cite.
 pub mod ZeroLaws
-pub mod Zeroing

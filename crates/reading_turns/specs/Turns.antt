@@ -1,10 +1,11 @@
 -- A turn of the reading loop: the word there, and where the loop stands after it (R4).
 -- Assumes nothing.
 -- ---- for the code alone
-use Rattle.std.specs.Prelude.{◌≡◌, Bool, true, false, List, [], ◌∷◌, ℕ, ◌+◌, ◌-◌, ◌%◌, ℤ, get_or, set}
+use Rattle.std.specs.Prelude.{◌≡◌, Bool, true, false, Result, List, [], ◌∷◌, ℕ, ◌+◌, ◌-◌, ◌%◌, ℤ, get_or, set}
+use Rattle.answers.specs.declared.Refusal.{Refusal}
 use Rattle.bits.specs.Bits.{bits_of}
 use Rattle.entropy.specs.declared.AdaptiveMedians.{AdaptiveMedians}
-use Rattle.entropy.specs.Medians.{medians_of, zero_set}
+use Rattle.entropy.specs.Medians.{medians_of, zero_set, zero_sets}
 use Rattle.medians.specs.Adaptation.{adapt}
 use Rattle.word_state.specs.State.{State, side}
 use Rattle.words.specs.Word.{word}
@@ -17,7 +18,7 @@ use Rattle.reading_turns.specs.Zeros.{ZerosIs}
 use Rattle.reading_turns.specs.declared.Turn.{Turn}
 
 -- the word where the loop stands, in every state that it holds
-pub record WordAt (payload : List ℕ) (t : Turn) (r : Coded) : Type 0 where
+pub record WordAt (payload : List ℕ) (t : Turn) (r : Result Coded Refusal) : Type 0 where
   pub is : (s : State) → Held s t.medians 0 t.run_break t.last_zero t.last_one t.written
       → coded_word s r ≡ word (bits_of payload) t.bits s
 
@@ -33,7 +34,7 @@ pub record AfterRun (before after : List ℤ) (t : Turn) (owed next : ℕ) (r : 
     bits = next;
     left_bits = left_after t next;
     written = r.written;
-    medians = zero_set ∷ zero_set ∷ [];
+    medians = zero_sets;
     run_break = true;
     last_zero = t.last_zero;
     last_one = t.last_one;

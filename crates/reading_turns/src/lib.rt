@@ -11,6 +11,7 @@ ghost use Rattle.word_state.specs.State.{side};
 ghost use Rattle.reading_turns.specs.Zeros.{ZerosIs};
 ghost use Rattle.reading_turns.specs.Turns.{WordAt, left_after, AfterRun, AfterSample};
 
+use answers::Refusal;
 use entropy::AdaptiveMedians;
 use medians::adaptation::adapt;
 use short_reading::read_short_words;
@@ -32,15 +33,14 @@ pub struct Turn {
 }
 
 // The word where the loop stands.
-pub fn word_at(payload: &[u8], at: Turn) -> Coded
+pub fn word_at(payload: &[u8], at: Turn) -> Result<Coded, Refusal>
     requires { length payload.now ≤ max_payload_bytes }
     ensures { WordAt payload.now at result }
 {
     let sets = at.medians;
-    let zero = at.last_zero;
-    let one = at.last_one;
-    let run = zero_run_eligible(sets[0], sets[1], at.run_break, zero, one);
-    read_word(payload, at.bits, run, sets[at.written % 2], zero, one)
+    let run = zero_run_eligible(sets[0], sets[1], at.run_break, at.last_zero, at.last_one);
+    let due = sets[at.written % 2];
+    read_word(payload, at.bits, run, due, at.last_zero, at.last_one)
 }
 
 // The first zero of a run and `owed` more into `out` from `first` on, as far as `out` goes. The
@@ -49,17 +49,9 @@ fn put_zeros(out: &mut [i32], first: usize, owed: u32) -> usize
     requires { first < length out.old }
     ensures { ZerosIs out.old out.new first owed result }
 {
-    let run = owed as usize + 1;
-    let mut end = out.len();
-    if run < end - first {
-        end = first + run;
-    }
-    let mut i = first;
-    while i < end {
-        out[i] = 0;
-        i = i + 1;
-    }
-    i
+    let end = out.len().min(first + owed as usize + 1);
+    out[first..end].fill(0);
+    end
 }
 
 // What a word took, where the left channel was due, and else 0. It does nothing else, so that the choice is
@@ -86,12 +78,11 @@ pub fn after_run(out: &mut [i32], at: Turn, owed: u32, next: usize) -> Turn
     requires on { at.bits ≤ next }
     ensures { AfterRun out.old out.new at owed next result }
 {
-    let none = AdaptiveMedians { values: [0, 0, 0] };
     Turn {
         bits: next,
         left_bits: left_bits_after(at, next),
         written: put_zeros(out, at.written, owed),
-        medians: [none, none],
+        medians: [AdaptiveMedians::ZERO; 2],
         run_break: true,
         last_zero: at.last_zero,
         last_one: at.last_one,
@@ -120,25 +111,21 @@ pub fn after_sample(
     let mut medians = at.medians;
     medians[written % 2] = adapt(medians[written % 2], ones_count);
     out[written] = value;
-    let left = medians[0];
-    let right = medians[1];
     let from = Standing {
         place: next,
         left_bits: left_bits_after(at, next),
         written: written + 1,
-        left,
-        right,
+        left: medians[0],
+        right: medians[1],
         last_zero: zero,
         last_one: one,
     };
     let to = read_short_words(payload, out, from);
-    let left_after = to.left;
-    let right_after = to.right;
     Turn {
         bits: to.place,
         left_bits: to.left_bits,
         written: to.written,
-        medians: [left_after, right_after],
+        medians: [to.left, to.right],
         run_break: false,
         last_zero: to.last_zero,
         last_one: to.last_one,
