@@ -8,15 +8,15 @@ use Prim.Native.Nat.{ℕ}
 use lib.IntN.{ℤ, pos, negsuc}
 use lib.Count.{count_leading_zeros}
 use lib.ListN.{replicate}
+use Rattle.std.specs.Prelude.{Some, None, Ok, Err}
+use Rattle.answers.specs.declared.Refusal.{Refusal}
 use Rattle.bits.specs.Bits.{low, num, bits_of, ones}
 use Rattle.bits.specs.Fields.{get_bits, unary}
-use Rattle.bits.specs.declared.Field.TheVariants.{Value, Truncated}
 use Rattle.entropy.specs.Medians.{medians_of, zero_set}
 use Rattle.entropy.specs.Entropy.{word_set, entropy_info, entropy_refusal, is_mono}
 use Rattle.entropy.specs.Seed.{any_negative, not_stereo, seed_refusal, seed_medians}
 use Rattle.fields.specs.Code.{bit_length, code_of, truncated_binary}
 use Rattle.fields.specs.Counts.{counted, run_length, escaped, prefix}
-use Rattle.fields.specs.declared.Prefix.{Prefix}
 use Rattle.logpack.specs.Exp2Table.{exp2_table}
 use Rattle.logpack.specs.LogWord.{mantissa, magnitude, log_word}
 use Rattle.medians.specs.Interval.{low_of, high_of}
@@ -94,14 +94,14 @@ abbrev field : ℕ → List Bool
 field c = replicate c true ++ replicate 41 false
 
 -- runs of 32 and of 33 ones (N1)
-pub run_caps : (run_length (field 32) 0 ≡ Value 2147483648 64) × (run_length (field 33) 0 ≡ Truncated)
+pub run_caps : (run_length (field 32) 0 ≡ Some (2147483648, 64)) × (run_length (field 33) 0 ≡ None)
 unfolding run_length counted get_bits unary num ones
 run_caps = (refl, refl)
 
 -- an escape with 32, 33 and 34 second ones (N2)
 pub escape_caps :
-    (prefix (replicate 16 true ++ false ∷ field 32) 0 ≡ Prefix.Value 2147483664 81)
-    × (prefix (replicate 16 true ++ false ∷ field 33) 0 ≡ Prefix.EndOfStream)
-    × (prefix (replicate 16 true ++ false ∷ field 34) 0 ≡ Prefix.Truncated)
+    (prefix (replicate 16 true ++ false ∷ field 32) 0 ≡ Ok (2147483664, 81))
+    × (prefix (replicate 16 true ++ false ∷ field 33) 0 ≡ Err Refusal.EndOfStream)
+    × (prefix (replicate 16 true ++ false ∷ field 34) 0 ≡ Err Refusal.Truncated)
 unfolding prefix escaped counted get_bits unary num ones
 escape_caps = (refl, refl, refl)

@@ -9,9 +9,8 @@ use lib.Dec.{ltb}
 use lib.IntN.{ℤ}
 use lib.ListN.{length}
 use Rattle.answers.specs.declared.Refusal.{Refusal}
-use Rattle.answers.specs.declared.Outcome.{Outcome}
 use Rattle.answers.specs.Limits.{max_frames, max_payload_bytes}
-use Rattle.answers.specs.Numbers.{outcome_number}
+use Rattle.answers.specs.Numbers.{number_of}
 use Rattle.answers.proofs.GuardLaws.{guard_refused}
 use Rattle.answers.proofs.NumberLaws.{number-positive}
 use Rattle.entropy.specs.Medians.{MedianPair}
@@ -42,11 +41,10 @@ module _ (entropy payload : List ℕ) (frames : ℕ) (list : List ℤ) where
   refused-seed h l n = rw (le-ltb max_frames frames h, le-ltb max_payload_bytes (length payload) l, eq-eqb (length list) (2 * frames) n)
 
   -- a refusal before any word
-  pub not_read : (told : ReadTold) (x : Outcome) (y : Refusal) → x ≡ Outcome.Refused y
-      → outcome_number x ≡ read_refusal entropy payload frames list
-      → told ≡ refuse_reading list (outcome_number x) → told ≡ read_entry entropy payload frames list
+  pub not_read : (told : ReadTold) (x : Refusal) → number_of x ≡ read_refusal entropy payload frames list
+      → told ≡ refuse_reading list (number_of x) → told ≡ read_entry entropy payload frames list
   unfolding read_entry
-  not_read told x y e n a = rw (← n) (a ∙ sym (guard_refused (outcome_number x) (refuse_reading list) _ (rw e (number-positive y))))
+  not_read told x n a = rw (← n) (a ∙ sym (guard_refused (number_of x) (refuse_reading list) _ (number-positive x)))
 
   -- too many frames, and too many payload bytes: nothing is read
   pub long_frames : max_frames < frames → read_entry entropy payload frames list ≡ refuse_reading list 5

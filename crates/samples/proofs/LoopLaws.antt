@@ -18,6 +18,9 @@ use Rattle.word_state.specs.State.{BitsRead, State, start}
 use Rattle.word_state.proofs.StateLaws.{no_set, there}
 use Rattle.words.specs.Word.{given, refused, word}
 use Rattle.words.specs.Parts.{coded_word}
+use Rattle.std.specs.Prelude.{Result, Ok, Err}
+use Rattle.answers.specs.declared.Refusal.{Refusal}
+use Rattle.answers.specs.Numbers.{number_of}
 use Rattle.words.specs.declared.coded.Coded.{Coded}
 use Rattle.zones.specs.Report.{Report}
 use Rattle.readings.specs.Reading.{Reading, reading}
@@ -188,7 +191,7 @@ module _ (payload : List ℕ) (out₀ : List ℤ) (s₀ : State) (out : List ℤ
       → ended 0 t out ≡ read_all
   loop_end h = words-end payload out₀ s₀ out _ l.owed _ _ _ _ _ _ l.words h
 
-  module _ (r : Coded) (h : t.written < length out) (c : WordAt payload t r) where
+  module _ (r : Result Coded Refusal) (h : t.written < length out) (c : WordAt payload t r) where
     -- the word of the state that the turn holds
     read : coded_word l.words.state r ≡ word (bits_of payload) t.bits l.words.state
     read = c.is l.words.state (rw (l.settled h) at l.words.held)
@@ -199,7 +202,7 @@ module _ (payload : List ℕ) (out₀ : List ℤ) (s₀ : State) (out : List ℤ
     loop_on v q u z e = word_on (bits_of payload) t.bits q l.words.state u v z (sym read ∙ e)
 
     -- the zeros of a run, as far as the list goes
-    pub loop_run : (d q : ℕ) (after : List ℤ) (x : Turn) → r ≡ Coded.Run d q → AfterRun out after t d q x
+    pub loop_run : (d q : ℕ) (after : List ℤ) (x : Turn) → r ≡ Ok (Coded.Run d q) → AfterRun out after t d q x
         → Loop payload out₀ s₀ after x
     loop_run d q after x e a =
         let i = t.written in
@@ -224,7 +227,7 @@ module _ (payload : List ℕ) (out₀ : List ℤ) (s₀ : State) (out : List ℤ
 
     -- a sample, and the short words after it
     pub loop_sample : (v : ℤ) (k q : ℕ) (z' o' : Bool) (after : List ℤ) (x : Turn)
-        → r ≡ Coded.Sample v k q z' o'
+        → r ≡ Ok (Coded.Sample v k q z' o')
         → AfterSample payload out after t v k q z' o' x → Loop payload out₀ s₀ after x
     loop_sample v k q z' o' after x e a =
         let i = t.written in
@@ -241,7 +244,6 @@ module _ (payload : List ℕ) (out₀ : List ℤ) (s₀ : State) (out : List ℤ
         })
 
     -- a refused word
-    pub loop_stop : (w : ℕ) → ((s : State) → coded_word s r ≡ refused w)
-        → ended w t out ≡ read_all
-    loop_stop w e =
-        words-stop payload out₀ s₀ out _ l.owed _ _ _ _ _ _ l.words w h (sym read ∙ e l.words.state)
+    pub loop_stop : (x : Refusal) → r ≡ Err x → ended (number_of x) t out ≡ read_all
+    loop_stop x e =
+        words-stop payload out₀ s₀ out _ l.owed _ _ _ _ _ _ l.words (number_of x) h (sym read ∙ ap (coded_word l.words.state) e)

@@ -2,7 +2,7 @@
 
 #![tactic(auto)]
 
-use answers::Outcome;
+use answers::Refusal;
 use entropy::AdaptiveMedians;
 
 pub mod reading;
@@ -11,7 +11,7 @@ pub mod reading;
 // and how many of the bits used each channel took.
 #[derive(Clone, Copy)]
 pub struct ReadAnswer {
-    pub outcome: Outcome,
+    pub outcome: Result<(), Refusal>,
     pub bits: usize,
     pub medians: [AdaptiveMedians; 2],
     pub written: usize,

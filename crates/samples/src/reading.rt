@@ -1,16 +1,16 @@
 // Implements document 01, "Reading": the refusals that come before any word, then turn after turn
 // (`reading_turns`) into a lent list.
-ghost use Rattle.std.specs.Prelude.{◌≡◌, List, [], ◌∷◌, ◌-◌, ◌≤◌, ℤ, length};
+ghost use Rattle.std.specs.Prelude.{◌≡◌, Err, List, [], ◌∷◌, ◌-◌, ◌≤◌, ℤ, length};
 ghost use Rattle.answers.specs.Limits.{max_payload_bytes};
-ghost use Rattle.answers.specs.Numbers.{outcome_number};
+ghost use Rattle.answers.specs.Numbers.{number_of};
 ghost use Rattle.entropy.specs.Medians.{pair_of, zero_pair};
 ghost use Rattle.word_state.specs.State.{no_bits};
 ghost use Rattle.word_state.specs.View.{bits_read_of};
 ghost use Rattle.samples.specs.View.{view_reading, read_words, refuse_reading, read_entry};
 
 use crate::ReadAnswer;
+use answers::Refusal;
 use answers::limits::{MAX_FRAMES, MAX_PAYLOAD_BYTES};
-use answers::{Outcome, Refusal};
 use entropy::AdaptiveMedians;
 use reading_turns::{Turn, after_run, after_sample, word_at};
 use stereo_pair::stereo_pair_from_entropy;
@@ -18,7 +18,7 @@ use words::coded::Coded;
 
 // The answer where the loop ended: what the accepted words used, left and gave. Bits that are not left's
 // are right's.
-fn answer(outcome: Outcome, at: Turn) -> ReadAnswer
+fn answer(outcome: Result<(), Refusal>, at: Turn) -> ReadAnswer
     requires { at.left_bits ≤ at.bits }
     ensures { result ≡ record {
       outcome = outcome;
@@ -60,34 +60,40 @@ fn decode_packed_samples_stereo(
         last_one: false,
     };
     while at.written < out.len() {
-        match word_at(payload, at) {
-            Coded::Run(owed, next) => at = after_run(out, at, owed, next),
-            Coded::Sample(value, ones_count, next, zero, one) => {
-                at = after_sample(payload, out, at, value, ones_count, next, zero, one);
-            }
-            Coded::EndOfStream => return answer(Outcome::Refused(Refusal::EndOfStream), at),
-            Coded::Truncated => return answer(Outcome::Refused(Refusal::Truncated), at),
-        }
+        at = match word_at(payload, at) {
+            Ok(Coded::Run { owed, next }) => after_run(out, at, owed, next),
+            Ok(
+                Coded::Sample {
+                    value,
+                    ones_count,
+                    next,
+                    last_zero,
+                    last_one,
+                },
+            ) => after_sample(
+                payload, out, at, value, ones_count, next, last_zero, last_one,
+            ),
+            Err(refusal) => return answer(Err(refusal), at),
+        };
     }
-    answer(Outcome::Accepted, at)
+    answer(Ok(()), at)
 }
 
 // The answer of a reading that ended before any word.
-fn not_read(outcome: Outcome) -> ReadAnswer
-    ensures view { (list : List ℤ) → view_reading result list ≡ refuse_reading list (outcome_number outcome) }
-    ensures outcome { result.outcome ≡ outcome }
+fn not_read(refusal: Refusal) -> ReadAnswer
+    ensures view { (list : List ℤ) → view_reading result list ≡ refuse_reading list (number_of refusal) }
+    ensures outcome { result.outcome ≡ Err refusal }
     ensures bits { result.bits ≡ 0 }
     ensures medians { pair_of result.medians ≡ zero_pair }
     ensures written { result.written ≡ 0 }
     ensures totals { bits_read_of result.bits_read ≡ no_bits }
 {
-    let none = AdaptiveMedians { values: [0, 0, 0] };
     ReadAnswer {
-        outcome,
+        outcome: Err(refusal),
         bits: 0,
-        medians: [none, none],
+        medians: [AdaptiveMedians::ZERO; 2],
         written: 0,
-        bits_read: [0, 0],
+        bits_read: [0; 2],
     }
 }
 
@@ -106,19 +112,16 @@ pub fn decode_packed_samples_stereo_from_entropy(
         ≡ read_entry entropy.now payload.now frames out.old }
 {
     if frames > MAX_FRAMES {
-        return not_read(Outcome::Refused(Refusal::TooLarge));
+        return not_read(Refusal::TooLarge);
     }
     if payload.len() > MAX_PAYLOAD_BYTES {
-        return not_read(Outcome::Refused(Refusal::TooLarge));
+        return not_read(Refusal::TooLarge);
     }
     if out.len() != 2 * frames {
-        return not_read(Outcome::Refused(Refusal::ListLength));
+        return not_read(Refusal::ListLength);
     }
-    let seeds = stereo_pair_from_entropy(entropy);
-    let outcome = seeds.outcome;
-    let Outcome::Accepted = outcome else {
-        return not_read(outcome);
-    };
-    let medians = seeds.medians;
-    decode_packed_samples_stereo(payload, medians, out)
+    match stereo_pair_from_entropy(entropy) {
+        Ok(seeds) => decode_packed_samples_stereo(payload, seeds, out),
+        Err(refusal) => not_read(refusal),
+    }
 }

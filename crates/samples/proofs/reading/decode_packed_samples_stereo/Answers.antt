@@ -22,36 +22,31 @@ pub after_run-at-requires-clause-on : goal.after_run-at-requires-clause-on
 after_run-at-requires-clause-on c =
     let l = c.loop-at.invariant in
     loop_on _ _ _ _ _ l _ c.loop-at-test.true c.word_at.ensures _ _ _ _
-    (ap (coded_word l.words.state) c.in-Run.is)
+    (ap (coded_word l.words.state) (rw c.in-Ok-Run.field-0-is at c.in-Ok-Run.is))
 
 pub after_sample-at-requires-clause-on : goal.after_sample-at-requires-clause-on
 after_sample-at-requires-clause-on c =
     let l = c.loop-at.invariant in
     loop_on _ _ _ _ _ l _ c.loop-at-test.true c.word_at.ensures _ _ _ _
-    (ap (coded_word l.words.state) c.in-Sample.is)
+    (ap (coded_word l.words.state) (rw c.in-Ok-Sample.field-0-is at c.in-Ok-Sample.is))
 
-pub loop-at-preserved-in-Run : goal.loop-at-preserved-in-Run
-loop-at-preserved-in-Run c =
+pub loop-at-preserved-in-Ok-Run : goal.loop-at-preserved-in-Ok-Run
+loop-at-preserved-in-Ok-Run c =
     loop_run _ _ _ _ _ c.loop-at.invariant _ c.loop-at-test.true c.word_at.ensures
-    _ _ _ _ c.in-Run.is c.after_run-at.ensures
+    _ _ _ _ (rw c.in-Ok-Run.field-0-is at c.in-Ok-Run.is) c.after_run-at.ensures
 
 pub loop-at-preserved : goal.loop-at-preserved
 loop-at-preserved c =
-    let v = c.in-Sample.value in
+    let v = c.in-Ok-Sample.value in
     let f : SFits w32 v = search rules in
     let a = rw (to_z-of_z f) at c.after_sample-at.ensures in
     loop_sample _ _ _ _ _ c.loop-at.invariant _ c.loop-at-test.true c.word_at.ensures
-    v _ _ _ _ _ _ c.in-Sample.is a
+    v _ _ _ _ _ _ (rw c.in-Ok-Sample.field-0-is at c.in-Ok-Sample.is) a
 
-pub returns-in-EndOfStream : goal.returns-in-EndOfStream
-returns-in-EndOfStream c =
-    let s = loop_stop _ _ _ _ _ c.loop-at.invariant _ c.loop-at-test.true c.word_at.ensures 4 in
-    rw c.answer.ensures (s (λ s. ap (coded_word s) c.in-EndOfStream.is))
-
-pub returns-in-Truncated : goal.returns-in-Truncated
-returns-in-Truncated c =
-    let s = loop_stop _ _ _ _ _ c.loop-at.invariant _ c.loop-at-test.true c.word_at.ensures 3 in
-    rw c.answer-in-Truncated.ensures (s (λ s. ap (coded_word s) c.in-Truncated.is))
+pub returns-in-Err : goal.returns-in-Err
+returns-in-Err c =
+    rw c.answer.ensures
+    (loop_stop _ _ _ _ _ c.loop-at.invariant _ c.loop-at-test.true c.word_at.ensures _ c.in-Err.is)
 
 pub returns : goal.returns
 returns c =
