@@ -4,9 +4,11 @@
 #![tactic(auto)]
 
 ghost use Rattle.std.specs.Prelude.{◌≡◌};
+ghost use Rattle.answers.specs.Numbers.{outcome_number};
 ghost use Rattle.pack_slots.specs.PackSlots.{pack_call};
 
-use answers::{Refusal, number, outcome_number};
+use answers::Refusal;
+use entropy::AdaptiveMedians;
 use median_slots::lay_counts;
 use pack_entry::encode_packed_samples_stereo_from_entropy;
 
@@ -18,17 +20,21 @@ pub fn pack_call(
     frames: usize,
     out: &mut [u8],
     answer: &mut [u32],
-) -> u32
-    ensures { record { refusal = result; bytes = out.new; answer = answer.new }
+) -> Result<(), Refusal>
+    ensures { record { refusal = outcome_number result; bytes = out.new; answer = answer.new }
         ≡ pack_call residuals.now entropy.now frames out.old answer.old }
 {
     if answer.len() < 7 {
-        return number(Refusal::ListLength);
+        return Err(Refusal::ListLength);
     }
-    let packed = encode_packed_samples_stereo_from_entropy(residuals, entropy, frames, out);
-    let bits = packed.bits;
-    let medians = packed.medians;
-    let outcome = packed.outcome;
-    lay_counts(bits, medians, answer);
-    outcome_number(outcome)
+    match encode_packed_samples_stereo_from_entropy(residuals, entropy, frames, out) {
+        Ok(packed) => {
+            lay_counts(packed.bits, packed.medians, answer);
+            Ok(())
+        }
+        Err(refusal) => {
+            lay_counts(0, [AdaptiveMedians::ZERO; 2], answer);
+            Err(refusal)
+        }
+    }
 }
