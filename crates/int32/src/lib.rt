@@ -6,10 +6,12 @@
 
 ghost use Rattle.std.specs.Prelude.{◌≡◌};
 ghost use Rattle.answers.specs.Numbers.{outcome_number};
-ghost use Rattle.int32.specs.Info.{info_refusal};
+ghost use Rattle.int32_sample.specs.Setting.{setting};
+ghost use Rattle.int32.specs.Info.{Fields, info_refusal, setting_of};
 
 use answers::Refusal;
 use answers::limits::MAX_ELEMENTS;
+use int32_sample::RedundantBits;
 
 // The largest number that a field may hold.
 const MAX_BITS: u32 = 31;
@@ -22,6 +24,20 @@ pub struct Int32Info {
     pub zeros: u32,
     pub ones: u32,
     pub dups: u32,
+}
+
+impl Int32Info {
+    // The redundant bits that accepted fields tell of.
+    pub fn redundant_bits(self) -> RedundantBits
+        requires { Fields self }
+        ensures { setting result.zeros result.ones result.dups ≡ setting_of self }
+    {
+        RedundantBits {
+            zeros: self.zeros,
+            ones: self.ones,
+            dups: self.dups,
+        }
+    }
 }
 
 // Answers 15 for a field above 31, then 5 for over 262,144 samples.

@@ -22,7 +22,7 @@ pub fn deconstruct_refusal(info: Int32Info, samples: &[i32], room: usize) -> Res
     if room < 4 * samples.len() {
         return Err(Refusal::OutputTooShort);
     }
-    if !is_reinsertable(samples, info.zeros, info.ones, info.dups) {
+    if !is_reinsertable(samples, info.redundant_bits()) {
         return Err(Refusal::NotReinsertable);
     }
     Ok(())
@@ -51,7 +51,7 @@ pub fn deconstruct_int32(
         ≡ deconstruct_entry info samples.old literal.old }
 {
     deconstruct_refusal(info, samples, literal.len())?;
-    let put = redundancy_of(info.zeros, info.ones, info.dups);
+    let put = redundancy_of(info.redundant_bits());
     lay_literals(samples, put.count, info.sent_bits, literal);
     shorten(samples, put.count, info.sent_bits);
     Ok(samples.len() as u32 * info.sent_bits)

@@ -3,21 +3,17 @@
 
 #![tactic(auto)]
 
-ghost use Rattle.std.specs.Prelude.{◌≡◌, ◌≤◌};
+ghost use Rattle.std.specs.Prelude.{◌≡◌};
 ghost use Rattle.int32_sample.specs.Setting.{setting};
 ghost use Rattle.int32.specs.Deconstruct.{all_reinsertable};
 
-use int32_sample::{bits_below, low_bits, redundancy_of, shifted};
+use int32_sample::{Redundancy, RedundantBits, bits_below, low_bits, redundancy_of, shifted};
 
 // Whether every sample is the image of a sample: its low bits are those that belong below the rest.
-pub fn is_reinsertable(samples: &[i32], zeros: u32, ones: u32, dups: u32) -> bool
-    requires { (zeros ≤ 31) × (ones ≤ 31) × (dups ≤ 31) }
-    ensures { result ≡ all_reinsertable (setting zeros ones dups) samples.now }
+pub fn is_reinsertable(samples: &[i32], bits: RedundantBits) -> bool
+    ensures { result ≡ all_reinsertable (setting bits.zeros bits.ones bits.dups) samples.now }
 {
-    let put = redundancy_of(zeros, ones, dups);
-    let count = put.count;
-    let even = put.even;
-    let odd = put.odd;
+    let Redundancy { count, even, odd } = redundancy_of(bits);
     let mut all = true;
     for sample in samples {
         all &= low_bits(*sample, count) == bits_below(shifted(*sample, count), even, odd);

@@ -33,16 +33,16 @@ fn put_in(info: Int32Info, samples: &mut [i32], literal: &[u8])
     ensures { samples.new
         ≡ reassembled info (bits_of literal.now) samples.old }
 {
+    let bits = info.redundant_bits();
     if info.sent_bits == 0 {
-        reinsert_redundancy(samples, info.zeros, info.ones, info.dups);
+        reinsert_redundancy(samples, bits);
         return;
     }
     append_literals(samples, literal, info.sent_bits);
-    let put = redundancy_of(info.zeros, info.ones, info.dups);
-    if put.count == 0 {
+    if redundancy_of(bits).count == 0 {
         return;
     }
-    reinsert_redundancy(samples, info.zeros, info.ones, info.dups);
+    reinsert_redundancy(samples, bits);
 }
 
 // Completes each sample by literal bits, from the first one on, and by redundant bits; answers how

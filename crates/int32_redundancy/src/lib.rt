@@ -8,7 +8,7 @@ ghost use Rattle.int32_sample.specs.Sample.{below};
 ghost use Rattle.int32_sample.specs.Setting.{setting, dups, reinsert};
 ghost use Rattle.int32.specs.Info.{Samples32};
 
-use int32_sample::{bits_below, low_bits_mask, put_below};
+use int32_sample::{RedundantBits, bits_below, low_bits_mask, put_below};
 
 // Puts the same bits below each sample, those of n; each was a number of 32 bits.
 fn put_each(samples: &mut [i32], count: u32, n: u32)
@@ -35,19 +35,18 @@ fn put_copies(samples: &mut [i32], count: u32)
 }
 
 // Puts the redundant bits below each sample: zeros, ones or copies.
-pub fn reinsert_redundancy(samples: &mut [i32], zeros: u32, ones: u32, dups: u32)
-    requires { (zeros ≤ 31) × (ones ≤ 31) × (dups ≤ 31) }
+pub fn reinsert_redundancy(samples: &mut [i32], bits: RedundantBits)
     ensures put { samples.new
-        ≡ map (reinsert (setting zeros ones dups)) samples.old }
+        ≡ map (reinsert (setting bits.zeros bits.ones bits.dups)) samples.old }
     ensures read { Samples32 samples.old }
 {
-    if zeros > 0 {
-        put_each(samples, zeros, 0);
+    if bits.zeros > 0 {
+        put_each(samples, bits.zeros, 0);
         return;
     }
-    if ones > 0 {
-        put_each(samples, ones, low_bits_mask(ones));
+    if bits.ones > 0 {
+        put_each(samples, bits.ones, low_bits_mask(bits.ones));
         return;
     }
-    put_copies(samples, dups);
+    put_copies(samples, bits.dups);
 }

@@ -7,6 +7,18 @@ ghost use Rattle.std.specs.Prelude.{◌≡◌, cond, ◌^◌, ◌≤◌, ◌<◌
 ghost use Rattle.int32_sample.specs.Sample.{below, low_bits, above};
 ghost use Rattle.int32_sample.specs.Setting.{setting, all_ones, width, even_bits, odd_bits};
 
+// How many bits a recording's fields put in below each sample: zeros, ones or copies of its lowest bit, the
+// first of the three that is not 0.
+#[derive(Clone, Copy)]
+pub struct RedundantBits {
+    pub zeros: u32,
+    pub ones: u32,
+    pub dups: u32,
+    pub ghost few_zeros: { zeros ≤ 31 },
+    pub ghost few_ones: { ones ≤ 31 },
+    pub ghost few_dups: { dups ≤ 31 },
+}
+
 // Which bits are put in below a sample, and how many: below an even sample, and below an odd one.
 #[derive(Clone, Copy)]
 pub struct Redundancy {
@@ -49,35 +61,30 @@ pub fn shifted(x: i32, count: u32) -> i32
 }
 
 // What the redundancy setting puts in: zeros, ones or copies of the lowest bit, the first of the
-// three fields that is not 0.
-pub fn redundancy_of(zeros: u32, ones: u32, dups: u32) -> Redundancy
-    requires { (zeros ≤ 31) × (ones ≤ 31) × (dups ≤ 31) }
-    ensures { result
-        ≡ record {
-          count = width (setting zeros ones dups);
-          even = even_bits (setting zeros ones dups);
-          odd = odd_bits (setting zeros ones dups);
-        } }
+// three that is not 0.
+pub fn redundancy_of(bits: RedundantBits) -> Redundancy
+    ensures { let s = setting bits.zeros bits.ones bits.dups in
+        result ≡ record { count = width s; even = even_bits s; odd = odd_bits s } }
 {
-    if zeros > 0 {
+    if bits.zeros > 0 {
         return Redundancy {
-            count: zeros,
+            count: bits.zeros,
             even: 0,
             odd: 0,
         };
     }
-    if ones > 0 {
-        let mask = low_bits_mask(ones);
+    if bits.ones > 0 {
+        let mask = low_bits_mask(bits.ones);
         return Redundancy {
-            count: ones,
+            count: bits.ones,
             even: mask,
             odd: mask,
         };
     }
     Redundancy {
-        count: dups,
+        count: bits.dups,
         even: 0,
-        odd: low_bits_mask(dups),
+        odd: low_bits_mask(bits.dups),
     }
 }
 

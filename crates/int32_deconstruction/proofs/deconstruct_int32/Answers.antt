@@ -20,12 +20,12 @@ returns-in_err-deconstruct_refusal c =
     let p = err_from_is_err_and c.from_residual.result c.from_residual.ensures.1 in
     rw (p.1, p.2) (deconstruct_refused _ _ _ _ c.in_err-deconstruct_refusal.ensures)
 
-pub redundancy_of-put-requires : goal.redundancy_of-put-requires
-redundancy_of-put-requires c =
+pub redundant_bits-requires : goal.redundant_bits-requires
+redundant_bits-requires c =
     let none : deconstruct_refusal c.args.info c.args.samples.now (length c.args.literal.now) ≡ 0 =
     sym c.in_ok-deconstruct_refusal.ensures in
     let ready = divisible _ _ _ none in
-    let f = ready.fields in (f.zeros, f.ones, f.dups)
+    ready.fields
 
 pub lay_literals-requires-clause-room : goal.lay_literals-requires-clause-room
 lay_literals-requires-clause-room c =
@@ -40,7 +40,7 @@ lay_literals-requires-clause-widths c =
     sym c.in_ok-deconstruct_refusal.ensures in
     let ready = divisible _ _ _ none in
     let count : c.redundancy_of-put.result.count ≡ width (setting_of c.args.info) =
-    ap (λ (r : Redundancy). r.count) c.redundancy_of-put.ensures in
+    ap (λ (r : Redundancy). r.count) c.redundancy_of-put.ensures ∙ ap width c.redundant_bits.ensures in
     (rw count (info_width _ ready.fields), ready.fields.sent)
 
 pub shorten-requires : goal.shorten-requires
@@ -49,7 +49,7 @@ shorten-requires c =
     sym c.in_ok-deconstruct_refusal.ensures in
     let ready = divisible _ _ _ none in
     let count : c.redundancy_of-put.result.count ≡ width (setting_of c.args.info) =
-    ap (λ (r : Redundancy). r.count) c.redundancy_of-put.ensures in
+    ap (λ (r : Redundancy). r.count) c.redundancy_of-put.ensures ∙ ap width c.redundant_bits.ensures in
     (rw count (info_width _ ready.fields), ready.fields.sent)
 
 pub overflow_cast-result : goal.overflow_cast-result
@@ -81,7 +81,7 @@ returns c =
     let none : deconstruct_refusal c.args.info c.args.samples.now (length c.args.literal.now) ≡ 0 =
     sym c.in_ok-deconstruct_refusal.ensures in
     let count : c.redundancy_of-put.result.count ≡ width (setting_of c.args.info) =
-    ap (λ (r : Redundancy). r.count) c.redundancy_of-put.ensures in
+    ap (λ (r : Redundancy). r.count) c.redundancy_of-put.ensures ∙ ap width c.redundant_bits.ensures in
     -- the samples are as many as before
     let as_many : length c.shorten.new.samples ≡ length c.args.samples.now =
     ap length c.shorten.ensures

@@ -37,9 +37,9 @@ looked s put y rest low fill w f e l r n =
 pub loop-sample-preserved : goal.loop-sample-preserved
 loop-sample-preserved c =
     let inside : c.loop-sample.sample-index < length c.args.samples.now = c.loop-sample-test.true in
-    let few = width_le c.args.zeros c.args.ones c.args.dups c.requires.0 c.requires.1 c.requires.2 in
+    let few = width_le _ _ _ c.args.bits.few_zeros c.args.bits.few_ones c.args.bits.few_dups in
     let seen = looked _ _ _ _ _ _ few (search rules)
-    c.redundancy_of-put.ensures c.low_bits.ensures c.shifted.ensures c.bits_below.ensures in
+    c.redundancy_of-count.ensures c.low_bits.ensures c.shifted.ensures c.bits_below.ensures in
     tested_more _ _ _ _ c.loop-sample.sample-index inside seen c.loop-sample.invariant
 
 pub returns : goal.returns

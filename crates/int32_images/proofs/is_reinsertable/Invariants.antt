@@ -6,4 +6,4 @@ use Rattle.int32_images.proofs.TestLaws.{Tested}
 use Rattle.int32_images.proofs.is_reinsertable.Given as goal
 
 abbrev pub invariant-loop-sample : goal.invariant-loop-sample
-invariant-loop-sample l = Tested (setting l.zeros l.ones l.dups) l.samples l.all l.sample-index
+invariant-loop-sample l = Tested (setting l.fn.bits.zeros l.fn.bits.ones l.fn.bits.dups) l.samples l.all l.sample-index
