@@ -9,3 +9,4 @@ pub mod Bounds
 pub mod LoopLaws
 pub mod ListLaws
 pub mod Locals
+pub mod SlotLaws
