@@ -1,6 +1,6 @@
 -- What the calls of reading and of one word leave, each way out by a law.
 -- Assumes nothing.
-use mathlib.Core.Path.{◌≡◌, refl, sym}
+use mathlib.Core.Path.{◌≡◌}
 use mathlib.Core.Bool.{true, ◌||◌}
 use mathlib.Core.List.{List, ◌∷◌}
 use Prim.Native.Nat.{ℕ, ◌≤◌, ◌<◌}
@@ -36,26 +36,21 @@ pub record CountsFit (x : ReadAnswer) : Type 0 where
 
 module _ (entropy payload : List ℕ) (frames : ℕ) (samples : List ℤ) (answer : List ℕ) where
   -- too few slots
-  pub read_short : (r : ℕ) → r ≡ 6 → length answer < 10
-      → record { refusal = r; samples = samples; answer = answer } ≡ read_call entropy payload frames samples answer
-  unfolding read_call
-  read_short r e h = rw (lt-ltb (length answer) 10 h, e)
-
   pub read_few : length answer < 10
       → read_call entropy payload frames samples answer ≡ record { refusal = 6; samples = samples; answer = answer }
-  read_few h = sym (read_short 6 refl h)
+  unfolding read_call
+  read_few h = rw (lt-ltb (length answer) 10 h)
 
   -- what reading told: bits and medians, and behind them the count and both totals
-  pub read-laid : (x : ReadAnswer) (list : List ℤ) (r : ℕ) (first after : List ℕ)
+  pub read-laid : (x : ReadAnswer) (list : List ℤ) (first after : List ℕ)
       → view_reading x list ≡ read_entry entropy payload frames samples → 10 ≤ length answer
-      → r ≡ outcome_number x.outcome
       → first ≡ overlay answer 0 (count_slots x.bits (pair_of x.medians))
       → after ≡ overlay first 7 (x.written ∷ bits_slots (bits_read_of x.bits_read))
-      → record { refusal = r; samples = list; answer = after } ≡ read_call entropy payload frames samples answer
+      → record { refusal = outcome_number x.outcome; samples = list; answer = after } ≡ read_call entropy payload frames samples answer
   unfolding read_call
-  read-laid x list r first after t h e f g =
+  read-laid x list first after t h f g =
       let both = overlay_two answer first after 0 7 (count_slots x.bits (pair_of x.medians)) (x.written ∷ bits_slots (bits_read_of x.bits_read)) (omega arith) (omega arith) f g in
-      rw (le-ltb (length answer) 10 h, ← t, e, both)
+      rw (le-ltb (length answer) 10 h, ← t, both)
 
   -- each number that it told fits its slot
   pub read_counts : (x : ReadAnswer) (list : List ℤ)
@@ -73,11 +68,10 @@ module _ (entropy payload : List ℕ) (frames : ℕ) (samples : List ℤ) (answe
 
 module _ (payload state : List ℕ) (sample : List ℤ) (report : List ℕ) where
   -- too few slots
-  pub word-short : (r : ℕ) → r ≡ 6
-      → (ltb (length state) 15 || ltb (length sample) 1 || ltb (length report) 2) ≡ true
-      → record { refusal = r; state = state; sample = sample; report = report } ≡ word_call payload state sample report
+  pub word-short : (ltb (length state) 15 || ltb (length sample) 1 || ltb (length report) 2) ≡ true
+      → record { refusal = 6; state = state; sample = sample; report = report } ≡ word_call payload state sample report
   unfolding word_call
-  word-short r e h = rw (h, e)
+  word-short h = rw h
 
   -- what the word told
   pub word-told : (x : WordAnswer) (s : State)

@@ -5,13 +5,14 @@
 #![tactic(auto)]
 
 ghost use Rattle.std.specs.Prelude.{◌≡◌};
+ghost use Rattle.answers.specs.Numbers.{outcome_number};
 ghost use Rattle.word_calls.specs.Calls.{read_call, word_call};
 
-use answers::{Refusal, number, outcome_number};
+use answers::Refusal;
 use median_slots::lay_counts;
 use one_word::decode_sample_stateful_stereo;
 use samples::reading::decode_packed_samples_stereo_from_entropy;
-use slots::lay_words;
+use slots::lay;
 use state_slots::state_in;
 use word_slots::lay_word;
 
@@ -24,42 +25,41 @@ pub fn read_call(
     frames: usize,
     samples: &mut [i32],
     answer: &mut [u32],
-) -> u32
-    ensures { record { refusal = result; samples = samples.new; answer = answer.new }
+) -> Result<(), Refusal>
+    ensures { record { refusal = outcome_number result; samples = samples.new; answer = answer.new }
         ≡ read_call entropy.now payload.now frames samples.old answer.old }
 {
     if answer.len() < 10 {
-        return number(Refusal::ListLength);
+        return Err(Refusal::ListLength);
     }
     let read = decode_packed_samples_stereo_from_entropy(entropy, payload, frames, samples);
-    let bits = read.bits;
-    let medians = read.medians;
-    let written = read.written;
-    let bits_read = read.bits_read;
-    let outcome = read.outcome;
-    lay_counts(bits, medians, answer);
-    let last = [written as u32, bits_read[0] as u32, bits_read[1] as u32];
-    lay_words(&last, 7, answer);
-    outcome_number(outcome)
+    lay_counts(read.bits, read.medians, answer);
+    let [left, right] = read.bits_read;
+    let last = [read.written as u32, left as u32, right as u32];
+    lay(&last, 7, answer);
+    read.outcome
 }
 
 // `wv_word`: the word at the place and in the state that 15 slots hold, its sample into 1 slot and
 // its report into 2.
-pub fn word_call(payload: &[u8], state: &mut [u32], sample: &mut [i32], report: &mut [u32]) -> u32
-    ensures { record { refusal = result; state = state.new; sample = sample.new; report = report.new }
+pub fn word_call(
+    payload: &[u8],
+    state: &mut [u32],
+    sample: &mut [i32],
+    report: &mut [u32],
+) -> Result<(), Refusal>
+    ensures { record {
+      refusal = outcome_number result;
+      state = state.new;
+      sample = sample.new;
+      report = report.new;
+    }
         ≡ word_call payload.now state.old sample.old report.old }
 {
-    if state.len() < 15 {
-        return number(Refusal::ListLength);
-    }
-    if sample.len() < 1 {
-        return number(Refusal::ListLength);
-    }
-    if report.len() < 2 {
-        return number(Refusal::ListLength);
+    if state.len() < 15 || sample.len() < 1 || report.len() < 2 {
+        return Err(Refusal::ListLength);
     }
     let place = state[0] as usize;
-    let held = state_in(state);
-    let word = decode_sample_stateful_stereo(payload, place, held);
+    let word = decode_sample_stateful_stereo(payload, place, state_in(state));
     lay_word(word, state, sample, report)
 }

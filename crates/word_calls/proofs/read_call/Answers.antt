@@ -45,6 +45,5 @@ pub returns : goal.returns
 returns c =
     read-laid c.args.entropy.now c.args.payload.now c.args.frames c.args.samples.now c.args.answer.now
     c.decode_packed_samples_stereo_from_entropy-read.result
-    _ _ _ _ c.decode_packed_samples_stereo_from_entropy-read.ensures (omega arith)
-    c.outcome_number.ensures c.lay_counts.ensures
-    c.lay_words.ensures
+    _ _ _ c.decode_packed_samples_stereo_from_entropy-read.ensures (omega arith)
+    c.lay_counts.ensures c.lay.ensures
