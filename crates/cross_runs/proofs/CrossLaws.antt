@@ -3,7 +3,7 @@
 use mathlib.Core.Path.{◌≡◌, refl}
 use mathlib.Core.Bool.{Bool, true, false, cond}
 use mathlib.Core.List.{List}
-use Prim.Native.Nat.{ℕ, ◌+◌, ◌/◌, ◌<◌}
+use Prim.Native.Nat.{ℕ, ◌+◌, ◌*◌, ◌/◌, ◌<◌}
 use native.Mathlib.Omega.{arith}
 use lib.IntN.{ℤ}
 use lib.ListN.{length, set}
@@ -19,7 +19,7 @@ use Rattle.passes.specs.declared.Direction.TheVariants.{Decorrelation, Analysis}
 use Rattle.pass_turns.specs.Turns.{turned, frame_at, frame_stored, lag_at}
 use Rattle.pass_turns.specs.declared.frames.Frame.{Frame}
 use Rattle.pass_turns.specs.declared.turns.Turned.{Turned}
-use Rattle.pass_turns.proofs.FrameLaws.{Done, FrameFits, TurnedFits, done-turn, next-half}
+use Rattle.pass_turns.proofs.FrameLaws.{Done, FrameFits, TurnedFits, done-turn}
 use Rattle.cross_runs.specs.Cross.{cross_term, cross_at}
 use Rattle.cross_runs.proofs.HeadLaws.{head-back, head-set}
 
@@ -36,19 +36,19 @@ cross_step Analysis false p u v k m x y = refl
 
 module _ (d : Direction) (f : Bool) (p : DecorrPass) (whole : List ℤ) where
   -- a turn of the loop
-  pub cross_turn : (u v k : ℤ) {X Y C D : ℤ} {l after : List ℤ} {i : ℕ} {r : Frame} (A B : Turned)
-      → Done (turn d (cross_term f)) p whole (cross_at f p u v k) l (i / 2) i → i + 1 < length l
-      → r ≡ frame_at l i
+  pub cross_turn : (u v k : ℤ) {X Y C D : ℤ} {l after : List ℤ} {m : ℕ} {r : Frame} (A B : Turned)
+      → Done (turn d (cross_term f)) p whole (cross_at f p u v k) l m → m < length l / 2
+      → r ≡ frame_at l (2 * m)
       → X ≡ cond f (reread r.b) (reread r.a) → Y ≡ cond f (reread r.a) (reread r.b)
       → A ≡ turned d true u (reread p.delta) k (reread X)
       → B ≡ turned d true v (reread p.delta) (reread A.sample) (reread Y)
       → C ≡ cond f (reread B.element) (reread A.element)
       → D ≡ cond f (reread A.element) (reread B.element)
-      → after ≡ frame_stored l i (reread C) (reread D)
+      → after ≡ frame_stored l (2 * m) (reread C) (reread D)
       → FrameFits r → SFits w32 X → SFits w32 Y → TurnedFits A → TurnedFits B → SFits w32 C → SFits w32 D
       → let q = cross_at f p (reread A.weight) (reread B.weight) (reread B.sample) in
-      Done (turn d (cross_term f)) p whole q after ((i + 2) / 2) (i + 2)
-  cross_turn u v k {X} {Y} {C} {D} {l} {after} {i} {r} A B done h er ex ey ea eb ec ed es fr fX fY fa fb fC
+      Done (turn d (cross_term f)) p whole q after (m + 1)
+  cross_turn u v k {X} {Y} {C} {D} {l} {after} {m} {r} A B done h er ex ey ea eb ec ed es fr fX fY fa fb fC
       fD =
       let eb' : B ≡ turned d true v p.delta A.sample Y =
       rw (to_z-of_z w32 _ done.delta, to_z-of_z w32 _ fa.sample, to_z-of_z w32 Y fY) at eb in
@@ -58,12 +58,12 @@ module _ (d : Direction) (f : Bool) (p : DecorrPass) (whole : List ℤ) where
       let ed' : D ≡ cond f A.element B.element =
       rw (to_z-of_z w32 _ fa.element, to_z-of_z w32 _ fb.element) at ed in
       let o : Stepped = record { pass = cross_at f p A.weight B.weight B.sample; a = C; b = D } in
-      let eo : o ≡ turn d (cross_term f) (cross_at f p u v k) (i / 2) (slot l i) (slot l (i + 1)) =
+      let eo : o ≡ turn d (cross_term f) (cross_at f p u v k) m (slot l (2 * m)) (slot l (2 * m + 1)) =
       rw (ec', ed', eb', ea', ex, ey, to_z-of_z w32 _ fr.a, to_z-of_z w32 _ fr.b, er)
-      (cross_step d f p u v k (i / 2) (slot l i) (slot l (i + 1))) in
+      (cross_step d f p u v k m (slot l (2 * m)) (slot l (2 * m + 1))) in
       rw (to_z-of_z w32 _ fa.weight, to_z-of_z w32 _ fb.weight, to_z-of_z w32 _ fb.sample)
-      (rw (next-half i) at (done-turn (turn d (cross_term f)) p whole o done h eo
-      (rw (to_z-of_z w32 C fC, to_z-of_z w32 D fD) at es)))
+      (done-turn (turn d (cross_term f)) p whole o done h eo
+      (rw (to_z-of_z w32 C fC, to_z-of_z w32 D fD) at es))
 
 -- where the loop starts
 pub cross_start : (f : Bool) (p : DecorrPass) {A B U W K : ℤ} → A ≡ slot p.history_a 0

@@ -8,7 +8,7 @@ ghost use Rattle.passes.specs.Run.{run, turn};
 ghost use Rattle.passes.specs.declared.Term.TheVariants.{MinusThree};
 ghost use Rattle.cross_runs.specs.Cross.{cross_term, cross_at, swap_at};
 
-use pass_turns::{frame_at, store_frame, turn_clip, with_state};
+use pass_turns::{frame_at, store_frame, turn, with_state};
 use passes::{DecorrPass, Direction};
 
 // y where `second` is set, else x.
@@ -63,27 +63,23 @@ pub fn run_cross(
         ≡ run (turn direction (cross_term second)) start 0 buffer.old }
 {
     let delta = start.delta;
-    let history_a = start.history_a;
-    let history_b = start.history_b;
-    let held_a = last_of(history_a);
-    let held_b = last_of(history_b);
+    let held_a = last_of(start.history_a);
+    let held_b = last_of(start.history_b);
     let mut weight = either(second, start.weight_a, start.weight_b);
     let mut other = either(second, start.weight_b, start.weight_a);
     let mut last = either(second, held_a, held_b);
-    let mut i: usize = 0;
-    while buffer.len() - i > 1 {
-        let frame = frame_at(buffer, i);
+    for k in 0..buffer.len() / 2 {
+        let frame = frame_at(buffer, 2 * k);
         let in_one = either(second, frame.a, frame.b);
         let in_two = either(second, frame.b, frame.a);
-        let one = turn_clip(direction, weight, delta, last, in_one);
-        let two = turn_clip(direction, other, delta, one.sample, in_two);
+        let one = turn::<true>(direction, weight, delta, last, in_one);
+        let two = turn::<true>(direction, other, delta, one.sample, in_two);
         let out_a = either(second, one.element, two.element);
         let out_b = either(second, two.element, one.element);
-        store_frame(buffer, i, out_a, out_b);
+        store_frame(buffer, 2 * k, out_a, out_b);
         weight = one.weight;
         other = two.weight;
         last = two.sample;
-        i += 2;
     }
     with_cross(start, second, weight, other, last)
 }
@@ -94,23 +90,19 @@ pub fn run_swap(direction: Direction, start: DecorrPass, buffer: &mut [i32]) -> 
         ≡ run (turn direction MinusThree) start 0 buffer.old }
 {
     let delta = start.delta;
-    let history_a = start.history_a;
-    let history_b = start.history_b;
     let mut weight_a = start.weight_a;
     let mut weight_b = start.weight_b;
-    let mut last_a = last_of(history_a);
-    let mut last_b = last_of(history_b);
-    let mut i: usize = 0;
-    while buffer.len() - i > 1 {
-        let frame = frame_at(buffer, i);
-        let a = turn_clip(direction, weight_a, delta, last_b, frame.a);
-        let b = turn_clip(direction, weight_b, delta, last_a, frame.b);
-        store_frame(buffer, i, a.element, b.element);
+    let mut last_a = last_of(start.history_a);
+    let mut last_b = last_of(start.history_b);
+    for k in 0..buffer.len() / 2 {
+        let frame = frame_at(buffer, 2 * k);
+        let a = turn::<true>(direction, weight_a, delta, last_b, frame.a);
+        let b = turn::<true>(direction, weight_b, delta, last_a, frame.b);
+        store_frame(buffer, 2 * k, a.element, b.element);
         weight_a = a.weight;
         weight_b = b.weight;
         last_a = a.sample;
         last_b = b.sample;
-        i += 2;
     }
     with_swap(start, weight_a, weight_b, last_a, last_b)
 }

@@ -7,7 +7,7 @@ ghost use Rattle.std.specs.Prelude.{◌≡◌};
 ghost use Rattle.passes.specs.Run.{run, turn};
 ghost use Rattle.passes.specs.declared.Term.TheVariants.{Lag};
 
-use pass_turns::{frame_at, store_frame, turn_plain, with_state};
+use pass_turns::{frame_at, store_frame, turn, with_state};
 use passes::{DecorrPass, Direction};
 
 // A fixed lag, by a ring of the last eight samples.
@@ -25,23 +25,17 @@ pub fn run_ring(
     let mut history_b = start.history_b;
     let mut weight_a = start.weight_a;
     let mut weight_b = start.weight_b;
-    let mut index: usize = 0;
-    let mut i: usize = 0;
-    while buffer.len() - i > 1 {
-        let frame = frame_at(buffer, i);
-        let slot = index % 8;
-        let a = turn_plain(direction, weight_a, delta, history_a[slot], frame.a);
-        let b = turn_plain(direction, weight_b, delta, history_b[slot], frame.b);
-        store_frame(buffer, i, a.element, b.element);
+    for k in 0..buffer.len() / 2 {
+        let frame = frame_at(buffer, 2 * k);
+        let slot = k % 8;
+        let a = turn::<false>(direction, weight_a, delta, history_a[slot], frame.a);
+        let b = turn::<false>(direction, weight_b, delta, history_b[slot], frame.b);
+        store_frame(buffer, 2 * k, a.element, b.element);
         let next = (slot + lag % 8) % 8;
-        let sample_a = a.sample;
-        let sample_b = b.sample;
-        history_a[next] = sample_a;
-        history_b[next] = sample_b;
+        history_a[next] = a.sample;
+        history_b[next] = b.sample;
         weight_a = a.weight;
         weight_b = b.weight;
-        i += 2;
-        index += 1;
     }
     with_state(start, weight_a, weight_b, history_a, history_b)
 }

@@ -6,14 +6,14 @@
 
 #![tactic(auto)]
 
-ghost use Rattle.std.specs.Prelude.{◌≡◌, ◌+◌, ◌≤◌, ◌<◌, length};
+ghost use Rattle.std.specs.Prelude.{◌≡◌, ◌+◌, ◌*◌, ◌≤◌, ◌<◌, length};
 ghost use Rattle.passes.specs.Run.{run, turn};
 ghost use Rattle.passes.specs.declared.Direction.TheVariants.{Decorrelation};
 ghost use Rattle.passes.specs.declared.Term.TheVariants.{Lag};
 ghost use Rattle.lag_runs.specs.Lookback.{looked_back, BackIs, BehindIs};
 
 use lag_ring::run_ring;
-use pass_turns::{Frame, frame_at, store_frame, turn_plain, with_state};
+use pass_turns::{Frame, frame_at, store_frame, turn, with_state};
 use passes::{DecorrPass, Direction};
 
 // The weights of both channels.
@@ -23,23 +23,19 @@ pub struct Weights {
     pub b: i32,
 }
 
-// The samples `lag` frames before the frame whose first element is i: in the first frames those that
-// the pass held.
-fn looked_back(start: DecorrPass, lag: usize, buffer: &[i32], i: usize) -> Frame
+// The samples `lag` frames before frame k: in the first frames those that the pass held.
+fn looked_back(start: DecorrPass, lag: usize, buffer: &[i32], k: usize) -> Frame
     requires lag { lag ≤ 8 }
-    requires inside { i + 1 < length buffer.now }
-    ensures { result ≡ looked_back start lag buffer.now i }
+    requires inside { 2 * k + 1 < length buffer.now }
+    ensures { result ≡ looked_back start lag buffer.now k }
 {
-    if i < 2 * lag {
-        let history_a = start.history_a;
-        let history_b = start.history_b;
-        let slot = i / 2;
+    if k < lag {
         return Frame {
-            a: history_a[slot],
-            b: history_b[slot],
+            a: start.history_a[k],
+            b: start.history_b[k],
         };
     }
-    frame_at(buffer, i - 2 * lag)
+    frame_at(buffer, 2 * (k - lag))
 }
 
 // A fixed lag over a buffer: the weights after it.
@@ -51,16 +47,14 @@ fn run_back(lag: usize, start: DecorrPass, buffer: &mut [i32]) -> Weights
     let delta = start.delta;
     let mut weight_a = start.weight_a;
     let mut weight_b = start.weight_b;
-    let mut i: usize = 0;
-    while buffer.len() - i > 1 {
-        let frame = frame_at(buffer, i);
-        let source = looked_back(start, lag, buffer, i);
-        let a = turn_plain(Direction::Decorrelation, weight_a, delta, source.a, frame.a);
-        let b = turn_plain(Direction::Decorrelation, weight_b, delta, source.b, frame.b);
-        store_frame(buffer, i, a.element, b.element);
+    for k in 0..buffer.len() / 2 {
+        let frame = frame_at(buffer, 2 * k);
+        let source = looked_back(start, lag, buffer, k);
+        let a = turn::<false>(Direction::Decorrelation, weight_a, delta, source.a, frame.a);
+        let b = turn::<false>(Direction::Decorrelation, weight_b, delta, source.b, frame.b);
+        store_frame(buffer, 2 * k, a.element, b.element);
         weight_a = a.weight;
         weight_b = b.weight;
-        i += 2;
     }
     Weights {
         a: weight_a,
@@ -77,15 +71,11 @@ fn ring_behind(lag: usize, start: DecorrPass, weights: Weights, buffer: &[i32]) 
     let mut history_a = start.history_a;
     let mut history_b = start.history_b;
     let frames = buffer.len() / 2;
-    let mut k = frames - 8;
-    while k < frames {
+    for k in frames - 8..frames {
         let frame = frame_at(buffer, 2 * k);
         let slot = (k % 8 + lag % 8) % 8;
-        let sample_a = frame.a;
-        let sample_b = frame.b;
-        history_a[slot] = sample_a;
-        history_b[slot] = sample_b;
-        k += 1;
+        history_a[slot] = frame.a;
+        history_b[slot] = frame.b;
     }
     with_state(start, weights.a, weights.b, history_a, history_b)
 }
@@ -95,13 +85,7 @@ fn decorrelate_lag(lag: usize, start: DecorrPass, buffer: &mut [i32]) -> DecorrP
     ensures { record { pass = result; buffer = buffer.new }
         ≡ run (turn Decorrelation (Lag lag)) start 0 buffer.old }
 {
-    if lag < 2 {
-        return run_ring(Direction::Decorrelation, lag, start, buffer);
-    }
-    if lag > 8 {
-        return run_ring(Direction::Decorrelation, lag, start, buffer);
-    }
-    if buffer.len() < 16 {
+    if lag < 2 || lag > 8 || buffer.len() < 16 {
         return run_ring(Direction::Decorrelation, lag, start, buffer);
     }
     let weights = run_back(lag, start, buffer);

@@ -8,6 +8,7 @@
 ghost use Rattle.std.specs.Prelude.{◌≡◌, ◌<◌};
 ghost use Rattle.list_runs.specs.Chained.{chained, place_of};
 
+use pass_runs::run_pass;
 use passes::{DecorrPass, Direction};
 
 // The pass that turn i of n works on.
@@ -15,10 +16,9 @@ fn place(direction: Direction, n: usize, i: usize) -> usize
     requires { i < n }
     ensures { result ≡ place_of direction n i }
 {
-    let from_the_end = n - 1 - i;
     match direction {
         Direction::Decorrelation => i,
-        Direction::Analysis => from_the_end,
+        Direction::Analysis => n - 1 - i,
     }
 }
 
@@ -29,12 +29,8 @@ pub fn run_list(direction: Direction, passes: &mut [DecorrPass], buffer: &mut [i
         ≡ chained direction passes.old buffer.old }
 {
     let n = passes.len();
-    let mut i: usize = 0;
-    while i < n {
+    for i in 0..n {
         let j = place(direction, n, i);
-        let p = passes[j];
-        let r = pass_runs::run_pass(direction, p, buffer);
-        passes[j] = r;
-        i += 1;
+        passes[j] = run_pass(direction, passes[j], buffer);
     }
 }

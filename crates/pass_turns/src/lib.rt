@@ -9,4 +9,4 @@ mod frames;
 mod turns;
 
 pub use crate::frames::{Frame, frame_at, store_frame};
-pub use crate::turns::{Turned, turn_clip, turn_plain, with_state};
+pub use crate::turns::{Turned, turn, with_state};

@@ -1,8 +1,9 @@
 // One channel's step in either direction, and what the loops put together after it.
-ghost use Rattle.std.specs.Prelude.{◌≡◌, true, false};
+ghost use Rattle.std.specs.Prelude.{◌≡◌};
 ghost use Rattle.pass_turns.specs.Turns.{turned, lag_at};
 
 use passes::{DecorrPass, Direction};
+use weights::{residual_of, sample_of, update_weight, update_weight_clip, update_weight_clip_late};
 
 // What a step leaves of one channel: the weight, the buffer's element, and the sample.
 #[derive(Clone, Copy)]
@@ -12,47 +13,40 @@ pub struct Turned {
     pub sample: i32,
 }
 
-// One channel's step for a term that does not clip, at the buffer's element x.
-pub fn turn_plain(direction: Direction, weight: i32, delta: i32, source: i32, x: i32) -> Turned
-    ensures { result ≡ turned direction false weight delta source x }
+// One channel's step at the buffer's element x: `CLIP` for a cross term. It is no argument, since a
+// test in the loop is slower.
+pub fn turn<const CLIP: bool>(
+    direction: Direction,
+    weight: i32,
+    delta: i32,
+    source: i32,
+    x: i32,
+) -> Turned
+    ensures { result ≡ turned direction CLIP weight delta source x }
 {
     match direction {
         Direction::Decorrelation => {
-            let sample = weights::sample_of(weight, source, x);
+            let sample = sample_of(weight, source, x);
+            let weight = if CLIP {
+                update_weight_clip(weight, delta, source, x)
+            } else {
+                update_weight(weight, delta, source, x)
+            };
             Turned {
-                weight: weights::update_weight(weight, delta, source, x),
+                weight,
                 element: sample,
-                sample: sample,
+                sample,
             }
         }
         Direction::Analysis => {
-            let res = weights::residual_of(weight, source, x);
+            let res = residual_of(weight, source, x);
+            let weight = if CLIP {
+                update_weight_clip_late(weight, delta, res, source)
+            } else {
+                update_weight(weight, delta, res, source)
+            };
             Turned {
-                weight: weights::update_weight(weight, delta, res, source),
-                element: res,
-                sample: x,
-            }
-        }
-    }
-}
-
-// One channel's step for a cross term, at the buffer's element x.
-pub fn turn_clip(direction: Direction, weight: i32, delta: i32, source: i32, x: i32) -> Turned
-    ensures { result ≡ turned direction true weight delta source x }
-{
-    match direction {
-        Direction::Decorrelation => {
-            let sample = weights::sample_of(weight, source, x);
-            Turned {
-                weight: weights::update_weight_clip(weight, delta, source, x),
-                element: sample,
-                sample: sample,
-            }
-        }
-        Direction::Analysis => {
-            let res = weights::residual_of(weight, source, x);
-            Turned {
-                weight: weights::update_weight_clip_late(weight, delta, res, source),
+                weight,
                 element: res,
                 sample: x,
             }
@@ -71,11 +65,10 @@ pub fn with_state(
     ensures { result ≡ lag_at pass weight_a weight_b history_a history_b }
 {
     DecorrPass {
-        term: pass.term,
-        delta: pass.delta,
-        weight_a: weight_a,
-        weight_b: weight_b,
-        history_a: history_a,
-        history_b: history_b,
+        weight_a,
+        weight_b,
+        history_a,
+        history_b,
+        ..pass
     }
 }

@@ -1,15 +1,8 @@
 -- `ring_behind` meets its contract: after k frames the rings hold the samples of those of the
 -- last eight that are passed. Assumes nothing.
-use mathlib.Core.Path.{◌≡◌}
-use Prim.Native.Nat.{◌+◌, ◌-◌, ◌/◌, ◌≤◌}
-use lib.ListN.{length}
+use Prim.Native.Nat.{◌-◌}
 use Rattle.lag_runs.specs.Lookback.{Ring}
 use Rattle.lag_runs.proofs.ring_behind.Given as goal
 
 abbrev pub invariant-loop-k : goal.invariant-loop-k
-invariant-loop-k l = (l.frames ≡ length l.buffer / 2) × (l.k ≤ l.frames) × (l.frames ≤ l.k + 8)
-    × Ring l.lag l.history_a l.buffer 0 (l.frames - 8) l.k
-    × Ring l.lag l.history_b l.buffer 1 (l.frames - 8) l.k
-
-abbrev pub decreases-loop-k : goal.decreases-loop-k
-decreases-loop-k l = l.frames - l.k
+invariant-loop-k l = Ring l.lag l.history_a l.buffer 0 (l.frames - 8) l.k × Ring l.lag l.history_b l.buffer 1 (l.frames - 8) l.k

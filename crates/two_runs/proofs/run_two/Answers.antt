@@ -7,8 +7,8 @@ use Rattle.two_runs.specs.Two.{two_term}
 use Rattle.two_runs.proofs.TwoLaws.{last_fits, two-start, two-turn}
 use Rattle.two_runs.proofs.run_two.Goals as goal
 
-pub loop-buffer-init : goal.loop-buffer-init
-loop-buffer-init c =
+pub loop-k-init : goal.loop-k-init
+loop-k-init c =
     let p = c.args.start in
     done-start (turn c.args.direction (two_term c.args.eighteen)) p c.args.buffer.now
     (two-start p c.last_two-held_a.ensures c.last_two-held_b.ensures
@@ -16,18 +16,18 @@ loop-buffer-init c =
     (last_fits _ _ c.last_two-held_b.type_inv))
     (search rules) (omega arith)
 
-pub loop-buffer-preserved : goal.loop-buffer-preserved
-loop-buffer-preserved c =
-    two-turn c.args.direction c.args.eighteen c.args.start c.args.buffer.now c.turn_plain-a.result
-    c.turn_plain-b.result
-    c.loop-buffer.invariant (omega arith) c.frame_at-frame.ensures c.two_source-source_a.ensures
+pub loop-k-preserved : goal.loop-k-preserved
+loop-k-preserved c =
+    two-turn c.args.direction c.args.eighteen c.args.start c.args.buffer.now c.turn-a.result
+    c.turn-b.result
+    c.loop-k.invariant (omega arith) c.frame_at-frame.ensures c.two_source-source_a.ensures
     c.two_source-source_b.ensures
-    c.turn_plain-a.ensures c.turn_plain-b.ensures c.store_frame.ensures
+    c.turn-a.ensures c.turn-b.ensures c.store_frame.ensures
     (search rules) (search rules)
-    (frame-fits _ _ c.frame_at-frame.type_inv) (turned-fits _ _ c.turn_plain-a.type_inv)
-    (turned-fits _ _ c.turn_plain-b.type_inv)
+    (frame-fits _ _ c.frame_at-frame.type_inv) (turned-fits _ _ c.turn-a.type_inv)
+    (turned-fits _ _ c.turn-b.type_inv)
 
 pub returns : goal.returns
 returns c =
     done_end (turn c.args.direction (two_term c.args.eighteen)) c.args.start c.args.buffer.now
-    c.loop-buffer.invariant (omega arith) c.with_last_two.ensures
+    c.loop-k.invariant (omega arith) c.with_last_two.ensures
