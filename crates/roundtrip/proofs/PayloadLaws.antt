@@ -16,8 +16,7 @@ use Rattle.answers.proofs.GuardLaws.{refused-first, guard_refused}
 use Rattle.answers.proofs.TestLaws.{clash, neither}
 use Rattle.bits.specs.Bits.{bits_of}
 use Rattle.entropy.specs.Seed.{seed_refusal, seed_medians}
-use Rattle.word_state.specs.State.{State, start}
-use Rattle.readings.specs.Reading.{reading}
+use Rattle.word_state.specs.State.{State}
 use Rattle.readings.specs.Refused.{Why}
 use Rattle.samples.specs.View.{ReadTold, read_words, read_refusal, refuse_reading, read_entry}
 use Rattle.readings.proofs.RefusalLaws.{reading-why}
