@@ -20,7 +20,7 @@ use word_bits::Located;
 pub fn sign_bit(residual: i32) -> u32
     ensures { result ≡ sign residual }
 {
-    if residual < 0 { 1 } else { 0 }
+    u32::from(residual < 0)
 }
 
 // Where a magnitude lies that is `rest` past the first two intervals, `m0` and `m1` being the first

@@ -21,7 +21,7 @@ use word_state::zero_run_eligible;
 fn zero_after(last_zero: bool, more: bool) -> bool
     ensures { result ≡ cond last_zero false (not more) }
 {
-    if last_zero { false } else { !more }
+    !last_zero && !more
 }
 
 fn one_after(last_zero: bool, last_one: bool, more: bool) -> bool

@@ -38,8 +38,7 @@ fn prefix_of(count: u32, last_one: bool, more: bool) -> u32
     requires { count < residual_span }
     ensures { result ≡ prefix_of count last_one more }
 {
-    let twice = 2 * less(count, last_one);
-    if more { twice + 1 } else { twice }
+    2 * less(count, last_one) + u32::from(more)
 }
 
 // The bits of a word behind its prefix, if it has one. The place after them.

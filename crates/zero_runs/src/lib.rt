@@ -11,7 +11,7 @@ ghost use Rattle.word_bits.specs.View.{other_of, SkipIs};
 fn other(residual: i32) -> u32
     ensures { result ≡ other_of residual }
 {
-    if residual == 0 { 0 } else { 1 }
+    u32::from(residual != 0)
 }
 
 // Whether the 32 residuals from `from` on are all 0.
