@@ -59,9 +59,6 @@ read_all samples i h r j = go (dec_lt j i)
         (record { sfits = omega arith })
 
 module _ (f : ℕ → ℤ → ℤ) (before : List ℤ) where
-  pub replaced-none : Replaced f before before 0
-  replaced-none = record { same_length = refl; here = omega arith; rest = refl; whole = refl }
-
   pub replaced-more : (after : List ℤ) (i : ℕ) (v : ℤ) → i < length after → v ≡ f i (get_or after i (pos 0))
       → Replaced f before after i
       → Replaced f before (set after i v) (i + 1)

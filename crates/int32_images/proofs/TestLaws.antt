@@ -5,7 +5,6 @@ use mathlib.Core.Bool.{Bool, true, false, cond, ◌&&◌}
 use mathlib.Core.List.{List}
 use Prim.Native.Nat.{ℕ, suc, ◌+◌, ◌-◌, ◌≤◌, ◌<◌}
 use native.Mathlib.Numerals.{add-one}
-use native.Mathlib.Omega.{arith}
 use lib.Dec.{eqb}
 use lib.IntN.{ℤ, pos}
 use lib.ListN.{length, drop, get_or, drop_of_length-le}
@@ -33,9 +32,6 @@ regroup true b c = refl
 regroup false b c = refl
 
 module _ (s : Setting) (samples : List ℤ) where
-  pub tested-none : Tested s samples true 0
-  tested-none = record { here = omega arith; whole = refl }
-
   -- one sample more
   pub tested_more : (all found : Bool) (i : ℕ) → i < length samples
       → found ≡ reinsertable s (get_or samples i (pos 0)) → Tested s samples all i

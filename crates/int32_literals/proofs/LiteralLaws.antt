@@ -4,8 +4,8 @@
 use mathlib.Core.Path.{◌≡◌, refl, sym, ap, ◌∙◌}
 use mathlib.Core.Bool.{Bool}
 use mathlib.Core.List.{List, [], ◌∷◌}
-use Prim.Native.Nat.{ℕ, zero, suc, ◌+◌, ◌-◌, ◌*◌, ◌/◌, ◌%◌, ◌^◌, ◌≤◌, ◌<◌, min}
-use native.Mathlib.Nat.{mod-one, mod-lt, suc-mul, mul-le-mul_right, le_trans}
+use Prim.Native.Nat.{ℕ, zero, suc, ◌+◌, ◌-◌, ◌*◌, ◌/◌, ◌%◌, ◌^◌, ◌≤◌, min}
+use native.Mathlib.Nat.{mod-one, mod-lt, suc-mul}
 use native.Mathlib.Omega.{arith}
 use lib.IntN.{ℤ}
 use lib.ListN.{length, take, drop, length-drop}
@@ -51,10 +51,6 @@ literal-bits s at (suc k) w h l e =
     (bits-yes bits at (suc k) (omega (arith, length-drop at bits, length-bits s)))
 
 -- ---- the literal bits of all samples
-
--- the literal bits of the place i lie within those of all samples
-pub literal-room : (i n sent bits : ℕ) → i < n → n * sent ≤ bits → i * sent + sent ≤ bits
-literal-room i n sent bits h l = le_trans (rw (← suc-mul i sent) (mul-le-mul_right sent h)) l
 
 -- literal bits: those of the place i
 abbrev pub append_at : ℕ → List Bool → ℕ → ℤ → ℤ

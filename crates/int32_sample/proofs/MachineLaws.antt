@@ -2,12 +2,10 @@
 -- Assumes nothing.
 use mathlib.Core.Path.{◌≡◌, sym, ap, ◌∙◌}
 use Prim.Native.Nat.{ℕ, ◌+◌, ◌-◌, ◌*◌, ◌%◌, ◌^◌, ◌≤◌, ◌<◌}
-use native.Mathlib.Nat.{one-mul, lt_of_lt_of_le}
-use native.Mathlib.Omega.{arith}
+use native.Mathlib.Nat.{lt_of_lt_of_le}
 use lib.Bits.{bit_and, bit_or, and_mask, or_shifted}
-use lib.Dec.{lit<}
 use lib.IntN.{ℤ}
-use lib.Pow.{shl_exact, pow_mono}
+use lib.Pow.{pow_mono}
 use mir.Syntax.{w32}
 use mir.Val.{to_z, of_z, SFits}
 use Rattle.wrapping.specs.Wrap.{low32, wrap32}
@@ -15,10 +13,6 @@ use Rattle.wrapping.proofs.WrapLaws.{low32_of, low32_wrap}
 use Rattle.int32_sample.specs.Sample.{below, low_bits}
 use Rattle.int32_sample.specs.Setting.{all_ones}
 use Rattle.int32_sample.proofs.ShiftLaws.{above-count, below-pattern, shifted_mod, low_lt}
-
--- 1 shifted left
-pub one_shifted : (k : ℕ) → k ≤ 31 → 1 * 2 ^ k % 4294967296 ≡ 2 ^ k
-one_shifted k h = shl_exact 1 k 32 (lit< tt) (omega arith) ∙ one-mul (2 ^ k)
 
 -- a number of at most 31 bits is a signed one
 pub small : (k n : ℕ) → k ≤ 31 → n < 2 ^ k → n < 2147483648

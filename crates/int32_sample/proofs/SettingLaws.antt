@@ -3,7 +3,7 @@
 -- Assumes nothing.
 use mathlib.Core.Path.{◌≡◌, refl, sym, ap, ap₂, subst, ◌∙◌}
 use mathlib.Core.Bool.{Bool, true, false, cond, ◌||◌}
-use Prim.Native.Nat.{ℕ, zero, suc, ◌+◌, ◌-◌, ◌*◌, ◌/◌, ◌%◌, ◌^◌, ◌≤◌, ◌<◌}
+use Prim.Native.Nat.{ℕ, zero, suc, ◌+◌, ◌-◌, ◌*◌, ◌/◌, ◌%◌, ◌^◌, ◌<◌}
 use native.Mathlib.Nat.{pow-suc, mod-lt}
 use native.Mathlib.Numerals.{one-add}
 use native.Mathlib.Omega.{arith}
@@ -16,7 +16,7 @@ use mir.Val.{SFits}
 use Rattle.wrapping.specs.Wrap.{low32}
 use Rattle.int32_sample.specs.Sample.{below, low_bits, above}
 use Rattle.int32_sample.specs.declared.Redundancy.{Redundancy}
-use Rattle.int32_sample.specs.Setting.{Setting, zeros, ones, dups, setting, width, all_ones, even_bits}
+use Rattle.int32_sample.specs.Setting.{Setting, zeros, ones, dups, width, all_ones, even_bits}
 use Rattle.int32_sample.specs.Setting.{odd_bits, reinsert, reinsertable, TestIsImage}
 use Rattle.int32_sample.proofs.ShiftLaws.{below-nothing, above-count, above-fits, below-pattern}
 use Rattle.int32_sample.proofs.ShiftLaws.{low_below, put_back, low_lt, above-pattern}
@@ -60,46 +60,9 @@ reinsert-nothing s x w h =
     let z : fill s x ≡ 0 = omega (arith, l) in
     by_parity s x ∙ ap₂ (λ (k n : ℕ). below k n x) w z ∙ below-nothing x h
 
--- the choice, by the lowest bit that was found
-pub even_bits_lem : (n found e o : ℕ) → found ≡ n → found ≡ 0 → e ≡ cond (eqb n 0) e o
-even_bits_lem n found e o q z = sym (ap (λ (t : Bool). cond t e o) (eq-eqb n 0 (sym q ∙ z)))
-
-pub odd_bits_lem : (n found e o : ℕ) → found ≡ n → (found ≡ 0 → ⊥) → o ≡ cond (eqb n 0) e o
-odd_bits_lem n found e o q z = sym (ap (λ (t : Bool). cond t e o) (ne_eqb n 0 (λ m. z (q ∙ m))))
-
 -- the bits of the setting that three fields make, as `redundancy_of` holds them
 abbrev pub held : Setting → Redundancy
 held s = record { count = width s; even = even_bits s; odd = odd_bits s }
-
--- zeros, where they are not 0
-pub is-zeros : (z o d : ℕ) → 0 < z → setting z o d ≡ zeros z
-is-zeros zero o d h = absurd (omega arith)
-is-zeros (suc z) o d h = refl
-
--- ones, where zeros are 0 and they are not
-pub is-ones : (z o d : ℕ) → z ≤ 0 → 0 < o → setting z o d ≡ ones o
-is-ones zero zero d h l = absurd (omega arith)
-is-ones zero (suc o) d h l = refl
-is-ones (suc z) o d h l = absurd (omega arith)
-
--- copies, where both are 0
-pub is-dups : (z o d : ℕ) → z ≤ 0 → o ≤ 0 → setting z o d ≡ dups d
-is-dups zero zero d h l = refl
-is-dups zero (suc o) d h l = absurd (omega arith)
-is-dups (suc z) o d h l = absurd (omega arith)
-
-pub held-zeros : (z o d : ℕ) → 0 < z → record { count = z; even = 0; odd = 0 } ≡ held (setting z o d)
-held-zeros z o d h = ap held (sym (is-zeros z o d h))
-
-pub held-ones : (z o d mask : ℕ) → z ≤ 0 → 0 < o → mask ≡ all_ones o
-    → record { count = o; even = mask; odd = mask } ≡ held (setting z o d)
-held-ones z o d mask h l e = ap (λ (m : ℕ). record { count = o; even = m; odd = m }) e ∙ ap held
-    (sym (is-ones z o d h l))
-
-pub held-dups : (z o d mask : ℕ) → z ≤ 0 → o ≤ 0 → mask ≡ all_ones d
-    → record { count = d; even = 0; odd = mask } ≡ held (setting z o d)
-held-dups z o d mask h l e = ap (λ (m : ℕ). record { count = d; even = 0; odd = m }) e ∙ ap held
-    (sym (is-dups z o d h l))
 
 -- ---- the test on the low bits
 

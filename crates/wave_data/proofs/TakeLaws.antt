@@ -1,6 +1,6 @@
 -- The samples of a file, copied one after the other.
 -- Assumes nothing.
-use mathlib.Core.Path.{◌≡◌, refl, sym, ap, ap₂, ◌∙◌}
+use mathlib.Core.Path.{◌≡◌, sym, ap, ap₂, ◌∙◌}
 use mathlib.Core.List.{List}
 use Prim.Native.Nat.{ℕ, ◌+◌, ◌*◌, ◌≤◌, ◌<◌}
 use native.Mathlib.Nat.{zero-add}
@@ -8,7 +8,7 @@ use native.Mathlib.Numerals.{add-one}
 use native.Mathlib.Omega.{arith}
 use lib.IntN.{ℤ, pos}
 use lib.ListN.{length, drop, get_or, set, length-set, length-drop}
-use lib.Seq.{paste, paste-zero, paste-suc, get_or-drop}
+use lib.Seq.{paste, paste-suc, get_or-drop}
 use Rattle.overlay.specs.Overlay.{overlay}
 use Rattle.overlay.proofs.OverlayLaws.{overlay_copied}
 use Rattle.little_endian.specs.LittleEndian.{signed_word}
@@ -23,14 +23,6 @@ pub record Taken (file : List ℕ) (before samples : List ℤ) (i : ℕ) : Type 
   pub copied : samples ≡ paste before 0 (file_samples file) i
 
 module _ (file : List ℕ) (before : List ℤ) where
-  -- none of them
-  pub taken_none : Taken file before before 0
-  taken_none = record {
-    here = omega arith;
-    same_length = refl;
-    copied = paste-zero before 0 (file_samples file);
-  }
-
   -- the two bytes of one of them
   sample-at : (i : ℕ) → i < length (file_samples file)
       → signed_word (get_or file (header_bytes + 2 * i) 0) (get_or file (header_bytes + 2 * i + 1) 0)
