@@ -8,7 +8,8 @@ use native.Mathlib.Omega.{arith}
 use lib.IntN.{ℤ}
 use lib.ListN.{length, drop, length-append}
 use Rattle.answers.specs.declared.Refusal.{Refusal}
-use Rattle.std.specs.Prelude.{Result, Ok}
+use Rattle.std.specs.Prelude.{Result, Ok, Err}
+use Rattle.std.specs.Result.{result_unwrap_or}
 use Rattle.answers.specs.Guard.{unless_refused}
 use Rattle.answers.specs.Numbers.{number_of}
 use Rattle.answers.proofs.GuardLaws.{guard_refused, guard_accepted}
@@ -67,7 +68,8 @@ page-within t samples storage = go (page_refusal (length samples) (length storag
     go zero = rw (overlay_first storage text) (omega (arith, length-append text (drop (length text) storage)))
     go (suc n) = omega arith
 
--- and so of what an accepted call answers
-pub answer-within : (r : Result ℕ Refusal) (written : ℕ) (after : List ℕ) (told : PageTold)
-    → r ≡ Ok written → view_page r after ≡ told → Within told → written ≤ length after
-answer-within r written after told o e w = rw (← e, o) at w
+-- and so of what a call answers, 0 where it refuses
+pub answer-within : (r : Result ℕ Refusal) (after : List ℕ) (told : PageTold) → view_page r after ≡ told
+    → Within told → result_unwrap_or r 0 ≤ length after
+answer-within (Ok written) after told e w = rw (← e) at w
+answer-within (Err refusal) after told e w = omega arith
