@@ -16,9 +16,8 @@ pub fn read_full<R: Read>(input: &mut R, bytes: &mut [u8]) -> usize
     let mut done = 0;
     while done < bytes.len() {
         match input.read(&mut bytes[done..]) {
-            Ok(0) => break,
+            Ok(0) | Err(_) => break,
             Ok(n) => done += n,
-            Err(_) => break,
         }
     }
     done
