@@ -20,9 +20,9 @@ use little_endian::number_bytes;
 fn head_bytes(house: u16, start: u32, issue: u16, length: u32) -> [u8; 12]
     ensures { result ≡ head house start issue length }
 {
-    let whose = number_bytes(house as u32);
+    let whose = number_bytes(u32::from(house));
     let when = number_bytes(start);
-    let which = number_bytes(issue as u32);
+    let which = number_bytes(u32::from(issue));
     let long = number_bytes(length);
     [
         whose[0], whose[1], when[0], when[1], when[2], when[3], which[0], which[1], long[0],

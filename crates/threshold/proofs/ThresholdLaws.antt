@@ -6,13 +6,12 @@ use mathlib.Core.List.{List, [], ◌∷◌, ◌++◌}
 use Prim.Native.Nat.{ℕ, ◌+◌, ◌*◌, ◌-◌, ◌/◌, ◌%◌, ◌≤◌, ◌<◌}
 use native.Mathlib.Numerals.{add-one}
 use native.Mathlib.Omega.{arith}
-use borrow.Author.Tests.{lt-ltb, le-ltb, le-leb, leb-true}
+use borrow.Author.Tests.{lt-ltb, le-ltb, le-leb}
 use Rattle.std.specs.Prelude.{Option, Some, None}
 use Rattle.std.specs.Char.{is_ascii_digit}
-use lib.Dec.{ltb, leb}
+use lib.Dec.{ltb}
 use lib.ListN.{length, drop, get_or, drop_of_length-le}
 use lib.Seq.{drop-cons}
-use Rattle.answers.proofs.TestLaws.{both}
 use Rattle.decimal.specs.Decimal.{decimal, read_digits}
 use Rattle.decimal.proofs.DecimalLaws.{by_tenths, decimal-one, decimal-more, decimal-some, decimal-back}
 use Rattle.threshold.specs.Threshold.{is_digit, all_digits, is_threshold, threshold_in}
@@ -22,11 +21,6 @@ use Rattle.threshold.specs.Threshold.{is_digit, all_digits, is_threshold, thresh
 pub digit-is : (c : ℕ) → is_ascii_digit c ≡ is_digit c
 unfolding is_digit
 digit-is c = refl
-
--- a digit is at least `0`, and at most `9`
-pub digit_low : (c : ℕ) → is_digit c ≡ true → (48 ≤ c) × (c ≤ 57)
-unfolding is_digit
-digit_low c e = let b = both (leb 48 c) (leb c 57) e in (leb-true 48 c b.0, leb-true c 57 b.1)
 
 -- ---- the digits of a text
 
@@ -95,6 +89,10 @@ module _ (text : List ℕ) where
         and-false
             (ltb 0 (length text)),
       ))
+
+  pub too_large : (value i : ℕ) → Typed text value i → i < length text
+      → 4294967296 ≤ 10 * value + (get_or text i 0 - 48) → threshold_in text ≡ None
+  too_large value i t h l = sym (typed_large value i h t l)
 
   -- a text of digits and a small number is a threshold, but for the empty one
   pub typed_empty : length text ≡ 0 → ◌≡◌ {A = Option ℕ} None (threshold_in text)

@@ -6,15 +6,23 @@ ghost use Rattle.std.specs.Prelude.{◌≡◌};
 ghost use Rattle.threshold.specs.Threshold.{threshold_in};
 
 // Reads a threshold: decimal digits alone, of a number below 2 to the 32. Any other text has none.
+#[tactic(auto, using(crate::proofs::ThresholdLaws::too_large))]
 pub fn threshold_of(text: &[u8]) -> Option<u32>
     ensures { result ≡ threshold_in text.now }
 {
-    let mut value: u32 = 0;
+    let mut value: u64 = 0;
     for byte in text {
         if !byte.is_ascii_digit() {
             return None;
         }
-        value = value.checked_mul(10)?.checked_add(u32::from(*byte - b'0'))?;
+        value = 10 * value + u64::from(*byte - b'0');
+        if value >= 4294967296 {
+            return None;
+        }
     }
-    if text.is_empty() { None } else { Some(value) }
+    if text.is_empty() {
+        None
+    } else {
+        Some(value as u32)
+    }
 }

@@ -1,7 +1,7 @@
 -- `block_check::check_of` meets its contract.
 -- Assumes nothing.
 use mathlib.Core.Path.{◌≡◌, ◌∙◌}
-use Prim.Native.Nat.{◌+◌, ◌<◌}
+use Prim.Native.Nat.{◌<◌}
 use native.Mathlib.Omega.{arith}
 use lib.ListN.{get_or}
 use Rattle.std.proofs.lemmas.List.{length-take-le, get_or-take}
@@ -23,9 +23,9 @@ loop-i-init c = summed-none _
 
 pub overflow_add-sum-in-loop-i : goal.overflow_add-sum-in-loop-i
 overflow_add-sum-in-loop-i c =
-    let i = c.loop-i.i in
     let a = added c in
-    sum-word c.args.block.now c.loop-i.sum i (i + 1) c.from.result a.0 (omega (arith, a.0)) a.2 c.loop-i.invariant
+    sum-word c.args.block.now c.loop-i.sum c.loop-i.i _ c.from.result a.0 (omega (arith, a.0)) a.2
+    c.loop-i.invariant
 
 pub loop-i-preserved : goal.loop-i-preserved
 loop-i-preserved c =
