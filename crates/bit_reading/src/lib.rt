@@ -17,10 +17,8 @@ pub fn get_bit(s: &[u8], at: usize) -> Option<(u32, usize)>
     requires limit { length s.now ≤ max_payload_bytes }
     ensures { result ≡ get_bits (bits_of s.now) at 1 }
 {
-    if at / 8 >= s.len() {
-        return None;
-    }
-    Some((u32::from((s[at / 8] >> (at % 8)) % 2), at + 1))
+    let byte = *s.get(at / 8)?;
+    Some((u32::from((byte >> (at % 8)) % 2), at + 1))
 }
 
 // The number of `count` bits at `at`, low bit first. No bits are found at every place.

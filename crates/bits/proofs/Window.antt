@@ -73,29 +73,6 @@ bytes_lt x a =
     lt_of_lt_of_le (num_lt (bits_of (take a x)))
     (pow_mono {i = length (bits_of (take a x))} {j = 8 * a} (omega (arith, length-bits (take a x), length-take a x)))
 
--- the number lo of a bytes and hi of the a bytes behind them, joined in 64 bits: the shift loses
--- nothing, the sum fits, and it is the number of all
-pub record Joined (s : List ℕ) (i a lo hi : ℕ) : Type 0 where
-  pub exact : hi * 2 ^ (8 * a) % 2 ^ 64 ≡ hi * 2 ^ (8 * a)
-  pub small : lo + hi * 2 ^ (8 * a) < 2 ^ 64
-  pub same : lo + hi * 2 ^ (8 * a) ≡ num (bits_of (take (a + a) (drop i s)))
-
--- so it is for at most four bytes and four
-pub joined : (s : List ℕ) (i a lo hi : ℕ) → i + a ≤ length s → a ≤ 4 → lo ≡ num (bits_of (take a (drop i s))) → hi ≡ num (bits_of (take a (drop (i + a) s)))
-    → Joined s i a lo hi
-joined s i a lo hi h l e f =
-    let g : lo + hi * 2 ^ (8 * a) ≡ num (bits_of (take (a + a) (drop i s))) = ap₂ (λ (x y : ℕ). x + y * 2 ^ (8 * a)) e f ∙ sym (gather s i a a h) in
-    record {
-      exact = shl_exact (8 * a) (8 * a) 64 (rw f (bytes_lt (drop (i + a) s) a)) (omega arith);
-      small = rw g (lt_of_lt_of_le (bytes_lt (drop i s) (a + a)) (pow_mono {i = 8 * (a + a)} {j = 64} (omega arith)));
-      same = g;
-    }
-
--- and for one byte and one
-pub joined_bytes : (s : List ℕ) (i lo hi : ℕ) → i + 1 < length s → lo ≡ get_or s i 0 → hi ≡ get_or s (i + 1) 0 → lo < 256 → hi < 256 → Joined s i 1 lo hi
-joined_bytes s i lo hi h e f le lf =
-    joined s i 1 lo hi (omega arith) (omega arith) (e ∙ sym (one_byte s i (omega arith) (omega arith))) (f ∙ sym (one_byte s (i + 1) (omega arith) (omega arith)))
-
 -- at most as many elements as there are
 take_min : (l : List ℕ) (n : ℕ) → take n l ≡ take (min n (length l)) l
 take_min l n = go (dec_le n (length l))

@@ -8,11 +8,14 @@ use Rattle.bits.proofs.BitLaws.{length-bits}
 use Rattle.bits.proofs.ReadLaws.{bits_no, bit_read_lem}
 use Rattle.bit_reading.proofs.get_bit.Goals as goal
 
-pub returns-then-at-s : goal.returns-then-at-s
-returns-then-at-s c =
+pub returns-in_err-byte : goal.returns-in_err-byte
+returns-in_err-byte c =
     let bits = bits_of c.args.s.now in
-    sym (bits_no bits c.args.at 1 (omega (arith, length-drop c.args.at bits, length-bits c.args.s.now)))
+    let k = c.in_err-byte.ensures.lookup in
+    rw c.from_residual.ensures
+    (sym (bits_no bits c.args.at 1 (omega (arith, k.3, length-drop c.args.at bits, length-bits c.args.s.now))))
 
 pub returns : goal.returns
 returns c =
-    rw c.from.ensures (sym (bit_read_lem c.args.s.now c.args.at (omega arith)))
+    let k = c.in_ok-byte.ensures.lookup in
+    rw (c.from.ensures, k.3.1 0) (sym (bit_read_lem c.args.s.now c.args.at k.3.0))
