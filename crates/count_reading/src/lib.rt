@@ -55,8 +55,6 @@ pub fn read_raw_prefix(payload: &[u8], place: usize) -> Result<(u32, usize), Ref
         return Err(Refusal::Truncated);
     }
     let (rest, next) = read_counted(payload, digits, second).ok_or(Refusal::Truncated)?;
-    if rest > 4294967279 {
-        return Err(Refusal::Truncated);
-    }
-    Ok((16 + rest, next))
+    let value = rest.checked_add(16).ok_or(Refusal::Truncated)?;
+    Ok((value, next))
 }

@@ -5,7 +5,7 @@ use native.Mathlib.Omega.{arith}
 use mathlib.Core.Path.{◌≡◌, sym, ◌∙◌}
 use mathlib.Core.Bool.{Bool, cond}
 use mathlib.Core.List.{List}
-use Prim.Native.Nat.{ℕ, ◌+◌, ◌≤◌}
+use Prim.Native.Nat.{ℕ, ◌+◌, ◌≤◌, ◌<◌}
 use lib.Dec.{leb}
 use borrow.Author.Tests.{lt-ltb, le-ltb, le-leb, lt-leb, eq-eqb, ne_eqb}
 use Rattle.std.specs.Prelude.{Option, Some, None, Result, Ok, Err}
@@ -19,11 +19,13 @@ use Rattle.answers.specs.declared.Refusal.TheVariants.{Truncated}
 use Rattle.count_reading.proofs.read_raw_prefix.Goals as goal
 
 -- what a missing part makes of the whole: the refusal that it was given
-missing : (r : Result (ℕ × ℕ) Refusal) (o : Option (ℕ × ℕ)) {x : Refusal} → IsErrAnd r (λ y. y ≡ x)
-    → ◌≡◌ {A = Result (ℕ × ℕ) Refusal} (Err x) (ok_or o Truncated) → o ≡ None → r ≡ Err Truncated
-missing r o h e n =
+missing : {T : Type 0} (r : Result (ℕ × ℕ) Refusal) (o : Option T) {x : Refusal} → IsErrAnd r (λ y. y ≡ x)
+    → ◌≡◌ {A = Result T Refusal} (Err x) (ok_or o Truncated) → o ≡ None → r ≡ Err Truncated
+missing {T} r o {x} h e n =
     let p = err_from_is_err_and r h in
-    rw (p.1, p.2) (e ∙ rw n)
+    let f : ◌≡◌ {A = Result T Refusal} (Err x) (Err Truncated) = e ∙ rw n in
+    let same : x ≡ Truncated = cc in
+    rw (p.1, p.2, same)
 
 pub returns-in_err-first : goal.returns-in_err-first
 unfolding prefix
@@ -95,22 +97,29 @@ third : (bits : List Bool) (p second digits : ℕ) {rest next : ℕ}
 unfolding escaped
 third bits p second digits e h k f = rw (e, ne_eqb _ _ h, le-ltb _ _ k, f)
 
-pub returns-then-rest-gt4294967279 : goal.returns-then-rest-gt4294967279
-returns-then-rest-gt4294967279 c =
+pub returns-in_err-value : goal.returns-in_err-value
+returns-in_err-value c =
     let e = past _ _ (sym c.get_unary.ensures ∙ c.in_ok-first.ensures.ok_part) c.if-first-lt16.false
     (sym c.get_unary-2.ensures ∙ c.in_ok-second.ensures.ok_part) in
+    let v = c.in_err-value.ensures in
+    let over = rw v.ok_part at c.checked_add.ensures in
+    let h : 4294967295 < 16 + c.in_ok-rest.rest = omega (arith, over) in
     rw (
+      missing _ _ c.from_residual-in_err-value.ensures.1 v.value v.ok_part,
       third _ _ c.in_ok-second.second _ e (omega arith) (omega arith)
           (sym c.read_counted.ensures ∙ c.in_ok-rest.ensures.ok_part),
-      lt-leb (16 + c.in_ok-rest.rest) 4294967295 (omega arith),
+      lt-leb (16 + c.in_ok-rest.rest) 4294967295 h,
     )
 
 pub returns : goal.returns
 returns c =
     let e = past _ _ (sym c.get_unary.ensures ∙ c.in_ok-first.ensures.ok_part) c.if-first-lt16.false
     (sym c.get_unary-2.ensures ∙ c.in_ok-second.ensures.ok_part) in
+    let within = rw c.in_ok-value.ensures.ok_part at c.checked_add.ensures in
+    let v : c.in_ok-value.value ≡ 16 + c.in_ok-rest.rest = omega (arith, within.1) in
     rw (
+      v,
       third _ _ c.in_ok-second.second _ e (omega arith) (omega arith)
           (sym c.read_counted.ensures ∙ c.in_ok-rest.ensures.ok_part),
-      le-leb (16 + c.in_ok-rest.rest) 4294967295 (omega arith),
+      le-leb (16 + c.in_ok-rest.rest) 4294967295 (omega (arith, within.0)),
     )
