@@ -13,7 +13,8 @@ returns-in_err-byte c =
     let bits = bits_of c.args.s.now in
     let k = c.in_err-byte.ensures.lookup in
     rw c.from_residual.ensures
-    (sym (bits_no bits c.args.at 1 (omega (arith, k.3, length-drop c.args.at bits, length-bits c.args.s.now))))
+    (sym (bits_no bits c.args.at 1
+    (omega (arith, k.3, length-drop c.args.at bits, length-bits c.args.s.now))))
 
 pub returns : goal.returns
 returns c =

@@ -25,7 +25,8 @@ returns-in_err-low c =
     rw (c.from_residual.ensures, le-ltb _ _ c.if-ones-lt2.false, sym c.get_bits.ensures ∙ c.in_err-low.was)
 
 read : (c : goal.In_ok-low) →
-    get_bits (bits_of c.args.payload.now) c.args.place (c.args.ones - 1) ≡ Some (c.in_ok-low.low, c.in_ok-low.next)
+    get_bits (bits_of c.args.payload.now) c.args.place (c.args.ones - 1)
+    ≡ Some (c.in_ok-low.low, c.in_ok-low.next)
 read c =
     sym c.get_bits.ensures ∙ c.in_ok-low.was
 

@@ -35,7 +35,8 @@ returns-in_err-first c =
 
 pub returns-then-first-lt16 : goal.returns-then-first-lt16
 unfolding prefix
-returns-then-first-lt16 c = rw (sym c.get_unary.ensures ∙ c.in_ok-first.ensures.ok_part, lt-ltb _ _ c.if-first-lt16.true)
+returns-then-first-lt16 c =
+    rw (sym c.get_unary.ensures ∙ c.in_ok-first.ensures.ok_part, lt-ltb _ _ c.if-first-lt16.true)
 
 pub returns-in_err-second : goal.returns-in_err-second
 unfolding prefix

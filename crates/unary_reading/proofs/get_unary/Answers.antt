@@ -20,7 +20,8 @@ here : (s : List ℕ) (p w n : ℕ) → p / 8 + 8 ≤ length s → w ≡ num (bi
     → n ≡ count_trailing_zeros 64 (2 ^ 64 - 1 - w / 2 ^ (p % 8))
     → Counted (bits_of s) p (8 * 8 - p % 8) n
 here s p w n inside e f =
-    rw f (counted (bits_of s) p (8 * 8 - p % 8) 64 _ (place-window s p 8 _ (omega arith) (omega arith) e) (omega arith))
+    rw f (counted (bits_of s) p (8 * 8 - p % 8) 64 _ (place-window s p 8 _ (omega arith) (omega arith) e)
+    (omega arith))
 
 pub returns-then-n-k-lt64 : goal.returns-then-n-k-lt64
 returns-then-n-k-lt64 c =

@@ -17,12 +17,14 @@ bytes_are : (s : List ℕ) (i j : ℕ) → i + j ≤ length s → j ≤ 8 → ((
     → bytes s i j ≡ num (bits_of (take j (drop i s)))
 bytes_are s i zero h l b = nothing (drop i s)
 bytes_are s i (suc j) h l b =
-    let m = more s i j (bytes s i j) (get_or s (i + j) 0) (omega arith) (omega arith) (bytes_are s i j (omega arith) (omega arith) b) refl (b (i + j)) in
+    let before = bytes_are s i j (omega arith) (omega arith) b in
+    let m = more s i j (bytes s i j) (get_or s (i + j) 0) (omega arith) (omega arith) before refl (b (i + j)) in
     let e : suc j ≡ j + 1 = omega arith in
     rw e m.same
 
 pub returns : goal.returns
 returns c =
-    let e = bytes_are c.args.s.now c.args.i 8 (omega arith) (omega arith) (λ k. omega (arith, c.type_inv.s k)) in
+    let e =
+    bytes_are c.args.s.now c.args.i 8 (omega arith) (omega arith) (λ k. omega (arith, c.type_inv.s k)) in
     let z : c.args.i + 0 ≡ c.args.i = omega arith in
     rw (c.from_le_bytes.ensures, ← e, z) (omega arith)
