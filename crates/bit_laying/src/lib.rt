@@ -55,7 +55,7 @@ pub fn put_unary(out: &mut [u8], at: usize, c: u32) -> usize
     ensures buffer { out.new ≡ put out.old at (unary_field c) }
     ensures next { result ≡ at + length (unary_field c) }
 {
-    put_bits(out, at, 4294967295, c);
+    put_bits(out, at, u32::MAX, c);
     let p = at + c as usize;
     put_bits(out, p, 0, 1);
     p + 1
