@@ -1,35 +1,36 @@
 -- The steps of the round trip, by what the functions that they call promise.
 -- Assumes nothing.
-use mathlib.Core.Path.{◌≡◌, ap, ◌∙◌}
+use mathlib.Core.Path.{◌≡◌, refl, sym, ap, ◌∙◌}
 use mathlib.Core.Bool.{Bool}
 use mathlib.Core.List.{List}
 use Prim.Native.Nat.{ℕ, ◌/◌}
 use lib.IntN.{ℤ}
 use lib.ListN.{length}
-use Rattle.answers.specs.declared.Outcome.{Outcome}
-use Rattle.answers.specs.Numbers.{outcome_number}
+use native.Mathlib.Omega.{arith}
+use borrow.Author.Tests.{ne_eqb}
+use lib.Dec.{eqb}
+use Rattle.std.specs.Prelude.{Result, Ok, Err}
+use Rattle.std.specs.Result.{is_ok}
+use Rattle.answers.specs.declared.Refusal.{Refusal}
+use Rattle.answers.specs.Numbers.{number_of, outcome_number}
+use Rattle.answers.proofs.NumberLaws.{number-positive}
 use Rattle.samples.specs.View.{ReadTold, view_reading, read_entry}
 use Rattle.samples.specs.declared.ReadAnswer.{ReadAnswer}
 use Rattle.passes.specs.declared.DecorrPass.{DecorrPass}
-use Rattle.passes.specs.declared.Direction.TheVariants.{Decorrelation, Analysis}
+use Rattle.passes.specs.declared.Direction.TheVariants.{Decorrelation}
 use Rattle.decorrelation.specs.Lists.{Answer, array_answer}
-use Rattle.trip_lists.specs.Same.{SameIs, CopyIs}
-use Rattle.trip_steps.specs.Steps.{came_back, samples_back, FoundIs, BackIs}
+use Rattle.trip_lists.specs.Same.{SameIs}
+use Rattle.trip_steps.specs.Steps.{came_back, samples_back, BackIs}
 
--- a copy, analysed
-pub found-is : (ps : List DecorrPass) (n : ℕ) (x copied v : List ℤ) (m : ℕ) (after : List DecorrPass)
-    → CopyIs x copied → record { refusal = m; passes = after; buffer = v } ≡ array_answer Analysis ps n copied
-    → FoundIs ps n x v
-found-is ps n x copied v m after c e = record {
-  fit = c.fit;
-  found =
-      ap (λ (a : Answer). a.buffer) e ∙ ap (λ (l : List ℤ). (array_answer Analysis ps n l).buffer) c.copied;
-}
+-- a test of an answer is one of its number
+pub ok_is : {T : Type 0} (o : Result T Refusal) → is_ok o ≡ eqb (outcome_number o) 0
+ok_is (Ok v) = refl
+ok_is (Err q) = sym (ne_eqb (number_of q) 0 (λ e. omega (arith, number-positive q)))
 
 -- a payload, read and decorrelated
 pub back_is :
     (ps : List DecorrPass) (n : ℕ) (entropy payload : List ℕ) (written : ℕ) (x before list y : List ℤ)
-    (d : ReadAnswer) (o : Outcome) (after : List DecorrPass) (q r : Bool)
+    (d : ReadAnswer) (o : Result (List DecorrPass) Refusal) (after : List DecorrPass) (q r : Bool)
     → view_reading d list ≡ read_entry entropy payload (length x / 2) before
     → record { refusal = outcome_number o; passes = after; buffer = y } ≡ array_answer Decorrelation ps n list
     → SameIs x y q → r ≡ came_back (outcome_number d.outcome) (outcome_number o) d.bits written q

@@ -1,11 +1,10 @@
--- Demand 3 at run time, step by step: the early refusals, the residuals, and the way back.
+-- Demand 3 at run time, step by step: the early refusals, and the way back.
 -- Assumes nothing.
 use Rattle.std.specs.Prelude.{◌≡◌, Bool, ◌&&◌, List, ℕ, ◌/◌, eqb, ℤ, length, take}
 use Rattle.answers.specs.Guard.{or_else}
 use Rattle.samples.specs.View.{ReadTold, read_entry}
 use Rattle.passes.specs.declared.DecorrPass.{DecorrPass}
-use Rattle.passes.specs.declared.Direction.TheVariants.{Decorrelation, Analysis}
-use Rattle.passes.specs.Run.{Fit}
+use Rattle.passes.specs.declared.Direction.TheVariants.{Decorrelation}
 use Rattle.list_tests.specs.Tests.{all_valid}
 use Rattle.decorrelation.specs.Lists.{Answer, analysis_number, array_answer}
 use Rattle.packing.specs.Entry.{refusal_before_span}
@@ -17,11 +16,6 @@ abbrev pub early_refusal : List DecorrPass → ℕ → ℕ → List ℕ → ℕ 
 early_refusal passes count elements entropy room =
     or_else (analysis_number (all_valid (take count passes)) count elements)
     (refusal_before_span elements entropy (elements / 2) room)
-
--- what analysis of a recording leaves in the scratch list
-pub record FoundIs (passes : List DecorrPass) (count : ℕ) (recording scratch : List ℤ) : Type 0 where
-  pub fit : Fit recording
-  pub found : scratch ≡ (array_answer Analysis passes count recording).buffer
 
 -- whether both refuse nothing, as many bits are used as were written, and the samples are equal
 abbrev pub came_back : ℕ → ℕ → ℕ → ℕ → Bool → Bool
