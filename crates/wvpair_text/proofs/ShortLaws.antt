@@ -11,10 +11,12 @@ use lib.IntN.{ℤ, pos}
 use lib.ListN.{length, take, get_or, length-append, length-take, length-drop}
 use lib.Signed.{mag}
 use Rattle.wvpair_lines.specs.Signed.{signed_decimal}
+use Rattle.std.specs.Prelude.{Result}
+use Rattle.std.specs.Result.{result_unwrap_or}
+use Rattle.answers.specs.declared.Refusal.{Refusal}
 use Rattle.wvpair_text.specs.Limits.{head_bytes, most_frames, largest_input, largest_text}
 use Rattle.wvpair_lines.specs.Lines.{frame_line, frame_lines, end_line, report}
 use Rattle.wvpair_text.specs.Text.{frame_count, reading_of, printed, wvpair_text, TextIs}
-use Rattle.wvpair_text.specs.declared.TextAnswer.{TextAnswer}
 use Rattle.wvpair_lines.proofs.SignLaws.{signed-short}
 use Rattle.wvpair_lines.proofs.LineLaws.{end_short}
 use Rattle.wvpair_text.proofs.ReadingLaws.{reading_small}
@@ -84,8 +86,8 @@ text-short input = go (dec_lt (length input) head_bytes) (dec_lt most_frames (fr
         (printed-short input (omega arith) (omega arith))
 
 -- so no call answers more bytes, and a buffer of that size holds what it prints
-pub answer-short : (input before after : List ℕ) (r : TextAnswer) → TextIs input before after r
-    → r.length ≤ largest_text
+pub answer-short : (input before after : List ℕ) (r : Result ℕ Refusal) → TextIs input before after r
+    → result_unwrap_or r 0 ≤ largest_text
 answer-short input before after r t = rw t.size (go (ltb (length before) largest_text))
   where
     go : (b : Bool) → cond b 0 (length (wvpair_text input)) ≤ largest_text

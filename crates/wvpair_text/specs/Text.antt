@@ -1,13 +1,14 @@
 -- Document 01, "Proved cases" (C6, C7): what `wvpair` prints, as a function of its input bytes, and
 -- what a lent buffer then holds.
 -- Assumes nothing.
-use Rattle.std.specs.Prelude.{◌≡◌, Bool, cond, ◌||◌, List, ℕ, ◌+◌, ◌*◌, ltb, pos, length, take, drop, get_or, replicate}
+use Rattle.std.specs.Prelude.{◌≡◌, Bool, cond, ◌||◌, List, ℕ, ◌+◌, ◌*◌, ltb, pos, length, take, drop, get_or, replicate, Result}
+use Rattle.std.specs.Result.{result_unwrap_or}
+use Rattle.answers.specs.declared.Refusal.{Refusal}
 use Rattle.answers.specs.Numbers.{outcome_number}
 use Rattle.overlay.specs.Overlay.{overlay}
 use Rattle.samples.specs.View.{ReadTold, read_entry}
 use Rattle.wvpair_lines.specs.Lines.{end_line, report}
 use Rattle.wvpair_text.specs.Limits.{head_bytes, most_frames, most_payload_bytes, largest_text}
-use Rattle.wvpair_text.specs.declared.TextAnswer.{TextAnswer}
 
 -- document 01 (C6): "a 2-byte little-endian frame count", after the 12 entropy bytes
 unfoldable pub frame_count : List ℕ → ℕ
@@ -37,7 +38,7 @@ wvpair_text input = cond (ltb (length input) head_bytes) (end_line 1 0)
 
 -- a buffer shorter than that is refused with 11 and keeps its bytes; any other holds the text
 -- first, and after it what it held
-pub record TextIs (input before after : List ℕ) (r : TextAnswer) : Type 0 where
-  pub outcome : outcome_number r.outcome ≡ cond (ltb (length before) largest_text) 11 0
-  pub size : r.length ≡ cond (ltb (length before) largest_text) 0 (length (wvpair_text input))
+pub record TextIs (input before after : List ℕ) (r : Result ℕ Refusal) : Type 0 where
+  pub outcome : outcome_number r ≡ cond (ltb (length before) largest_text) 11 0
+  pub size : result_unwrap_or r 0 ≡ cond (ltb (length before) largest_text) 0 (length (wvpair_text input))
   pub bytes : after ≡ cond (ltb (length before) largest_text) before (overlay before 0 (wvpair_text input))

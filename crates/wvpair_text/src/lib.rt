@@ -10,28 +10,20 @@ ghost use Rattle.decimal.specs.TextPut.{TextPut};
 ghost use Rattle.wvpair_text.specs.Text.{frame_count, printed, reading_of, wvpair_text, TextIs};
 
 use crate::limits::{HEAD_BYTES, MOST_FRAMES, MOST_SAMPLES};
-use answers::{Outcome, Refusal, outcome_number};
+use answers::{Refusal, outcome_number};
 use samples::reading::decode_packed_samples_stereo_from_entropy;
-use wrapping::casts::u8_to_usize;
 use wvpair_lines::{put_end, put_report};
 
 mod limits;
 
 pub use crate::limits::{LARGEST_INPUT, LARGEST_TEXT};
 
-// Whether the text was laid into the lent buffer, and how many bytes it has.
-#[derive(Clone, Copy)]
-pub struct TextAnswer {
-    pub outcome: Outcome,
-    pub length: usize,
-}
-
 // The frame count of an input that has one.
 fn frame_count(input: &[u8]) -> usize
     requires { head_bytes ≤ length input.now }
     ensures { result ≡ frame_count input.now }
 {
-    u8_to_usize(input[12]) + 256 * u8_to_usize(input[13])
+    usize::from(u16::from_le_bytes([input[12], input[13]]))
 }
 
 // Room for the samples of the most frames, all 0.
@@ -56,12 +48,11 @@ fn print_reading(input: &[u8], frames: usize, out: &mut [u8]) -> usize
         frames,
         &mut samples[..n],
     );
-    let outcome = answer.outcome;
     let written = answer.written;
     put_report(
         out,
         &samples[..written],
-        outcome_number(outcome),
+        outcome_number(&answer.outcome),
         answer.bits,
     )
 }
@@ -75,10 +66,7 @@ fn print_input(input: &[u8], out: &mut [u8]) -> usize
         return put_end(out, 0, 1, 0);
     }
     let frames = frame_count(input);
-    if frames > MOST_FRAMES {
-        return put_end(out, 0, 5, 0);
-    }
-    if input.len() > LARGEST_INPUT {
+    if frames > MOST_FRAMES || input.len() > LARGEST_INPUT {
         return put_end(out, 0, 5, 0);
     }
     print_reading(input, frames, out)
@@ -86,17 +74,11 @@ fn print_input(input: &[u8], out: &mut [u8]) -> usize
 
 // Lays what `wvpair` prints of `input` at the start of `out`, and answers how many bytes that is.
 // It refuses only a buffer that is too short for the largest text: that one keeps its bytes.
-pub fn wvpair_text(input: &[u8], out: &mut [u8]) -> TextAnswer
+pub fn wvpair_text(input: &[u8], out: &mut [u8]) -> Result<usize, Refusal>
     ensures { TextIs input.now out.old out.new result }
 {
     if out.len() < LARGEST_TEXT {
-        return TextAnswer {
-            outcome: Outcome::Refused(Refusal::OutputTooShort),
-            length: 0,
-        };
+        return Err(Refusal::OutputTooShort);
     }
-    TextAnswer {
-        outcome: Outcome::Accepted,
-        length: print_input(input, out),
-    }
+    Ok(print_input(input, out))
 }
