@@ -12,7 +12,6 @@ fn main(rt: HostRuntime) -> io::Result<()> {
     let mut input = [0u8; LARGEST_INPUT + 1];
     let n = read_full(&mut rt.reader(), &mut input);
     let mut out = [0u8; LARGEST_TEXT];
-    let text = wvpair_text(&input[..n], &mut out);
-    let length = text.length;
+    let length = wvpair_text(&input[..n], &mut out).unwrap_or(0);
     rt.write_all(&out[..length])
 }

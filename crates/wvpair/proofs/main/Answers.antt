@@ -6,8 +6,9 @@ use Rattle.wvpair.proofs.main.Goals as goal
 
 pub slice_bounds-out-end : goal.slice_bounds-out-end
 slice_bounds-out-end c =
-    omega (arith, answer-short _ _ _ _ c.wvpair_text-text.ensures, c.wvpair_text-text.auto.out)
+    omega (arith, answer-short _ _ _ _ c.wvpair_text.ensures, c.unwrap_or-length.ensures, c.wvpair_text.auto.out)
 
 pub slice_bounds-write_all-end : goal.slice_bounds-write_all-end
 slice_bounds-write_all-end c =
-    sym (length-take-le _ _ (omega (arith, answer-short _ _ _ _ c.wvpair_text-text.ensures, c.wvpair_text-text.auto.out)))
+    sym (length-take-le _ _
+    (omega (arith, answer-short _ _ _ _ c.wvpair_text.ensures, c.unwrap_or-length.ensures, c.wvpair_text.auto.out)))
