@@ -16,6 +16,7 @@ pub struct Gathered {
 }
 
 // The bit length of a number, 0 for 0.
+#[tactic(auto, unfolding(crate::specs::Code::bit_length))]
 pub fn bit_length(number: u32) -> u32
     ensures { result ≡ bit_length number }
 {
