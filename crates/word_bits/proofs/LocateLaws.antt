@@ -48,7 +48,8 @@ triple m a b c x y z = rw (x, y, z)
 -- in the first interval
 pub located-first : (m : Medians) (v : ℕ) (r : Located) → Small m → v < residual_span → v < g m.m0
     → r.count ≡ 0 → r.code ≡ v → r.last ≡ g m.m0 - 1
-    → (medians_of r.medians).m0 ≡ down 128 m.m0 → (medians_of r.medians).m1 ≡ m.m1 → (medians_of r.medians).m2 ≡ m.m2 → LocatedIs m v r
+    → (medians_of r.medians).m0 ≡ down 128 m.m0 → (medians_of r.medians).m1 ≡ m.m1
+    → (medians_of r.medians).m2 ≡ m.m2 → LocatedIs m v r
 unfolding adapt
 located-first m v r s h l n c e a b d =
     located m v 0 r s h (closed-first m v l) n (omega arith) e
@@ -57,7 +58,8 @@ located-first m v r s h l n c e a b d =
 -- in the second
 pub located-second : (m : Medians) (v : ℕ) (r : Located) → Small m → v < residual_span → g m.m0 ≤ v
     → v - g m.m0 < g m.m1 → r.count ≡ 1
-    → r.code ≡ v - g m.m0 → r.last ≡ g m.m1 - 1 → (medians_of r.medians).m0 ≡ up 128 m.m0 → (medians_of r.medians).m1 ≡ down 64 m.m1
+    → r.code ≡ v - g m.m0 → r.last ≡ g m.m1 - 1
+    → (medians_of r.medians).m0 ≡ up 128 m.m0 → (medians_of r.medians).m1 ≡ down 64 m.m1
     → (medians_of r.medians).m2 ≡ m.m2 → LocatedIs m v r
 unfolding adapt
 located-second m v r s h g l n c e a b d =
@@ -70,7 +72,8 @@ module _ (m : Medians) (v rest x y c : ℕ) (a : Above m v rest x y c) (r : Loca
   past_is = omega (arith, a.past)
 
   -- in the third
-  pub located-third : rest < g c → r.count ≡ 2 → r.code ≡ rest → r.last ≡ g c - 1 → (medians_of r.medians).m0 ≡ x → (medians_of r.medians).m1 ≡ y
+  pub located-third : rest < g c → r.count ≡ 2 → r.code ≡ rest → r.last ≡ g c - 1
+      → (medians_of r.medians).m0 ≡ x → (medians_of r.medians).m1 ≡ y
       → (medians_of r.medians).m2 ≡ down 32 c → LocatedIs m v r
   unfolding adapt
   located-third l n d e p q t =
@@ -84,7 +87,8 @@ module _ (m : Medians) (v rest x y c : ℕ) (a : Above m v rest x y c) (r : Loca
 
   -- beyond it
   pub located-many : g c ≤ rest → r.count ≡ rest / g c + 2 → r.code ≡ rest % g c → r.last ≡ g c - 1
-      → (medians_of r.medians).m0 ≡ x → (medians_of r.medians).m1 ≡ y → (medians_of r.medians).m2 ≡ up 32 c → LocatedIs m v r
+      → (medians_of r.medians).m0 ≡ x → (medians_of r.medians).m1 ≡ y
+      → (medians_of r.medians).m2 ≡ up 32 c → LocatedIs m v r
   unfolding adapt
   located-many l n d e p q t =
       let j = rest / g c in

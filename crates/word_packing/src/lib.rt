@@ -29,6 +29,7 @@ pub fn pack_words(residuals: &[i32], seeds: [AdaptiveMedians; 2], out: &mut [u8]
     let mut last_one = false;
     let mut run_break = false;
     let mut i: usize = 0;
+    // A turn passes over as many residuals as its run has: no `for`.
     while i < residuals.len() {
         let a = bits / 8;
         let turn = put_turn(

@@ -32,6 +32,7 @@ fn skip(residuals: &[i32], first: usize) -> usize
     ensures { SkipIs residuals.now first result }
 {
     let mut i = first;
+    // Blocks of 32 from `first` on, until one holds another number: no `for`.
     while residuals.len() - i >= 32 {
         if !all_zero(residuals, i) {
             return i;

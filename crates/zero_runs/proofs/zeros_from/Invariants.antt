@@ -8,4 +8,5 @@ use Rattle.word_bits.specs.Residuals.{zeros}
 use Rattle.zero_runs.proofs.zeros_from.Given as goal
 
 abbrev pub invariant-loop-i : goal.invariant-loop-i
-invariant-loop-i l = (l.first ≤ l.i) × (zeros (drop l.first l.residuals) ≡ l.i - l.first + zeros (drop l.i l.residuals))
+invariant-loop-i l = (l.first ≤ l.i)
+    × (zeros (drop l.first l.residuals) ≡ l.i - l.first + zeros (drop l.i l.residuals))
