@@ -21,7 +21,7 @@ use Rattle.medians.proofs.IntervalLaws.{told-ends}
 use Rattle.word_state.specs.State.{run_due}
 use Rattle.words.specs.Parts.{SignedCodeIs, ValueIs, PlainIs}
 use Rattle.words.specs.declared.coded.Coded.{Coded}
-use Rattle.std.specs.Prelude.{Option, Some, None, Ok}
+use Rattle.std.specs.Prelude.{Some, None, Ok}
 use Rattle.words.proofs.JoinLaws.{plain-sample}
 use Rattle.words.proofs.PartLaws.{count-zero, count-read}
 use Rattle.short_words.specs.declared.ShortWord.{ShortWord}
