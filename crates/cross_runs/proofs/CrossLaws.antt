@@ -37,7 +37,7 @@ cross_step Analysis false p u v k m x y = refl
 module _ (d : Direction) (f : Bool) (p : DecorrPass) (whole : List ℤ) where
   -- a turn of the loop
   pub cross_turn : (u v k : ℤ) {X Y C D : ℤ} {l after : List ℤ} {m : ℕ} {r : Frame} (A B : Turned)
-      → Done (turn d (cross_term f)) p whole (cross_at f p u v k) l m → m < length l / 2
+      → Done (turn d (cross_term f)) p whole (cross_at f p u v k) l m (2 * m) → m < length l / 2
       → r ≡ frame_at l (2 * m)
       → X ≡ cond f (reread r.b) (reread r.a) → Y ≡ cond f (reread r.a) (reread r.b)
       → A ≡ turned d true u (reread p.delta) k (reread X)
@@ -47,9 +47,11 @@ module _ (d : Direction) (f : Bool) (p : DecorrPass) (whole : List ℤ) where
       → after ≡ frame_stored l (2 * m) (reread C) (reread D)
       → FrameFits r → SFits w32 X → SFits w32 Y → TurnedFits A → TurnedFits B → SFits w32 C → SFits w32 D
       → let q = cross_at f p (reread A.weight) (reread B.weight) (reread B.sample) in
-      Done (turn d (cross_term f)) p whole q after (m + 1)
+      Done (turn d (cross_term f)) p whole q after (m + 1) (2 * (m + 1))
   cross_turn u v k {X} {Y} {C} {D} {l} {after} {m} {r} A B done h er ex ey ea eb ec ed es fr fX fY fa fb fC
       fD =
+      let two : 2 * m + 2 ≡ 2 * (m + 1) = omega arith in
+      let inside : 2 * m + 1 < length l = omega arith in
       let eb' : B ≡ turned d true v p.delta A.sample Y =
       rw (to_z-of_z w32 _ done.delta, to_z-of_z w32 _ fa.sample, to_z-of_z w32 Y fY) at eb in
       let ea' : A ≡ turned d true u p.delta k X = rw (to_z-of_z w32 _ done.delta, to_z-of_z w32 X fX) at ea in
@@ -62,8 +64,8 @@ module _ (d : Direction) (f : Bool) (p : DecorrPass) (whole : List ℤ) where
       rw (ec', ed', eb', ea', ex, ey, to_z-of_z w32 _ fr.a, to_z-of_z w32 _ fr.b, er)
       (cross_step d f p u v k m (slot l (2 * m)) (slot l (2 * m + 1))) in
       rw (to_z-of_z w32 _ fa.weight, to_z-of_z w32 _ fb.weight, to_z-of_z w32 _ fb.sample)
-      (done-turn (turn d (cross_term f)) p whole o done h eo
-      (rw (to_z-of_z w32 C fC, to_z-of_z w32 D fD) at es))
+      (rw two at (done-turn (turn d (cross_term f)) p whole o done inside eo
+      (rw (to_z-of_z w32 C fC, to_z-of_z w32 D fD) at es)))
 
 -- where the loop starts
 pub cross_start : (f : Bool) (p : DecorrPass) {A B U W K : ℤ} → A ≡ slot p.history_a 0

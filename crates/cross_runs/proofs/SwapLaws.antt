@@ -2,7 +2,7 @@
 use mathlib.Core.Path.{◌≡◌, refl}
 use mathlib.Core.Bool.{true}
 use mathlib.Core.List.{List}
-use Prim.Native.Nat.{ℕ, ◌+◌, ◌*◌, ◌/◌, ◌<◌}
+use Prim.Native.Nat.{ℕ, ◌+◌, ◌/◌, ◌<◌}
 use native.Mathlib.Omega.{arith}
 use lib.IntN.{ℤ}
 use lib.ListN.{length, set}
@@ -20,7 +20,7 @@ use Rattle.pass_turns.specs.Turns.{turned, frame_at, frame_stored, lag_at}
 use Rattle.pass_turns.specs.declared.frames.Frame.{Frame}
 use Rattle.pass_turns.specs.declared.turns.Turned.{Turned}
 use Rattle.pass_turns.proofs.TurnLaws.{kept}
-use Rattle.pass_turns.proofs.FrameLaws.{Done, FrameFits, TurnedFits, done-turn}
+use Rattle.pass_turns.proofs.FrameLaws.{Done, FrameFits, TurnedFits, done-turn, next-half}
 use Rattle.cross_runs.specs.Cross.{swap_at}
 use Rattle.cross_runs.proofs.HeadLaws.{head-back, head-set}
 
@@ -35,28 +35,28 @@ swap_step Analysis p wa wb ha hb m x y = refl
 
 module _ (d : Direction) (p : DecorrPass) (whole : List ℤ) where
   -- a turn of the loop
-  pub swap_turn : {wa wb ha hb : ℤ} {l after : List ℤ} {m : ℕ} {f : Frame} (A B : Turned)
-      → Done (turn d MinusThree) p whole (swap_at p wa wb ha hb) l m → m < length l / 2
-      → f ≡ frame_at l (2 * m)
+  pub swap_turn : {wa wb ha hb : ℤ} {l after : List ℤ} {i : ℕ} {f : Frame} (A B : Turned)
+      → Done (turn d MinusThree) p whole (swap_at p wa wb ha hb) l (i / 2) i → i + 1 < length l
+      → f ≡ frame_at l i
       → A ≡ turned d true wa (reread p.delta) hb (reread f.a)
       → B ≡ turned d true wb (reread p.delta) ha (reread f.b)
-      → after ≡ frame_stored l (2 * m) (reread A.element) (reread B.element) → FrameFits f → TurnedFits A
+      → after ≡ frame_stored l i (reread A.element) (reread B.element) → FrameFits f → TurnedFits A
       → TurnedFits B
       → let q = swap_at p (reread A.weight) (reread B.weight) (reread A.sample) (reread B.sample)
       in
-      Done (turn d MinusThree) p whole q after (m + 1)
-  swap_turn {wa} {wb} {ha} {hb} {l} {after} {m} {f} A B done h ef ea eb es ff fa fb =
+      Done (turn d MinusThree) p whole q after ((i + 2) / 2) (i + 2)
+  swap_turn {wa} {wb} {ha} {hb} {l} {after} {i} {f} A B done h ef ea eb es ff fa fb =
       let o : Stepped = record {
         pass = swap_at p A.weight B.weight A.sample B.sample;
         a = A.element;
         b = B.element;
       } in
-      let eo : o ≡ turn d MinusThree (swap_at p wa wb ha hb) m (slot l (2 * m)) (slot l (2 * m + 1)) =
+      let eo : o ≡ turn d MinusThree (swap_at p wa wb ha hb) (i / 2) (slot l i) (slot l (i + 1)) =
       rw (ea, eb, to_z-of_z w32 _ ff.a, to_z-of_z w32 _ ff.b, ef, to_z-of_z w32 _ done.delta)
-      (swap_step d p wa wb ha hb m (slot l (2 * m)) (slot l (2 * m + 1))) in
+      (swap_step d p wa wb ha hb (i / 2) (slot l i) (slot l (i + 1))) in
       rw (to_z-of_z w32 _ fa.weight, to_z-of_z w32 _ fa.sample, to_z-of_z w32 _ fb.weight, to_z-of_z w32 _ fb.sample)
-      (done-turn (turn d MinusThree) p whole o done h eo
-      (rw (to_z-of_z w32 _ fa.element, to_z-of_z w32 _ fb.element) at es))
+      (rw (next-half i) at (done-turn (turn d MinusThree) p whole o done h eo
+      (rw (to_z-of_z w32 _ fa.element, to_z-of_z w32 _ fb.element) at es)))
 
 -- where the loop starts
 pub swap_start : (p : DecorrPass) {A B : ℤ} → A ≡ slot p.history_a 0 → B ≡ slot p.history_b 0

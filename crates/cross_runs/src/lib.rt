@@ -90,19 +90,24 @@ pub fn run_swap(direction: Direction, start: DecorrPass, buffer: &mut [i32]) -> 
         ≡ run (turn direction MinusThree) start 0 buffer.old }
 {
     let delta = start.delta;
+    let history_a = start.history_a;
+    let history_b = start.history_b;
     let mut weight_a = start.weight_a;
     let mut weight_b = start.weight_b;
-    let mut last_a = last_of(start.history_a);
-    let mut last_b = last_of(start.history_b);
-    for k in 0..buffer.len() / 2 {
-        let frame = frame_at(buffer, 2 * k);
+    let mut last_a = last_of(history_a);
+    let mut last_b = last_of(history_b);
+    let mut i: usize = 0;
+    // No `for` over the frames: the machine code of this form is the faster one.
+    while buffer.len() - i > 1 {
+        let frame = frame_at(buffer, i);
         let a = turn::<true>(direction, weight_a, delta, last_b, frame.a);
         let b = turn::<true>(direction, weight_b, delta, last_a, frame.b);
-        store_frame(buffer, 2 * k, a.element, b.element);
+        store_frame(buffer, i, a.element, b.element);
         weight_a = a.weight;
         weight_b = b.weight;
         last_a = a.sample;
         last_b = b.sample;
+        i += 2;
     }
     with_swap(start, weight_a, weight_b, last_a, last_b)
 }

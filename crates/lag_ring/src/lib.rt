@@ -25,17 +25,22 @@ pub fn run_ring(
     let mut history_b = start.history_b;
     let mut weight_a = start.weight_a;
     let mut weight_b = start.weight_b;
-    for k in 0..buffer.len() / 2 {
-        let frame = frame_at(buffer, 2 * k);
-        let slot = k % 8;
+    let mut index: usize = 0;
+    let mut i: usize = 0;
+    // No `for` over the frames: the machine code of this form is the faster one.
+    while buffer.len() - i > 1 {
+        let frame = frame_at(buffer, i);
+        let slot = index % 8;
         let a = turn::<false>(direction, weight_a, delta, history_a[slot], frame.a);
         let b = turn::<false>(direction, weight_b, delta, history_b[slot], frame.b);
-        store_frame(buffer, 2 * k, a.element, b.element);
+        store_frame(buffer, i, a.element, b.element);
         let next = (slot + lag % 8) % 8;
         history_a[next] = a.sample;
         history_b[next] = b.sample;
         weight_a = a.weight;
         weight_b = b.weight;
+        i += 2;
+        index += 1;
     }
     with_state(start, weight_a, weight_b, history_a, history_b)
 }

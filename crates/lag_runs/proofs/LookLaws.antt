@@ -66,10 +66,12 @@ ring-frame lag h l channel first m x r c e =
 
 -- m frames are done by the definition, whose rings hold their last samples, and what the pass held at
 -- its start where it is still looked back at
-pub record Looked (lag : ℕ) (start : DecorrPass) (whole : List ℤ) (wa wb : ℤ) (l : List ℤ) (m : ℕ) : Type 0 where
+pub record Looked (lag : ℕ) (start : DecorrPass) (whole : List ℤ) (wa wb : ℤ) (l : List ℤ) (i : ℕ) : Type 0 where
   pub ha : List ℤ
   pub hb : List ℤ
-  pub done : Done (turn Decorrelation (Lag lag)) start whole (lag_at start wa wb ha hb) l m
+  pub m : ℕ
+  pub twice : i ≡ 2 * m
+  pub done : Done (turn Decorrelation (Lag lag)) start whole (lag_at start wa wb ha hb) l m i
   pub a-holds : Ring lag ha l 0 0 m
   pub b-holds : Ring lag hb l 1 0 m
   pub a-kept : (s : ℕ) → m ≤ s → s < lag → slot ha s ≡ slot start.history_a s
@@ -106,6 +108,8 @@ module _ (lag : ℕ) (some : 0 < lag) (most : lag ≤ 8) (start : DecorrPass) (w
   looked_start e f a b d n = record {
     ha = start.history_a;
     hb = start.history_b;
+    m = 0;
+    twice = refl;
     done = done-start (turn Decorrelation (Lag lag)) start whole (rw (e, f)) d n;
     a-holds = record { eight = a; holds = λ j p q r. absurd (omega arith) };
     b-holds = record { eight = b; holds = λ j p q r. absurd (omega arith) };
@@ -113,57 +117,59 @@ module _ (lag : ℕ) (some : 0 < lag) (most : lag ≤ 8) (start : DecorrPass) (w
     b-kept = λ s p q. refl;
   }
 
-  module _ {wa wb : ℤ} {l : List ℤ} {m : ℕ} (x : Looked lag start whole wa wb l m) where
-    -- both sources, of frame m
-    sources : record { a = slot x.ha (m % 8); b = slot x.hb (m % 8) } ≡ looked_back start lag l m
-    sources = go (lag - m) refl
+  module _ {wa wb : ℤ} {l : List ℤ} {i : ℕ} (x : Looked lag start whole wa wb l i) where
+    -- both sources, of the frame at i
+    sources : record { a = slot x.ha (x.m % 8); b = slot x.hb (x.m % 8) } ≡ looked_back start lag l i
+    sources = go (lag - x.m) refl
       where
-        go : (n : ℕ) → lag - m ≡ n → record { a = slot x.ha (m % 8); b = slot x.hb (m % 8) } ≡ looked_back start lag l m
+        go : (n : ℕ) → lag - x.m ≡ n → record { a = slot x.ha (x.m % 8); b = slot x.hb (x.m % 8) } ≡ looked_back start lag l i
         go zero d =
             rw (
-              le-ltb m lag (omega arith),
-              looked_far lag m (2 * (m - lag)) x.ha l 0 some most (omega arith) x.a-holds (omega arith),
-              looked_far lag m (2 * (m - lag) + 1) x.hb l 1 some most (omega arith) x.b-holds refl,
+              le-ltb i (2 * lag) (omega (arith, x.twice)),
+              looked_far lag x.m (i - 2 * lag) x.ha l 0 some most (omega arith) x.a-holds (omega (arith, x.twice)),
+              looked_far lag x.m (i - 2 * lag + 1) x.hb l 1 some most (omega arith) x.b-holds (omega (arith, x.twice)),
             )
         go (suc n) d =
             rw (
-              lt-ltb m lag (omega arith),
-              looked_near lag m m x.ha start.history_a most (omega arith) x.a-kept refl,
-              looked_near lag m m x.hb start.history_b most (omega arith) x.b-kept refl,
+              lt-ltb i (2 * lag) (omega (arith, x.twice)),
+              looked_near lag x.m (i / 2) x.ha start.history_a most (omega arith) x.a-kept (omega (arith, x.twice)),
+              looked_near lag x.m (i / 2) x.hb start.history_b most (omega arith) x.b-kept (omega (arith, x.twice)),
             )
 
     -- a turn of the loop
-    pub look-turn : {after : List ℤ} {f src : Frame} (A B : Turned) → m < length l / 2 → f ≡ frame_at l (2 * m) → src ≡ looked_back start lag l m
+    pub look-turn : {after : List ℤ} {f src : Frame} (A B : Turned) → i + 1 < length l → f ≡ frame_at l i → src ≡ looked_back start lag l i
         → A ≡ turned Decorrelation false wa (reread start.delta) (reread src.a) (reread f.a)
         → B ≡ turned Decorrelation false wb (reread start.delta) (reread src.b) (reread f.b)
-        → after ≡ frame_stored l (2 * m) (reread A.element) (reread B.element)
+        → after ≡ frame_stored l i (reread A.element) (reread B.element)
         → FrameFits src → FrameFits f → TurnedFits A → TurnedFits B
-        → Looked lag start whole (reread A.weight) (reread B.weight) after (m + 1)
+        → Looked lag start whole (reread A.weight) (reread B.weight) after (i + 2)
     look-turn {after} {f} {src} A B h ef es ea eb e fs ff fa fb =
-        let i = 2 * m in
-        let inside : i + 1 < length l = omega arith in
+        let m = x.m in
         let next : (m % 8 + lag % 8) % 8 ≡ (m + lag) % 8 = omega arith in
         let q : record { a = slot x.ha (m % 8); b = slot x.hb (m % 8) } ≡ src = sources ∙ sym es in
         let qa : src.a ≡ slot x.ha (m % 8) = sym (ap (λ (t : Frame). t.a) q) in
         let qb : src.b ≡ slot x.hb (m % 8) = sym (ap (λ (t : Frame). t.b) q) in
         let ga : A.element ≡ A.sample = ap (λ (t : Turned). t.element) ea ∙ sym (ap (λ (t : Turned). t.sample) ea) in
         let gb : B.element ≡ B.sample = ap (λ (t : Turned). t.element) eb ∙ sym (ap (λ (t : Turned). t.sample) eb) in
-        let before : (k : ℕ) → k < 2 * m → slot after k ≡ slot l k = λ k u. rw e (stored_before l i k (reread A.element) (reread B.element) u) in
-        let pa : 2 * m + 0 ≡ i = omega arith in
+        let before : (k : ℕ) → k < 2 * m → slot after k ≡ slot l k = λ k u. rw e (stored_before l i k (reread A.element) (reread B.element) (omega (arith, x.twice))) in
+        let pa : 2 * m + 0 ≡ i = omega (arith, x.twice) in
+        let pb : 2 * m + 1 ≡ i + 1 = omega (arith, x.twice) in
         record {
           ha = set x.ha ((m + lag) % 8) (reread A.sample);
           hb = set x.hb ((m + lag) % 8) (reread B.sample);
+          m = m + 1;
+          twice = omega (arith, x.twice);
           done = rw next at (lag_turn Decorrelation lag start whole A B x.done h ef (rw qa at ea) (rw qb at eb) e (rw qa at fs.a) (rw qb at fs.b) ff fa fb);
-          a-holds = ring-more lag x.ha l after 0 0 m (reread A.sample) x.a-holds before (omega arith) (rw (pa, e, sym ga) (stored_a l i (reread A.element) (reread B.element) inside));
-          b-holds = ring-more lag x.hb l after 1 0 m (reread B.sample) x.b-holds before (omega arith) (rw (e, sym gb) (stored_b l i (reread A.element) (reread B.element) inside));
+          a-holds = ring-more lag x.ha l after 0 0 m (reread A.sample) x.a-holds before (omega arith) (rw (pa, e, sym ga) (stored_a l i (reread A.element) (reread B.element) h));
+          b-holds = ring-more lag x.hb l after 1 0 m (reread B.sample) x.b-holds before (omega arith) (rw (pb, e, sym gb) (stored_b l i (reread A.element) (reread B.element) h));
           a-kept = kept_more lag m x.ha start.history_a (reread A.sample) most x.a-kept;
           b-kept = kept_more lag m x.hb start.history_b (reread B.sample) most x.b-kept;
         }
 
     -- less than a frame is left
-    pub looked_all : {r : Weights} → length l / 2 ≤ m → r.a ≡ wa → r.b ≡ wb → BackIs lag start whole l r
+    pub looked_all : {r : Weights} → length l ≤ i + 1 → r.a ≡ wa → r.b ≡ wb → BackIs lag start whole l r
     looked_all {r} h ea eb =
-        let n : m ≡ length l / 2 = omega (arith, x.done.within) in
+        let n : x.m ≡ length l / 2 = omega (arith, x.twice, x.done.within) in
         record {
           ring-a = x.ha;
           ring-b = x.hb;

@@ -11,9 +11,9 @@ use Rattle.pass_turns.specs.Turns.{frame_at, lag_at}
 use Rattle.pass_turns.specs.declared.frames.Frame.{Frame}
 use Rattle.lag_runs.specs.declared.Weights.{Weights}
 
--- the frame before frame k by the lag; in the first frames what the pass held at its start
+-- the frame before the frame at i by the lag; in the first frames what the pass held at its start
 abbrev pub looked_back : DecorrPass → ℕ → List ℤ → ℕ → Frame
-looked_back p lag l k = cond (ltb k lag) (record { a = slot p.history_a k; b = slot p.history_b k }) (frame_at l (2 * (k - lag)))
+looked_back p lag l i = cond (ltb i (2 * lag)) (record { a = slot p.history_a (i / 2); b = slot p.history_b (i / 2) }) (frame_at l (i - 2 * lag))
 
 -- a ring of eight holds the samples of the frames from `first` up to m, of the last eight of them:
 -- those of a channel of the buffer l, 0 for A and 1 for B

@@ -6,7 +6,7 @@
 
 #![tactic(auto)]
 
-ghost use Rattle.std.specs.Prelude.{◌≡◌, ◌+◌, ◌*◌, ◌≤◌, ◌<◌, length};
+ghost use Rattle.std.specs.Prelude.{◌≡◌, ◌+◌, ◌≤◌, ◌<◌, length};
 ghost use Rattle.passes.specs.Run.{run, turn};
 ghost use Rattle.passes.specs.declared.Direction.TheVariants.{Decorrelation};
 ghost use Rattle.passes.specs.declared.Term.TheVariants.{Lag};
@@ -23,19 +23,23 @@ pub struct Weights {
     pub b: i32,
 }
 
-// The samples `lag` frames before frame k: in the first frames those that the pass held.
-fn looked_back(start: DecorrPass, lag: usize, buffer: &[i32], k: usize) -> Frame
+// The samples `lag` frames before the frame whose first element is i: in the first frames those that
+// the pass held.
+fn looked_back(start: DecorrPass, lag: usize, buffer: &[i32], i: usize) -> Frame
     requires lag { lag ≤ 8 }
-    requires inside { 2 * k + 1 < length buffer.now }
-    ensures { result ≡ looked_back start lag buffer.now k }
+    requires inside { i + 1 < length buffer.now }
+    ensures { result ≡ looked_back start lag buffer.now i }
 {
-    if k < lag {
+    if i < 2 * lag {
+        let history_a = start.history_a;
+        let history_b = start.history_b;
+        let slot = i / 2;
         return Frame {
-            a: start.history_a[k],
-            b: start.history_b[k],
+            a: history_a[slot],
+            b: history_b[slot],
         };
     }
-    frame_at(buffer, 2 * (k - lag))
+    frame_at(buffer, i - 2 * lag)
 }
 
 // A fixed lag over a buffer: the weights after it.
@@ -47,14 +51,17 @@ fn run_back(lag: usize, start: DecorrPass, buffer: &mut [i32]) -> Weights
     let delta = start.delta;
     let mut weight_a = start.weight_a;
     let mut weight_b = start.weight_b;
-    for k in 0..buffer.len() / 2 {
-        let frame = frame_at(buffer, 2 * k);
-        let source = looked_back(start, lag, buffer, k);
+    let mut i: usize = 0;
+    // No `for` over the frames: the machine code of this form is the faster one.
+    while buffer.len() - i > 1 {
+        let frame = frame_at(buffer, i);
+        let source = looked_back(start, lag, buffer, i);
         let a = turn::<false>(Direction::Decorrelation, weight_a, delta, source.a, frame.a);
         let b = turn::<false>(Direction::Decorrelation, weight_b, delta, source.b, frame.b);
-        store_frame(buffer, 2 * k, a.element, b.element);
+        store_frame(buffer, i, a.element, b.element);
         weight_a = a.weight;
         weight_b = b.weight;
+        i += 2;
     }
     Weights {
         a: weight_a,

@@ -2,8 +2,8 @@
 -- for all of them. Assumes nothing.
 use mathlib.Core.Path.{◌≡◌, refl, sym, ap, ◌∙◌}
 use mathlib.Core.List.{List}
-use Prim.Native.Nat.{ℕ, suc, ◌+◌, ◌*◌, ◌/◌, ◌<◌, ◌≤◌}
-use native.Mathlib.Numerals.{add-one}
+use Prim.Native.Nat.{ℕ, ◌+◌, ◌/◌, ◌<◌, ◌≤◌}
+use native.Mathlib.Numerals.{add-one, add-two}
 use native.Mathlib.Omega.{arith}
 use lib.IntN.{ℤ}
 use lib.ListN.{length, take, drop, length-set}
@@ -21,13 +21,18 @@ use Rattle.passes.specs.contracts.DecorrPass as P
 use Rattle.pass_turns.specs.contracts.frames.Frame as F
 use Rattle.pass_turns.specs.contracts.turns.Turned as T
 
--- m frames are done: the loop carries the pass p, and the buffer holds l
-pub record Done (F : DecorrPass → ℕ → ℤ → ℤ → Stepped) (start : DecorrPass) (whole : List ℤ) (p : DecorrPass) (l : List ℤ) (m : ℕ) : Type 0 where
-  pub within : 2 * m ≤ length l
+-- m frames, i elements, are done: the loop carries the pass p, and the buffer holds l
+pub record Done (F : DecorrPass → ℕ → ℤ → ℤ → Stepped) (start : DecorrPass) (whole : List ℤ) (p : DecorrPass) (l : List ℤ) (m i : ℕ) : Type 0 where
+  pub within : i ≤ length l
   pub long : length l ≡ length whole
+  pub index : m ≤ i
   pub small : length whole < 18446744073709551616
   pub delta : SFits w32 start.delta
-  pub same : joined (take (2 * m) l) (run F p m (drop (2 * m) l)) ≡ run F start 0 whole
+  pub same : joined (take i l) (run F p m (drop i l)) ≡ run F start 0 whole
+
+-- a loop that does not look at the history index need not carry it
+pub next-half : (i : ℕ) → i / 2 + 1 ≡ (i + 2) / 2
+next-half i = omega arith
 
 -- the numbers of a pass are 32-bit numbers, and its histories have eight of them
 pub record PassFits (p : DecorrPass) : Type 0 where
@@ -69,28 +74,27 @@ turned-fits t vs g = record { weight = record { sfits = g.1.1.0.1 }; element = r
 module _ (F : DecorrPass → ℕ → ℤ → ℤ → Stepped) (start : DecorrPass) (whole : List ℤ) where
   -- the loop starts with the pass
   pub done-start : {p : DecorrPass} → p ≡ start → SFits w32 start.delta
-      → length whole < 18446744073709551616 → Done F start whole p whole 0
-  done-start e h n = record { within = omega arith; long = refl; small = n; delta = h; same = ap (λ q. run F q 0 whole) e }
+      → length whole < 18446744073709551616 → Done F start whole p whole 0 0
+  done-start e h n = record { within = omega arith; long = refl; index = omega arith; small = n; delta = h; same = ap (λ q. run F q 0 whole) e }
 
   -- a turn makes a step
-  pub done-turn : {p : DecorrPass} {l after : List ℤ} {m : ℕ} (o : Stepped) → Done F start whole p l m
-      → m < length l / 2
-      → o ≡ F p m (slot l (2 * m)) (slot l (2 * m + 1)) → after ≡ frame_stored l (2 * m) o.a o.b
-      → Done F start whole o.pass after (m + 1)
-  done-turn {p} {l} {after} {m} o d h e s =
+  pub done-turn : {p : DecorrPass} {l after : List ℤ} {m i : ℕ} (o : Stepped) → Done F start whole p l m i
+      → i + 1 < length l
+      → o ≡ F p m (slot l i) (slot l (i + 1)) → after ≡ frame_stored l i o.a o.b
+      → Done F start whole o.pass after (m + 1) (i + 2)
+  done-turn {p} {l} {after} {m} {i} o d h e s =
       let n : length after ≡ length l = ap length s ∙ simp length-set in
-      let two : 2 * (m + 1) ≡ suc (suc (2 * m)) = omega arith in
-      let inside : suc (2 * m) < length l = omega arith in
       record {
-        within = omega (arith, n);
+        within = omega arith;
         long = n ∙ d.long;
+        index = omega (arith, d.index);
         small = d.small;
         delta = d.delta;
-        same = rw (s, two, add-one m, add-one (2 * m)) (sym (one-turn F p m (2 * m) l o inside (rw add-one at e)) ∙ d.same);
+        same = rw (s, add-two i, add-one m, add-one i) (sym (one-turn F p m i l o (rw add-one at h) (rw add-one at e)) ∙ d.same);
       }
 
   -- less than a frame is left
-  pub done_end : {p q : DecorrPass} {l : List ℤ} {m : ℕ} → Done F start whole p l m → length l / 2 ≤ m
+  pub done_end : {p q : DecorrPass} {l : List ℤ} {m i : ℕ} → Done F start whole p l m i → length l ≤ i + 1
       → q ≡ p
       → ◌≡◌ {A = Run} (record { pass = q; buffer = l }) (run F start 0 whole)
-  done_end {p} {q} {l} {m} d h e = rw e (sym (no_turn F p m (2 * m) l d.within (omega arith)) ∙ d.same)
+  done_end {p} {q} {l} {m} {i} d h e = rw e (sym (no_turn F p m i l d.within (rw add-one at h)) ∙ d.same)

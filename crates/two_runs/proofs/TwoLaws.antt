@@ -2,7 +2,7 @@
 use mathlib.Core.Path.{◌≡◌, refl}
 use mathlib.Core.Bool.{Bool, true, false}
 use mathlib.Core.List.{List, [], ◌∷◌}
-use Prim.Native.Nat.{ℕ, ◌+◌, ◌*◌, ◌/◌, ◌<◌}
+use Prim.Native.Nat.{ℕ, ◌+◌, ◌/◌, ◌<◌}
 use native.Mathlib.Omega.{arith}
 use lib.IntN.{ℤ, pos}
 use lib.ListN.{length, get_or, set, drop}
@@ -23,7 +23,7 @@ use Rattle.two_runs.specs.Two.{two_term, two_source, last_two, two_at}
 use Rattle.two_runs.specs.declared.LastTwo.{LastTwo}
 use Rattle.two_runs.specs.contracts.LastTwo as L
 use Rattle.pass_turns.proofs.TurnLaws.{kept}
-use Rattle.pass_turns.proofs.FrameLaws.{Done, FrameFits, TurnedFits, done-turn}
+use Rattle.pass_turns.proofs.FrameLaws.{Done, FrameFits, TurnedFits, done-turn, next-half}
 
 -- a history by its first two slots and the rest
 pub two_back : (l : List ℤ) → 1 < length l → get_or l 0 (pos 0) ∷ (get_or l 1 (pos 0) ∷ drop 2 l) ≡ l
@@ -102,24 +102,24 @@ two-step Analysis false p wa wb a0 a1 b0 b1 m x y = refl
 
 module _ (d : Direction) (eighteen : Bool) (p : DecorrPass) (whole : List ℤ) where
   -- a turn of the loop
-  pub two-turn : {wa wb a0 a1 b0 b1 S T : ℤ} {l after : List ℤ} {m : ℕ} {f : Frame} (A B : Turned)
-      → Done (turn d (two_term eighteen)) p whole (two_at p wa wb a0 a1 b0 b1) l m → m < length l / 2
-      → f ≡ frame_at l (2 * m) → S ≡ two_source eighteen a0 a1 → T ≡ two_source eighteen b0 b1
+  pub two-turn : {wa wb a0 a1 b0 b1 S T : ℤ} {l after : List ℤ} {i : ℕ} {f : Frame} (A B : Turned)
+      → Done (turn d (two_term eighteen)) p whole (two_at p wa wb a0 a1 b0 b1) l (i / 2) i → i + 1 < length l
+      → f ≡ frame_at l i → S ≡ two_source eighteen a0 a1 → T ≡ two_source eighteen b0 b1
       → A ≡ turned d false wa (reread p.delta) (reread S) (reread f.a)
       → B ≡ turned d false wb (reread p.delta) (reread T) (reread f.b)
-      → after ≡ frame_stored l (2 * m) (reread A.element) (reread B.element)
+      → after ≡ frame_stored l i (reread A.element) (reread B.element)
       → SFits w32 S → SFits w32 T → FrameFits f → TurnedFits A → TurnedFits B
       → let q = two_at p (reread A.weight) (reread B.weight) (reread A.sample) a0
       (reread B.sample) b0 in
-      Done (turn d (two_term eighteen)) p whole q after (m + 1)
-  two-turn {wa} {wb} {a0} {a1} {b0} {b1} {S} {T} {l} {after} {m} {f} A B done h ef es et ea eb ex fs ft ff
+      Done (turn d (two_term eighteen)) p whole q after ((i + 2) / 2) (i + 2)
+  two-turn {wa} {wb} {a0} {a1} {b0} {b1} {S} {T} {l} {after} {i} {f} A B done h ef es et ea eb ex fs ft ff
       fa fb =
       let o : Stepped = record {
         pass = two_at p A.weight B.weight A.sample a0 B.sample b0;
         a = A.element;
         b = B.element;
       } in
-      let eo : o ≡ turn d (two_term eighteen) (two_at p wa wb a0 a1 b0 b1) m (slot l (2 * m)) (slot l (2 * m + 1)) =
+      let eo : o ≡ turn d (two_term eighteen) (two_at p wa wb a0 a1 b0 b1) (i / 2) (slot l i) (slot l (i + 1)) =
       rw (
         ea,
         eb,
@@ -131,8 +131,8 @@ module _ (d : Direction) (eighteen : Bool) (p : DecorrPass) (whole : List ℤ) w
         es,
         et,
       )
-      (rw (to_z-of_z w32 _ done.delta) (two-step d eighteen p wa wb a0 a1 b0 b1 m (slot l (2 * m))
-      (slot l (2 * m + 1)))) in
+      (rw (to_z-of_z w32 _ done.delta) (two-step d eighteen p wa wb a0 a1 b0 b1 (i / 2) (slot l i)
+      (slot l (i + 1)))) in
       rw (to_z-of_z w32 _ fa.weight, to_z-of_z w32 _ fa.sample, to_z-of_z w32 _ fb.weight, to_z-of_z w32 _ fb.sample)
-      (done-turn (turn d (two_term eighteen)) p whole o done h eo
-      (rw (to_z-of_z w32 _ fa.element, to_z-of_z w32 _ fb.element) at ex))
+      (rw (next-half i) at (done-turn (turn d (two_term eighteen)) p whole o done h eo
+      (rw (to_z-of_z w32 _ fa.element, to_z-of_z w32 _ fb.element) at ex)))

@@ -71,25 +71,30 @@ pub fn run_two(
     let delta = start.delta;
     let mut weight_a = start.weight_a;
     let mut weight_b = start.weight_b;
-    let held_a = last_two(start.history_a);
-    let held_b = last_two(start.history_b);
+    let history_a = start.history_a;
+    let history_b = start.history_b;
+    let held_a = last_two(history_a);
+    let held_b = last_two(history_b);
     let mut a0 = held_a.last;
     let mut a1 = held_a.before;
     let mut b0 = held_b.last;
     let mut b1 = held_b.before;
-    for k in 0..buffer.len() / 2 {
-        let frame = frame_at(buffer, 2 * k);
+    let mut i: usize = 0;
+    // No `for` over the frames: the machine code of this form is the faster one.
+    while buffer.len() - i > 1 {
+        let frame = frame_at(buffer, i);
         let source_a = two_source(eighteen, a0, a1);
         let source_b = two_source(eighteen, b0, b1);
         let a = turn::<false>(direction, weight_a, delta, source_a, frame.a);
         let b = turn::<false>(direction, weight_b, delta, source_b, frame.b);
-        store_frame(buffer, 2 * k, a.element, b.element);
+        store_frame(buffer, i, a.element, b.element);
         weight_a = a.weight;
         weight_b = b.weight;
         a1 = a0;
         b1 = b0;
         a0 = a.sample;
         b0 = b.sample;
+        i += 2;
     }
     with_last_two(start, weight_a, weight_b, a0, a1, b0, b1)
 }

@@ -7,18 +7,18 @@ use Rattle.pass_turns.proofs.FrameLaws.{frame-fits, turned-fits, done-start, don
 use Rattle.cross_runs.proofs.SwapLaws.{swap_start, swap_turn}
 use Rattle.cross_runs.proofs.run_swap.Goals as goal
 
-pub loop-k-init : goal.loop-k-init
-loop-k-init c =
+pub loop-buffer-init : goal.loop-buffer-init
+loop-buffer-init c =
     let p = c.args.start in
     done-start (turn c.args.direction MinusThree) p c.args.buffer.now
     (swap_start p c.last_of-last_a.ensures c.last_of-last_b.ensures
     (search rules) (search rules) (search rules) (search rules) (search rules) (search rules))
     (search rules) (omega arith)
 
-pub loop-k-preserved : goal.loop-k-preserved
-loop-k-preserved c =
+pub loop-buffer-preserved : goal.loop-buffer-preserved
+loop-buffer-preserved c =
     swap_turn c.args.direction c.args.start c.args.buffer.now c.turn-a.result c.turn-b.result
-    c.loop-k.invariant (omega arith) c.frame_at-frame.ensures
+    c.loop-buffer.invariant (omega arith) c.frame_at-frame.ensures
     c.turn-a.ensures c.turn-b.ensures
     c.store_frame.ensures
     (frame-fits _ _ c.frame_at-frame.type_inv) (turned-fits _ _ c.turn-a.type_inv)
@@ -27,4 +27,4 @@ loop-k-preserved c =
 pub returns : goal.returns
 returns c =
     done_end (turn c.args.direction MinusThree) c.args.start c.args.buffer.now
-    c.loop-k.invariant (omega arith) c.with_swap.ensures
+    c.loop-buffer.invariant (omega arith) c.with_swap.ensures

@@ -7,11 +7,11 @@ use Rattle.pass_turns.proofs.FrameLaws.{frame-fits, turned-fits, done_end}
 use Rattle.lag_ring.proofs.LagLaws.{lag_turn}
 use Rattle.lag_ring.proofs.run_ring.Goals as goal
 
-pub loop-k-preserved : goal.loop-k-preserved
-loop-k-preserved c =
+pub loop-buffer-preserved : goal.loop-buffer-preserved
+loop-buffer-preserved c =
     lag_turn c.args.direction c.args.lag c.args.start c.args.buffer.now c.turn-a.result
     c.turn-b.result
-    c.loop-k.invariant (omega arith) c.frame_at-frame.ensures
+    c.loop-buffer.invariant (omega arith) c.frame_at-frame.ensures
     c.turn-a.ensures c.turn-b.ensures
     c.store_frame.ensures
     (search rules) (search rules)
@@ -21,4 +21,4 @@ loop-k-preserved c =
 pub returns : goal.returns
 returns c =
     done_end (turn c.args.direction (Lag c.args.lag)) c.args.start c.args.buffer.now
-    c.loop-k.invariant (omega arith) c.with_state.ensures
+    c.loop-buffer.invariant (omega arith) c.with_state.ensures

@@ -5,10 +5,10 @@ use Rattle.pass_turns.proofs.FrameLaws.{frame-fits, turned-fits}
 use Rattle.lag_runs.proofs.LookLaws.{look-turn, looked_all}
 use Rattle.lag_runs.proofs.run_back.Goals as goal
 
-pub loop-k-preserved : goal.loop-k-preserved
-loop-k-preserved c =
+pub loop-buffer-preserved : goal.loop-buffer-preserved
+loop-buffer-preserved c =
     look-turn c.args.lag c.requires.some c.requires.most c.args.start c.args.buffer.now
-    c.loop-k.invariant
+    c.loop-buffer.invariant
     c.turn-a.result c.turn-b.result (omega arith)
     c.frame_at-frame.ensures c.looked_back-source.ensures c.turn-a.ensures c.turn-b.ensures
     c.store_frame.ensures
@@ -18,4 +18,4 @@ loop-k-preserved c =
 pub returns : goal.returns
 returns c =
     looked_all c.args.lag c.requires.some c.requires.most c.args.start c.args.buffer.now
-    c.loop-k.invariant (omega arith) refl refl
+    c.loop-buffer.invariant (omega arith) refl refl

@@ -7,8 +7,8 @@ use Rattle.two_runs.specs.Two.{two_term}
 use Rattle.two_runs.proofs.TwoLaws.{last_fits, two-start, two-turn}
 use Rattle.two_runs.proofs.run_two.Goals as goal
 
-pub loop-k-init : goal.loop-k-init
-loop-k-init c =
+pub loop-buffer-init : goal.loop-buffer-init
+loop-buffer-init c =
     let p = c.args.start in
     done-start (turn c.args.direction (two_term c.args.eighteen)) p c.args.buffer.now
     (two-start p c.last_two-held_a.ensures c.last_two-held_b.ensures
@@ -16,11 +16,11 @@ loop-k-init c =
     (last_fits _ _ c.last_two-held_b.type_inv))
     (search rules) (omega arith)
 
-pub loop-k-preserved : goal.loop-k-preserved
-loop-k-preserved c =
+pub loop-buffer-preserved : goal.loop-buffer-preserved
+loop-buffer-preserved c =
     two-turn c.args.direction c.args.eighteen c.args.start c.args.buffer.now c.turn-a.result
     c.turn-b.result
-    c.loop-k.invariant (omega arith) c.frame_at-frame.ensures c.two_source-source_a.ensures
+    c.loop-buffer.invariant (omega arith) c.frame_at-frame.ensures c.two_source-source_a.ensures
     c.two_source-source_b.ensures
     c.turn-a.ensures c.turn-b.ensures c.store_frame.ensures
     (search rules) (search rules)
@@ -30,4 +30,4 @@ loop-k-preserved c =
 pub returns : goal.returns
 returns c =
     done_end (turn c.args.direction (two_term c.args.eighteen)) c.args.start c.args.buffer.now
-    c.loop-k.invariant (omega arith) c.with_last_two.ensures
+    c.loop-buffer.invariant (omega arith) c.with_last_two.ensures
