@@ -4,3 +4,4 @@ pub mod MachineLaws
 pub mod SettingLaws
 pub mod KeepLaws
 pub mod Cases
+pub mod SettingCases
