@@ -1,6 +1,6 @@
 -- The ways of an input: too short, not read, and read.
 -- Assumes nothing.
-use mathlib.Core.Path.{◌≡◌, refl, sym, ap, ◌∙◌}
+use mathlib.Core.Path.{◌≡◌, sym, ap, ◌∙◌}
 use mathlib.Core.Bool.{Bool, true, false, cond}
 use mathlib.Core.List.{List}
 use Prim.Native.Nat.{ℕ, zero, suc, ◌*◌, ◌≤◌, ◌<◌}
@@ -9,18 +9,19 @@ use borrow.Author.Tests.{lt-ltb, le-ltb}
 use lib.Dec.{ltb}
 use lib.IntN.{ℤ, pos}
 use lib.ListN.{length, take, drop, replicate}
-use Rattle.answers.specs.declared.Outcome.{Outcome}
+use Rattle.std.specs.Prelude.{Result, Ok, Err}
+use Rattle.std.specs.Result.{IsErrAnd}
 use Rattle.answers.specs.declared.Refusal.{Refusal}
 use Rattle.answers.specs.Guard.{unless_refused}
 use Rattle.answers.specs.Limits.{max_frames}
-use Rattle.answers.specs.Numbers.{outcome_number}
+use Rattle.answers.specs.Numbers.{number_of}
 use Rattle.answers.proofs.GuardLaws.{guard_refused, guard_accepted}
 use Rattle.answers.proofs.NumberLaws.{number-positive}
-use Rattle.morning_page.specs.Entry.{PageTold, refuse_page, page_entry}
+use Rattle.morning_page.specs.Entry.{PageTold, view_page, refuse_page, page_entry}
 use Rattle.morning_page.proofs.EntryLaws.{Within, page-within}
 use Rattle.morning_text.specs.Input.{head_bytes, frame_count, reading_of, input_entry}
-use Rattle.samples.specs.View.{ReadTold, refuse_reading}
-use Rattle.samples.proofs.EntryLaws.{refused_frames, not_read}
+use Rattle.samples.specs.View.{ReadTold}
+use Rattle.samples.proofs.EntryLaws.{long_frames}
 
 module _ (t : ℕ) (input storage : List ℕ) where
   -- shorter than its head
@@ -38,25 +39,27 @@ module _ (t : ℕ) (input storage : List ℕ) where
   input_long h = rw (le-ltb (length input) head_bytes h)
 
   -- a reading that tells a refusal
-  pub input_refused : (o : Outcome) (x : Refusal) → head_bytes ≤ length input → o ≡ Outcome.Refused x
-      → (reading_of input).refusal ≡ outcome_number o
-      → refuse_page storage (outcome_number o) ≡ input_entry t input storage
-  input_refused o x h q e =
-      sym (guard_refused (outcome_number o) (refuse_page storage)
-      (page_entry t (reading_of input).list storage) (rw q (number-positive x)))
+  pub input_refused : (x : Refusal) → head_bytes ≤ length input → (reading_of input).refusal ≡ number_of x
+      → refuse_page storage (number_of x) ≡ input_entry t input storage
+  input_refused x h e =
+      sym (guard_refused (number_of x) (refuse_page storage)
+      (page_entry t (reading_of input).list storage) (number-positive x))
       ∙ ap (λ (n : ℕ). unless_refused n (refuse_page storage) (page_entry t (reading_of input).list storage))
       (sym e) ∙ sym (input_long h)
+
+  -- which is passed on
+  pub input_passed : (r : Result ℕ Refusal) (x : Refusal) → IsErrAnd r (λ y. y ≡ x) → head_bytes ≤ length input
+      → (reading_of input).refusal ≡ number_of x → view_page r storage ≡ input_entry t input storage
+  input_passed (Ok written) x p h e = absurd p
+  input_passed (Err refusal) x p h e = rw p (input_refused x h e)
 
   -- too many frames
   pub input_frames : head_bytes ≤ length input → max_frames < frame_count input
       → refuse_page storage 5 ≡ input_entry t input storage
   input_frames h l =
-      let list = replicate (2 * frame_count input) (pos 0) in
-      let five : Outcome = Outcome.Refused Refusal.TooLarge in
-      let told = not_read (take 12 input) (drop head_bytes input) (frame_count input) list
-      (refuse_reading list 5) five Refusal.TooLarge refl
-      (refused_frames (take 12 input) (drop head_bytes input) (frame_count input) list l) refl in
-      input_refused five Refusal.TooLarge h refl (sym (ap (λ (r : ReadTold). r.refusal) told))
+      input_refused Refusal.TooLarge h (ap (λ (r : ReadTold). r.refusal)
+      (long_frames (take 12 input) (drop head_bytes input) (frame_count input)
+      (replicate (2 * frame_count input) (pos 0)) l))
 
   -- all words were read
   pub input_read : (told : ReadTold) → head_bytes ≤ length input → told ≡ reading_of input → told.refusal ≡ 0

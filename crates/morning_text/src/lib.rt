@@ -7,10 +7,10 @@ ghost use Rattle.answers.specs.Limits.{max_frames};
 ghost use Rattle.morning_page.specs.Entry.{view_page};
 ghost use Rattle.morning_text.specs.Input.{head_bytes, frame_count, input_entry};
 
+use answers::Refusal;
 use answers::limits::{MAX_ELEMENTS, MAX_FRAMES};
-use answers::{Outcome, Refusal};
 use little_endian::number;
-use morning_page::{PageAnswer, morning_page};
+use morning_page::morning_page;
 use samples::reading::decode_packed_samples_stereo_from_entropy;
 
 // What stands before the payload: 12 entropy bytes, and 4 of the frame count.
@@ -39,7 +39,7 @@ fn silence() -> [i32; MAX_ELEMENTS]
 }
 
 // Reads an input whose frames have room, and writes the page of what was read.
-fn read_page(input: &[u8], frames: usize, threshold: u32, page: &mut [u8]) -> PageAnswer
+fn read_page(input: &[u8], frames: usize, threshold: u32, page: &mut [u8]) -> Result<u32, Refusal>
     requires head { head_bytes ≤ length input.now }
     requires frames { (frames ≡ frame_count input.now) × (frames ≤ max_frames) }
     ensures { view_page result page.new
@@ -53,35 +53,23 @@ fn read_page(input: &[u8], frames: usize, threshold: u32, page: &mut [u8]) -> Pa
         frames,
         &mut samples[..n],
     );
-    let outcome = answer.outcome;
-    let Outcome::Accepted = outcome else {
-        return PageAnswer {
-            outcome: outcome,
-            written: 0,
-        };
-    };
+    answer.outcome?;
     morning_page(&samples[..n], threshold, page)
 }
 
 // Writes the page of the recording that an input holds from the first byte of the storage on;
 // answers how many bytes it has. Refuses an input under 16 bytes with 1, then what reading refuses,
 // then short storage with 11; the storage then keeps its bytes.
-pub fn input_page(input: &[u8], threshold: u32, page: &mut [u8]) -> PageAnswer
+pub fn input_page(input: &[u8], threshold: u32, page: &mut [u8]) -> Result<u32, Refusal>
     ensures { view_page result page.new
         ≡ input_entry threshold input.now page.old }
 {
     if input.len() < HEAD_BYTES {
-        return PageAnswer {
-            outcome: Outcome::Refused(Refusal::EntropyLength),
-            written: 0,
-        };
+        return Err(Refusal::EntropyLength);
     }
     let frames = frame_count(input);
     if frames > MAX_FRAMES {
-        return PageAnswer {
-            outcome: Outcome::Refused(Refusal::TooLarge),
-            written: 0,
-        };
+        return Err(Refusal::TooLarge);
     }
     read_page(input, frames, threshold, page)
 }

@@ -11,7 +11,7 @@ use lib.Seq.{length-take-le, take_all, take_at}
 use Rattle.answers.specs.Limits.{max_frames}
 use Rattle.answers.specs.Numbers.{outcome_number}
 use Rattle.morning_text.specs.Input.{head_bytes, frame_count, reading_of}
-use Rattle.morning_text.proofs.InputLaws.{input_refused, input_read}
+use Rattle.morning_text.proofs.InputLaws.{input_passed, input_read}
 use Rattle.samples.proofs.SilenceLaws.{zeros, take-zeros}
 use Rattle.samples.specs.View.{ReadTold, read_entry}
 use Rattle.morning_text.proofs.read_page.Goals as goal
@@ -43,12 +43,13 @@ known input frames lent told h f m z e =
     ∙ ap (read_entry entropy (drop 16 input) frames) first
     ∙ ap (λ (k : ℕ). read_entry entropy (drop 16 input) k (zeros (2 * k))) f
 
-pub returns-in_default : goal.returns-in_default
-returns-in_default c =
+pub returns-in_err-answer : goal.returns-in_err-answer
+returns-in_err-answer c =
     let k = known c.args.input.now c.args.frames c.silence-samples.result _ c.requires.head
     c.requires.frames.0 c.requires.frames.1 c.silence-samples.ensures.zeros
     c.decode_packed_samples_stereo_from_entropy-answer.ensures in
-    input_refused _ _ _ _ _ c.requires.head c.in_default.is (sym (ap (λ (t : ReadTold). t.refusal) k))
+    let n = ap outcome_number c.in_err-answer.was in
+    input_passed _ _ _ _ c.in_err-answer.field-0.0 c.from_residual.ensures.1 c.requires.head (sym (ap (λ (t : ReadTold). t.refusal) k) ∙ n)
 
 -- the list that was lent has its length
 lent_length : (frames : ℕ) (lent out : List ℤ) → frames ≤ max_frames → length lent ≡ 262144
@@ -78,4 +79,4 @@ returns c =
     c.requires.frames.0 c.requires.frames.1 c.silence-samples.ensures.zeros
     c.decode_packed_samples_stereo_from_entropy-answer.ensures in
     rw part at c.morning_page.ensures
-    ∙ input_read _ _ _ _ c.requires.head k (ap outcome_number c.in-Accepted.is)
+    ∙ input_read _ _ _ _ c.requires.head k (ap outcome_number c.in_ok-answer.was)
