@@ -18,7 +18,8 @@ is_within-requires c = let r = ready _ _ _ _ (sym c.in_ok-refusal_before_span.en
 
 pub returns-then-not-is_within : goal.returns-then-not-is_within
 returns-then-not-is_within c =
-    refuses-span _ _ _ _ (ready _ _ _ _ (sym c.in_ok-refusal_before_span.ensures)) (sym c.is_within.ensures ∙ c.if-not-is_within.true)
+    refuses-span _ _ _ _ (ready _ _ _ _ (sym c.in_ok-refusal_before_span.ensures))
+    (sym c.is_within.ensures ∙ c.if-not-is_within.true)
 
 -- the entropy payload was accepted before
 pub returns-in_err-seeds : goal.returns-in_err-seeds

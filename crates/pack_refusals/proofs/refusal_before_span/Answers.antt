@@ -11,7 +11,9 @@ returns-then-elements-frames c = before-list _ _ _ _ (omega arith) c.if-elements
 pub returns-in_err-stereo_pair_from_entropy : goal.returns-in_err-stereo_pair_from_entropy
 returns-in_err-stereo_pair_from_entropy c =
     let p = err_from_is_err_and c.from_residual.result c.from_residual.ensures.1 in
-    rw (p.1, p.2) (before-seeds _ _ _ _ (omega arith) c.if-elements-frames.false _ c.in_err-stereo_pair_from_entropy.ensures.outcome)
+    rw (p.1, p.2)
+    (before-seeds _ _ _ _ (omega arith) c.if-elements-frames.false _
+    c.in_err-stereo_pair_from_entropy.ensures.outcome)
 
 pub returns-then-room-frames : goal.returns-then-room-frames
 returns-then-room-frames c =

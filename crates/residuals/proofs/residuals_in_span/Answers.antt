@@ -6,7 +6,8 @@ use Rattle.residuals.proofs.residuals_in_span.Goals as goal
 pub returns-in_default : goal.returns-in_default
 returns-in_default c =
     let s = c.in-Some.ensures.steps in
-    looked_out _ _ _ _ _ _ _ c.loop-part.invariant.1 s.1.0 (omega (arith, s.1.1, c.loop-part.invariant.0)) _ c.look_at_part.ensures c.in_default.is
+    looked_out _ _ _ _ _ _ _ c.loop-part.invariant.1 s.1.0 (omega (arith, s.1.1, c.loop-part.invariant.0)) _
+    c.look_at_part.ensures c.in_default.is
 
 -- none does
 pub loop-part-preserved : goal.loop-part-preserved
