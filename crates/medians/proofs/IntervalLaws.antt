@@ -1,8 +1,7 @@
 -- The interval as the code works it out: its ends are in order and have 31 bits, its width 28.
 -- Assumes nothing.
-use mathlib.Core.Path.{◌≡◌, refl, sym, ap, ap₂, ◌∙◌}
-use Prim.Native.Nat.{ℕ, zero, suc, ◌+◌, ◌-◌, ◌*◌, ◌%◌, ◌≤◌, ◌<◌, max}
-use native.Mathlib.Nat.{mul-le-mul}
+use mathlib.Core.Path.{◌≡◌, refl, ap, ap₂, ◌∙◌}
+use Prim.Native.Nat.{ℕ, zero, suc, ◌+◌, ◌-◌, ◌*◌, ◌≤◌, ◌<◌, max}
 use native.Mathlib.Omega.{arith}
 use Rattle.answers.specs.Limits.{max_width}
 use Rattle.entropy.specs.Medians.{Medians, Small}
@@ -26,10 +25,6 @@ width_le m zero s = omega arith
 width_le m (suc zero) s = omega arith
 width_le m (suc (suc k)) s = omega arith
 
--- a count of 32 bits times a width fits 64 bits
-pub product_small : (a b : ℕ) → a < 4294967296 → b ≤ max_width → a * b ≤ 1152921504338411520
-product_small a b h l = mul-le-mul {n₁ = a} {m₁ = b} {n₂ = 4294967295} {m₂ = max_width} (omega arith) l
-
 -- the ends are in order and have 31 bits
 pub ends : (m : Medians) (k : ℕ) → (low_of m k ≤ high_of m k) × (high_of m k < 2147483648)
 unfolding low_of high_of
@@ -44,26 +39,6 @@ pub record Ends (low high : ℕ) : Type 0 where
 pub told-ends : (m : Medians) (k low high : ℕ) → IntervalIs m k low high → Ends low high
 unfolding low_of high_of
 told-ends m k low high i = record { ordered = omega arith; within = omega arith; last = omega arith }
-
--- two cuts are one
-wrap_is : (n : ℕ) → wrapped n ≡ n % 2147483648
-wrap_is n = omega arith
-
--- the larger of two is the first
-max-left : (a b : ℕ) → b ≤ a → a ≡ max a b
-max-left a b h = omega arith
-
--- the larger of two is the second
-max-right : (a b : ℕ) → a ≤ b → b ≡ max a b
-max-right a b h = omega arith
-
--- the ends as the code works them out: high below low, and the other case
-pub cut_low : (b h : ℕ) → h % 2147483648 < b % 2147483648 → (b % 2147483648 ≡ wrapped b) × (b % 2147483648 ≡ max (wrapped b) (wrapped h))
-cut_low b h l = (sym (wrap_is b), rw (wrap_is b, wrap_is h) (max-left (b % 2147483648) (h % 2147483648) (omega arith)))
-
--- high at low or above
-pub cut_high : (b h : ℕ) → b % 2147483648 ≤ h % 2147483648 → (b % 2147483648 ≡ wrapped b) × (h % 2147483648 ≡ max (wrapped b) (wrapped h))
-cut_high b h l = (sym (wrap_is b), rw (wrap_is b, wrap_is h) (max-right (b % 2147483648) (h % 2147483648) l))
 
 -- an interval is told by its start and its width
 pub interval_is : (m : Medians) (k b w low high : ℕ) → b ≡ base m k → w ≡ width m k → (0 < w) ×

@@ -9,7 +9,6 @@ use lib.IntN.{ℤ}
 use lib.ListN.{length, get_or, set, length-set}
 use Rattle.std.specs.Prelude.{Result, Ok}
 use Rattle.answers.specs.declared.Refusal.{Refusal}
-use Rattle.answers.proofs.TestLaws.{clash}
 use Rattle.bits.specs.Bits.{bits_of}
 use Rattle.entropy.specs.Medians.{Medians, medians_of}
 use Rattle.entropy.specs.declared.AdaptiveMedians.{AdaptiveMedians}
@@ -83,11 +82,6 @@ module _ (payload : List ℕ) (out : List ℤ) (x : Standing) (w : ℕ) (h : x.w
   onward-right e t = onward-word 1 _ x.right x.left y.medians (medians_of x.left) e (omega arith) refl refl t
 
 -- ---- steps
-
--- no word: the reading stands where it was
-pub step-none : (payload : List ℕ) (out : List ℤ) (x : Standing) (w : ℕ) → x.written ≤ length out
-    → x.left_bits ≤ x.place → StepIs payload out out x (record { on = false; w = w; at = x })
-step-none payload out x w h part = record { onward = onward-none payload out x h part; ready = λ e. clash e refl; next = λ e. clash e refl; near = omega arith }
 
 module _ (payload : List ℕ) (out after : List ℤ) (x : Standing) (w : ℕ) (h : x.written < length out)
     (part : x.left_bits ≤ x.place) (v : Ready payload x w) (y : ShortWord) (r : Step) where

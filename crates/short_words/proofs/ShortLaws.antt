@@ -147,11 +147,6 @@ module _ (w lo hi : ℕ) (due other : Medians) (o : Bool) (i : IntervalIs due 0 
 
 -- ---- given or not
 
--- behind an announced zero
-pub given_announced : (w : ℕ) (due other : Medians) (o : Bool) (r : ShortWord)
-    → ShortWordIs w due other true o r → WordIs w due other true o (Some r)
-given_announced w due other o r p = record { fits = refl; word = λ x e. let f : r ≡ x = cc in subst (λ (y : ShortWord). ShortWordIs w due other true o y) f p }
-
 -- with fewer than 16 ones
 pub given_counted : (w n : ℕ) (due other : Medians) (o : Bool) (r : ShortWord) → n ≡ ones_of w → n < 16
     → ShortWordIs w due other false o r → WordIs w due other false o (Some r)
