@@ -19,7 +19,8 @@ use word_state::{StereoDecodeState, bits_exceed, charged, zero_run_eligible};
 use words::coded::{Coded, read_word};
 use zones::{WordReport, Zone};
 
-// What the one-word entry answers.
+// What the one-word entry answers. A refusal tells place and state too, so it is a field and no `Result`
+// of the others.
 #[derive(Clone, Copy)]
 pub struct WordAnswer {
     pub outcome: Result<(), Refusal>,

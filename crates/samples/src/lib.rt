@@ -8,7 +8,8 @@ use entropy::AdaptiveMedians;
 pub mod reading;
 
 // What reading answers: the outcome, the bits used, the medians after, how many samples were written,
-// and how many of the bits used each channel took.
+// and how many of the bits used each channel took. A refusal tells them all, so it is a field and no
+// `Result` of the others.
 #[derive(Clone, Copy)]
 pub struct ReadAnswer {
     pub outcome: Result<(), Refusal>,

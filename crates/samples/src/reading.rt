@@ -28,6 +28,7 @@ fn answer(outcome: Result<(), Refusal>, at: Turn) -> ReadAnswer
       bits_read = at.left_bits ∷ (at.bits - at.left_bits) ∷ [];
     } }
 {
+    // An array of structs goes into a literal through a variable: the borrow checker asks for it.
     let medians = at.medians;
     ReadAnswer {
         outcome,
