@@ -11,7 +11,7 @@ ghost use Rattle.cross_runs.specs.Cross.{cross_term, cross_at, swap_at};
 use pass_turns::{frame_at, store_frame, turn, with_state};
 use passes::{DecorrPass, Direction};
 
-// y where `second` is set, else x.
+// y where `second` is set, else x. An `if` in the loop is no plainer: it stands there six times.
 fn either(second: bool, x: i32, y: i32) -> i32
     ensures { result ≡ cond second y x }
 {

@@ -32,7 +32,8 @@ pub enum Direction {
     Analysis,
 }
 
-// What a term's number stands for: a fixed lag of 1 to 8 frames, or one of the five others.
+// What a term's number stands for: a fixed lag of 1 to 8 frames, or one of the five others. An invalid
+// one is a case of its own and no `None`, since the definition of a step (`rule_of`) has a rule for it.
 #[derive(Clone, Copy)]
 pub enum Term {
     Lag(usize),
