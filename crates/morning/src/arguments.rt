@@ -8,16 +8,10 @@ use std::env::{Env, FillError};
 pub fn read_word(env: &impl Env, word: &mut [u8]) -> usize
     ensures { result ≤ length word.new }
 {
-    match env.arg(1, word) {
-        Ok(length) => length,
-        Err(_) => 0,
-    }
+    env.arg(1, word).unwrap_or(0)
 }
 
 // Whether there is an argument behind the first one.
 pub fn has_more(env: &impl Env) -> bool {
-    match env.arg(2, &mut []) {
-        Err(FillError::NotPresent) => false,
-        _ => true,
-    }
+    !matches!(env.arg(2, &mut []), Err(FillError::NotPresent))
 }

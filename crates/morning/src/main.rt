@@ -8,7 +8,7 @@
 mod arguments;
 mod output;
 
-use answers::outcome_number;
+use answers::number;
 use arguments::{has_more, read_word};
 use inputs::read_full;
 use morning_text::{LARGEST_INPUT, LARGEST_PAGE, input_page};
@@ -22,14 +22,10 @@ const WORD_BYTES: usize = 32;
 // Prints the page of the recording that an input holds, or why there is none.
 fn print_input(rt: &impl Print, input: &[u8], threshold: u32) -> io::Result<()> {
     let mut page = [0u8; LARGEST_PAGE];
-    let answer = input_page(input, threshold, &mut page);
-    let outcome = answer.outcome;
-    let number = outcome_number(outcome);
-    if number != 0 {
-        return print_refusal(rt, number);
+    match input_page(input, threshold, &mut page) {
+        Ok(written) => print(rt, &page[..written as usize]),
+        Err(refusal) => print_refusal(rt, number(refusal)),
     }
-    let written = answer.written as usize;
-    print(rt, &page[..written])
 }
 
 // Prints the page of the recording on standard input, for which room is lent.
@@ -47,12 +43,11 @@ fn print_page(rt: &(impl Input + Print), threshold: u32) -> io::Result<()> {
 fn main(rt: HostRuntime) -> io::Result<()> {
     let mut word = [0u8; WORD_BYTES];
     let n = read_word(&rt, &mut word);
-    let threshold = threshold_of(&word[..n]);
-    if !threshold.valid || has_more(&rt) {
-        return print(
+    match threshold_of(&word[..n]) {
+        Some(threshold) if !has_more(&rt) => print_page(&rt, threshold),
+        _ => print(
             &rt,
             b"usage: morning THRESHOLD <RECORDING, a threshold from 0 to 4294967295\n",
-        );
+        ),
     }
-    print_page(&rt, threshold.value)
 }

@@ -7,10 +7,9 @@ use Rattle.morning.proofs.print_input.Goals as goal
 
 pub slice_bounds-page-end : goal.slice_bounds-page-end
 slice_bounds-page-end g c =
-    let page = c.input_page-answer in
-    answer-within page.result _ _ page.ensures (input_within _ _ _)
+    rw c.in-Ok.is at (answer-within c.input_page.result _ _ c.input_page.ensures (input_within _ _ _))
 
 pub slice_bounds-print-end : goal.slice_bounds-print-end
 slice_bounds-print-end g c =
-    let page = c.input_page-answer in
-    sym (length-take-le _ _ (answer-within page.result _ _ page.ensures (input_within _ _ _)))
+    sym (length-take-le _ _
+    (rw c.in-Ok.is at (answer-within c.input_page.result _ _ c.input_page.ensures (input_within _ _ _))))
