@@ -3,6 +3,8 @@
 ghost use Rattle.std.specs.Prelude.{◌≡◌};
 ghost use Rattle.archive_slots.specs.ArchiveSlots.{write_call, read_call};
 
+use answers::outcome_number;
+
 // The blocks of a recording, its house, start second, issue and payload, into `out` from the first byte
 // on; bytes written into 1 slot of `answer`. Refuses 6 for `answer`; then 5, 11.
 pub fn wv_archive_write(
@@ -17,7 +19,7 @@ pub fn wv_archive_write(
         ≡ write_call (record { house = house; start = start; issue = issue; payload = payload.now })
         out.old answer.old }
 {
-    archive_slots::write_call(house, start, issue, payload, out, answer)
+    outcome_number(&archive_slots::write_call(house, start, issue, payload, out, answer))
 }
 
 // The recordings in force of an archive into `list`, 4 numbers each: house, start second, issue, payload
@@ -38,5 +40,5 @@ pub fn wv_archive_read(
     }
         ≡ read_call file.now list.old payloads.old answer.old }
 {
-    archive_slots::read_call(file, list, payloads, answer)
+    outcome_number(&archive_slots::read_call(file, list, payloads, answer))
 }

@@ -1,8 +1,8 @@
 // The C interface of the decoder and writer as a library, which `wavpack_stereo_c` exports. Each
-// function is one call of a function with the same contract in a crate of slots. It answers a
-// refusal number, 0 for accepted. Values are laid into the first slots of a lent list; one that has
-// fewer slots is refused with 6, and then nothing is written. Only the passes of a list are copied,
-// into an array of 16.
+// function is one call of a function with the same contract in a crate of slots, whose `Result` it
+// answers as a refusal number, 0 for accepted. Values are laid into the first slots of a lent list;
+// one that has fewer slots is refused with 6, and then nothing is written. Only the passes of a list
+// are copied, into an array of 16.
 
 #![tactic(auto)]
 

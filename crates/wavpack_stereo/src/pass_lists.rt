@@ -6,6 +6,7 @@ ghost use Rattle.slots.specs.Slots.{leave_values};
 ghost use Rattle.made_slots.specs.MadeSlots.{pass_answer, pass_values};
 ghost use Rattle.pass_slots.specs.PassSlots.{passes_call};
 
+use answers::outcome_number;
 use made_slots::make_pass;
 use pass_calls::{analyse_call, decorrelate_call};
 
@@ -27,7 +28,7 @@ pub fn wv_pass(
         (pass_values term delta weight_a weight_b seed_a.now seed_b.now)
         pass.old }
 {
-    make_pass(term, delta, weight_a, weight_b, seed_a, seed_b, pass)
+    outcome_number(&make_pass(term, delta, weight_a, weight_b, seed_a, seed_b, pass))
 }
 
 // Decorrelation of the buffer by passes of 20 slots each, which then hold the passes after. Refuses
@@ -37,7 +38,7 @@ pub fn wv_decorrelate(passes: &mut [i32], buffer: &mut [i32]) -> u32
     ensures { record { refusal = result; passes = passes.new; buffer = buffer.new }
         ≡ passes_call decorrelation passes.old buffer.old }
 {
-    decorrelate_call(passes, buffer)
+    outcome_number(&decorrelate_call(passes, buffer))
 }
 
 // Analysis of the buffer, the last pass first. It refuses as decorrelation does.
@@ -45,5 +46,5 @@ pub fn wv_analyse(passes: &mut [i32], buffer: &mut [i32]) -> u32
     ensures { record { refusal = result; passes = passes.new; buffer = buffer.new }
         ≡ passes_call analysis passes.old buffer.old }
 {
-    analyse_call(passes, buffer)
+    outcome_number(&analyse_call(passes, buffer))
 }

@@ -4,6 +4,8 @@
 ghost use Rattle.std.specs.Prelude.{◌≡◌};
 ghost use Rattle.word_calls.specs.Calls.{read_call, word_call};
 
+use answers::outcome_number;
+
 // The samples of `frames` frames into `samples`, left then right; bits used, left medians, right
 // medians, samples written, bits of left and bits of right into 10 slots of `answer`. Refuses 6 for
 // `answer`, with nothing written; then, with `answer` written, 5, 6, 1, 17, 2, and 3 or 4 in a word.
@@ -18,7 +20,7 @@ pub fn wv_read(
         ≡ read_call entropy.now payload.now frames
         samples.old answer.old }
 {
-    word_calls::read_call(entropy, payload, frames, samples, answer)
+    outcome_number(&word_calls::read_call(entropy, payload, frames, samples, answer))
 }
 
 // The word at a place of the payload, in the state that the 15 slots of `state` hold; its sample
@@ -33,5 +35,5 @@ pub fn wv_word(payload: &[u8], state: &mut [u32], sample: &mut [i32], report: &m
     }
         ≡ word_call payload.now state.old sample.old report.old }
 {
-    word_calls::word_call(payload, state, sample, report)
+    outcome_number(&word_calls::word_call(payload, state, sample, report))
 }

@@ -2,6 +2,8 @@
 ghost use Rattle.std.specs.Prelude.{◌≡◌};
 ghost use Rattle.int32_slots.specs.Int32Slots.{reassemble_call, deconstruct_call};
 
+use answers::outcome_number;
+
 // Completes each of `samples` by the next `sent_bits` bits of `literal` and by redundant bits:
 // zeros, ones or copies of its lowest bit, the first of `zeros`, `ones`, `dups` that is not 0;
 // literal bits read into 1 slot of `answer`. Refuses 6 for `answer`; then 15, 5, 3.
@@ -19,7 +21,9 @@ pub fn wv_reassemble_int32(
         (record { sent_bits = sent_bits; zeros = zeros; ones = ones; dups = dups })
         samples.old literal.now answer.old }
 {
-    int32_slots::reassemble_call(sent_bits, zeros, ones, dups, samples, literal, answer)
+    outcome_number(&int32_slots::reassemble_call(
+        sent_bits, zeros, ones, dups, samples, literal, answer,
+    ))
 }
 
 // The way back: takes the redundant bits out of `samples`, and the literal ones into `literal` from
@@ -44,5 +48,7 @@ pub fn wv_deconstruct_int32(
         (record { sent_bits = sent_bits; zeros = zeros; ones = ones; dups = dups })
         samples.old literal.old answer.old }
 {
-    int32_slots::deconstruct_call(sent_bits, zeros, ones, dups, samples, literal, answer)
+    outcome_number(&int32_slots::deconstruct_call(
+        sent_bits, zeros, ones, dups, samples, literal, answer,
+    ))
 }
