@@ -26,7 +26,7 @@ impl From<Entry> for i32 {
     fn from(entry: Entry) -> i32 {
         let value = wrapping::narrow(i64::from(entry.size));
         if entry.negative {
-            wrapping::wrapping_neg(value)
+            value.wrapping_neg()
         } else {
             value
         }
