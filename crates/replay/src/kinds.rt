@@ -6,7 +6,7 @@ use crate::word_records::{reading_agrees, word_agrees};
 use inputs::read_full;
 use little_endian::signed_word;
 use std::io::Read;
-use test_support::numbers::{holds_signed, part, read_number, read_signed};
+use test_support::numbers::{Stored, holds, part};
 
 // What a file holds.
 #[derive(Clone, Copy)]
@@ -44,21 +44,21 @@ fn log_word(number: u32) -> i16 {
 
 // A number whose pattern this is.
 fn signed(number: u32) -> i32 {
-    wrapping::narrow(number as i64)
+    wrapping::narrow(i64::from(number))
 }
 
 // A log word's refusal and value.
 fn log_word_agrees<R: Read>(refusal: u32, file: &mut R, number: u32) -> bool {
     let mut value = [0i32; 1];
     let answered = wavpack_stereo::wv_log_word(log_word(number), &mut value);
-    (answered == refusal) & (value[0] == read_signed(file))
+    (answered == refusal) & (value[0] == i32::read_from(file))
 }
 
 // A term byte's term and delta.
 fn term_byte_agrees<R: Read>(term: u32, file: &mut R, number: u32) -> bool {
     let mut out = [0i32; 2];
     let refusal = wavpack_stereo::wv_term_byte((number % 256) as u8, &mut out);
-    (refusal == 0) & (out[0] == signed(term)) & (out[1] == read_signed(file))
+    (refusal == 0) & (out[0] == signed(term)) & (out[1] == i32::read_from(file))
 }
 
 // A weight byte's weight.
@@ -70,10 +70,10 @@ fn weight_byte_agrees(weight: u32, number: u32) -> bool {
 
 // An entropy payload's refusal and medians.
 fn entropy_agrees<R: Read>(length: u32, file: &mut R) -> bool {
-    let refusal = read_number(file);
+    let refusal = u32::read_from(file);
     let mut payload = [0u8; 16];
     read_full(file, &mut payload);
     let mut medians = [0i32; 6];
     let answered = wavpack_stereo::wv_entropy(part(&payload, length as usize), &mut medians);
-    (answered == refusal) & holds_signed(file, &medians)
+    (answered == refusal) & holds(file, &medians)
 }

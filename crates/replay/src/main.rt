@@ -12,8 +12,7 @@ use kinds::{Kind, agrees};
 use std::io::Read;
 use std::rt::Files;
 use std::{fs, io};
-use test_support::numbers::{Next, next_number};
-use test_support::printing::{print, print_count};
+use test_support::numbers::next_number;
 
 // No file holds more records than this. A proved loop has to end, and nothing says that a file
 // does.
@@ -28,31 +27,30 @@ struct Tally {
 
 // Replays the records of one open file, to its end.
 fn replay<R: Read>(kind: Kind, file: &mut R) -> Tally {
-    let mut replayed: u32 = 0;
     let mut agreed: u32 = 0;
-    while replayed < MOST {
-        let Next::Number(first) = next_number(file) else {
-            break;
+    for replayed in 0..MOST {
+        let Some(first) = next_number(file) else {
+            return Tally { replayed, agreed };
         };
         if agrees(kind, first, file, replayed) {
             agreed += 1;
         }
-        replayed += 1;
     }
-    Tally { replayed, agreed }
+    Tally {
+        replayed: MOST,
+        agreed,
+    }
 }
 
 // Replays one file and prints the line about it. A file that cannot be opened has a line of its
 // own.
 fn replay_file(rt: &(impl Files + Print), kind: Kind, path: &str) -> io::Result<()> {
-    print(rt, path.as_bytes())?;
+    print!(rt; "{path}")?;
     let Ok(mut file) = fs::open(rt, path) else {
-        return print(rt, b": cannot be opened\n");
+        return println!(rt; ": cannot be opened");
     };
-    let tally = replay(kind, &mut file);
-    print(rt, b": ")?;
-    print_count(rt, tally.replayed as usize, b" replayed, ")?;
-    print_count(rt, tally.agreed as usize, b" agree\n")
+    let Tally { replayed, agreed } = replay(kind, &mut file);
+    println!(rt; ": {replayed} replayed, {agreed} agree")
 }
 
 fn main(rt: HostRuntime) -> io::Result<()> {

@@ -2,7 +2,7 @@
 use answers::limits::BYTES_PER_FRAME;
 use inputs::read_full;
 use std::io::Read;
-use test_support::numbers::{holds, holds_bytes, load_signed, part_signed, read_number};
+use test_support::numbers::{Stored, holds, load, part};
 
 // Packs up to eight frames: two residuals and 28 lent bytes each. 0, with nothing packed, for more
 // frames or where the buffer has fewer bytes.
@@ -21,7 +21,7 @@ fn pack(
         return 0;
     }
     wavpack_stereo::wv_pack(
-        part_signed(residuals, 2 * frames),
+        part(residuals, 2 * frames),
         entropy,
         frames,
         &mut out[..room],
@@ -34,9 +34,9 @@ pub fn packing_agrees<R: Read>(frames: u32, file: &mut R) -> bool {
     let mut entropy = [0u8; 12];
     read_full(file, &mut entropy);
     let mut residuals = [0i32; 16];
-    load_signed(file, &mut residuals);
+    load(file, &mut residuals);
     let mut out = [0u8; 224];
     let mut answer = [0u32; 7];
     let refusal = pack(&residuals, &entropy, frames as usize, &mut out, &mut answer);
-    (refusal == read_number(file)) & holds(file, &answer) & holds_bytes(file, &out)
+    (refusal == u32::read_from(file)) & holds(file, &answer) & holds(file, &out)
 }

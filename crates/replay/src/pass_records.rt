@@ -1,6 +1,6 @@
 // Stored pass making, decorrelation and analysis.
 use std::io::Read;
-use test_support::numbers::{holds_signed, load_signed, part_signed, read_number, read_signed};
+use test_support::numbers::{Stored, holds, load, part};
 
 // The term with this 8-bit pattern.
 fn term(pattern: u8) -> i8 {
@@ -13,26 +13,26 @@ fn term(pattern: u8) -> i8 {
 
 // Whether a pass is refused or made as stored.
 pub fn making_agrees<R: Read>(pattern: u32, file: &mut R) -> bool {
-    let delta = read_signed(file);
-    let weight_a = read_signed(file);
-    let weight_b = read_signed(file);
-    let count_a = read_number(file) as usize;
-    let count_b = read_number(file) as usize;
+    let delta = i32::read_from(file);
+    let weight_a = i32::read_from(file);
+    let weight_b = i32::read_from(file);
+    let count_a = u32::read_from(file) as usize;
+    let count_b = u32::read_from(file) as usize;
     let mut seed_a = [0i32; 9];
-    load_signed(file, &mut seed_a);
+    load(file, &mut seed_a);
     let mut seed_b = [0i32; 9];
-    load_signed(file, &mut seed_b);
+    load(file, &mut seed_b);
     let mut pass = [0i32; 20];
     let refusal = wavpack_stereo::wv_pass(
         term((pattern % 256) as u8),
         delta,
         weight_a,
         weight_b,
-        part_signed(&seed_a, count_a),
-        part_signed(&seed_b, count_b),
+        part(&seed_a, count_a),
+        part(&seed_b, count_b),
         &mut pass,
     );
-    (refusal == read_number(file)) & holds_signed(file, &pass)
+    (refusal == u32::read_from(file)) & holds(file, &pass)
 }
 
 // Analysis, or decorrelation, of a buffer by passes of 20 slots each.
@@ -63,12 +63,12 @@ fn run_parts(
 
 // Whether a list of up to four passes over up to 24 numbers is run as stored.
 pub fn passes_agree<R: Read>(direction: u32, file: &mut R) -> bool {
-    let count = 20 * (read_number(file) as usize);
-    let length = read_number(file) as usize;
+    let count = 20 * (u32::read_from(file) as usize);
+    let length = u32::read_from(file) as usize;
     let mut passes = [0i32; 80];
-    load_signed(file, &mut passes);
+    load(file, &mut passes);
     let mut buffer = [0i32; 24];
-    load_signed(file, &mut buffer);
+    load(file, &mut buffer);
     let refusal = run_parts(direction == 1, &mut passes, count, &mut buffer, length);
-    (refusal == read_number(file)) & holds_signed(file, &passes) & holds_signed(file, &buffer)
+    (refusal == u32::read_from(file)) & holds(file, &passes) & holds(file, &buffer)
 }

@@ -1,7 +1,7 @@
 // Stored words and readings.
 use inputs::read_full;
 use std::io::Read;
-use test_support::numbers::{holds, holds_signed, load, part, read_number, read_signed};
+use test_support::numbers::{Stored, holds, load, part};
 
 // Whether a word, read from the state that a record holds, is refused or given as stored.
 pub fn word_agrees<R: Read>(length: u32, file: &mut R) -> bool {
@@ -13,7 +13,7 @@ pub fn word_agrees<R: Read>(length: u32, file: &mut R) -> bool {
     let mut report = [0u32; 2];
     let read = part(&payload, length as usize);
     let refusal = wavpack_stereo::wv_word(read, &mut state, &mut sample, &mut report);
-    let told = (refusal == read_number(file)) & (sample[0] == read_signed(file));
+    let told = (refusal == u32::read_from(file)) & (sample[0] == i32::read_from(file));
     told & holds(file, &state) & holds(file, &report)
 }
 
@@ -40,7 +40,7 @@ fn read(
 
 // Whether a reading of up to 16 frames is answered as stored.
 pub fn reading_agrees<R: Read>(length: u32, file: &mut R) -> bool {
-    let frames = read_number(file);
+    let frames = u32::read_from(file);
     let mut entropy = [0u8; 12];
     read_full(file, &mut entropy);
     let mut payload = [0u8; 48];
@@ -54,5 +54,5 @@ pub fn reading_agrees<R: Read>(length: u32, file: &mut R) -> bool {
         &mut samples,
         &mut answer,
     );
-    (refusal == read_number(file)) & holds(file, &answer) & holds_signed(file, &samples)
+    (refusal == u32::read_from(file)) & holds(file, &answer) & holds(file, &samples)
 }
