@@ -8,7 +8,6 @@
 mod arguments;
 mod output;
 
-use answers::number;
 use arguments::{has_more, read_word};
 use inputs::read_full;
 use morning_text::{LARGEST_INPUT, LARGEST_PAGE, input_page};
@@ -24,7 +23,7 @@ fn print_input(rt: &impl Print, input: &[u8], threshold: u32) -> io::Result<()> 
     let mut page = [0u8; LARGEST_PAGE];
     match input_page(input, threshold, &mut page) {
         Ok(written) => print(rt, &page[..written as usize]),
-        Err(refusal) => print_refusal(rt, number(refusal)),
+        Err(refusal) => print_refusal(rt, refusal),
     }
 }
 
