@@ -1,6 +1,6 @@
 -- The answers of each call, by what its entry told.
 -- Assumes nothing.
-use mathlib.Core.Path.{◌≡◌, ap, ◌∙◌}
+use mathlib.Core.Path.{◌≡◌, sym, ap, ◌∙◌}
 use mathlib.Core.List.{List, [], ◌∷◌}
 use Prim.Native.Nat.{ℕ, ◌≤◌, ◌<◌}
 use lib.IntN.{ℤ}
@@ -36,6 +36,9 @@ module _ (file : List ℕ) (samples : List ℤ) (answer : List ℕ) where
   pub import_short : length answer < 2 → record { refusal = 6; list = samples; answer = answer } ≡ import_call file samples answer
   unfolding import_call
   import_short h = fill-short 2 samples _ answer _ _ h
+
+  pub import_few : length answer < 2 → import_call file samples answer ≡ record { refusal = 6; list = samples; answer = answer }
+  import_few h = sym (import_short h)
 
   pub import_refused : (x : Refusal) (after : List ℤ) → 2 ≤ length answer → view_import (Err x) after ≡ import_entry file samples
       → record { refusal = number_of x; list = after; answer = answer } ≡ import_call file samples answer

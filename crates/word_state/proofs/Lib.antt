@@ -1,4 +1,5 @@
 -- What the crates above cite.
 pub mod BitsLaws
+pub mod DueLaws
 pub mod FlagLaws
 pub mod StateLaws
