@@ -3,16 +3,14 @@
 ghost use Rattle.std.specs.Prelude.{◌≡◌, length};
 
 use crate::record::read_passes;
-use answers::outcome_number;
+use answers::Refusal;
 use decorrelation::{decorrelate_array, recorrelate_array};
 use inputs::read_full;
 use pack_entry::encode_packed_samples_stereo_from_entropy;
-use packing::PackAnswer;
 use passes::DecorrPass;
 use samples::reading::decode_packed_samples_stereo_from_entropy;
 use std::io::Read;
-use test_support::numbers::{fill, load_words, part, part_signed, read_size};
-use trip_lists::same;
+use test_support::numbers::{fill, load_words, part, read_size};
 
 // How much of each part a block holds.
 #[derive(Clone, Copy)]
@@ -70,11 +68,6 @@ fn same_bits(a: &[u8], b: &[u8], bits: usize) -> bool {
     true
 }
 
-// Whether two lists are the same.
-fn same_samples(a: &[i32], b: &[i32]) -> bool {
-    a.len() == b.len() && same(a, b)
-}
-
 // Whether the samples, analysed and packed, are the payload's first bits, and no more or fewer than
 // reading used.
 fn packs_again(
@@ -84,17 +77,12 @@ fn packs_again(
     payload: &[u8],
     bits: usize,
     buffer: &mut [i32],
-) -> bool {
-    let analysed = recorrelate_array(list, count, buffer);
-    let analysis = analysed.outcome;
+) -> Result<bool, Refusal> {
+    recorrelate_array(list, count, buffer)?;
     let frames = buffer.len() / 2;
     let mut out = large_buffer();
-    let packed: PackAnswer = encode_packed_samples_stereo_from_entropy(
-        buffer, entropy, frames, &mut out,
-    );
-    let packing = packed.outcome;
-    let accepted = (outcome_number(analysis) == 0) & (outcome_number(packing) == 0);
-    accepted & (packed.bits == bits) & same_bits(&out, payload, bits)
+    let packed = encode_packed_samples_stereo_from_entropy(buffer, entropy, frames, &mut out)?;
+    Ok(packed.bits == bits && same_bits(&out, payload, bits))
 }
 
 // The verdict on a payload and the samples that it was made from. The buffer has their length.
@@ -109,12 +97,11 @@ fn judge(
     let frames = buffer.len() / 2;
     let answer = decode_packed_samples_stereo_from_entropy(entropy, payload, frames, buffer);
     let bits = answer.bits;
-    let read = answer.outcome;
     let decorrelated = decorrelate_array(list, count, buffer);
-    let decorrelation = decorrelated.outcome;
-    let accepted = (outcome_number(read) == 0) & (outcome_number(decorrelation) == 0);
-    let samples_agree = accepted & same_samples(stored, buffer);
-    let bits_agree = accepted & packs_again(list, count, entropy, payload, bits, buffer);
+    let accepted = answer.outcome.is_ok() && decorrelated.is_ok();
+    let samples_agree = accepted && stored == &buffer[..];
+    let again = packs_again(list, count, entropy, payload, bits, buffer);
+    let bits_agree = accepted && again.unwrap_or(false);
     Verdict {
         bits,
         samples_agree,
@@ -147,12 +134,14 @@ pub fn run<R: Read>(file: &mut R, head: Head) -> Verdict {
     let mut entropy = [0u8; 12];
     read_full(file, &mut entropy);
     let passes = read_passes(file, head.passes);
-    let list = passes.list;
     let mut stored = silence();
     load_words(file, &mut stored, 2 * frames);
     let mut payload = large_buffer();
     let whole = fill(file, &mut payload, length);
-    if !(passes.complete & whole) {
+    let Some(list) = passes else {
+        return neither();
+    };
+    if !whole {
         return neither();
     }
     let mut buffer = silence();
@@ -161,7 +150,7 @@ pub fn run<R: Read>(file: &mut R, head: Head) -> Verdict {
         head.passes,
         &entropy,
         part(&payload, length),
-        part_signed(&stored, 2 * frames),
+        part(&stored, 2 * frames),
         &mut buffer[..2 * frames],
     )
 }

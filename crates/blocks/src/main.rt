@@ -11,28 +11,22 @@ use block::{Head, Verdict};
 use inputs::read_full;
 use std::io::Read;
 use std::{fs, io};
-use test_support::printing::{print, print_count};
+use test_support::printing::print;
 
 // No file holds more blocks than this. A proved loop has to end, and nothing says that a file does.
 const MOST: u32 = 1000;
 
-fn print_agreement(rt: &impl Print, agrees: bool) -> io::Result<()> {
-    if agrees {
-        print(rt, b"agree")
-    } else {
-        print(rt, b"DIFFER")
-    }
+fn agreement(agrees: bool) -> &'static str {
+    if agrees { "agree" } else { "DIFFER" }
 }
 
 // The line about a block, after its label.
 fn print_verdict(rt: &impl Print, head: Head, verdict: Verdict) -> io::Result<()> {
-    print_count(rt, head.frames, b" frames, ")?;
-    print_count(rt, head.passes, b" passes, ")?;
-    print_count(rt, verdict.bits, b" bits, samples ")?;
-    print_agreement(rt, verdict.samples_agree)?;
-    print(rt, b", bits ")?;
-    print_agreement(rt, verdict.bits_agree)?;
-    print(rt, b"\n")
+    let Head { frames, passes, .. } = head;
+    let bits = verdict.bits;
+    let samples = agreement(verdict.samples_agree);
+    let packed = agreement(verdict.bits_agree);
+    println!(rt; "{frames} frames, {passes} passes, {bits} bits, samples {samples}, bits {packed}")
 }
 
 // Runs the next block of an open file. False where the file ends before another label.
@@ -60,8 +54,8 @@ fn run_blocks<R: Read>(rt: &impl Print, file: &mut R) -> io::Result<u32> {
 
 fn main(rt: HostRuntime) -> io::Result<()> {
     let Ok(mut file) = fs::open(&rt, "blocks.bin") else {
-        return print(&rt, b"blocks.bin cannot be opened\n");
+        return println!(rt; "blocks.bin cannot be opened");
     };
     let count = run_blocks(&rt, &mut file)?;
-    print_count(&rt, count as usize, b" blocks\n")
+    println!(rt; "{count} blocks")
 }

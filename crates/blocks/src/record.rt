@@ -1,47 +1,27 @@
 // The passes of a stored block, 36 bytes each.
-use answers::outcome_number;
+use answers::Refusal;
 use logpack::wp_exp2s;
 use pass_bytes::{decode_term_byte, expand_weight_byte};
-use passes::{DecorrPass, PassAnswer};
+use passes::DecorrPass;
 use std::io::Read;
-use test_support::numbers::{read_byte, read_word};
-
-// The passes of a block; `complete` where pass making accepts each.
-#[derive(Clone, Copy)]
-pub struct Passes {
-    pub complete: bool,
-    pub list: [DecorrPass; 16],
-}
-
-// A pass that runs no step: what stands after the passes of a block.
-fn no_pass() -> DecorrPass {
-    DecorrPass {
-        term: 0,
-        delta: 0,
-        weight_a: 0,
-        weight_b: 0,
-        history_a: [0i32; 8],
-        history_b: [0i32; 8],
-    }
-}
+use test_support::numbers::Stored;
 
 // The values of eight log words; 0 for one that is out of reach.
 fn read_seeds<R: Read>(file: &mut R) -> [i32; 8] {
     let mut seeds = [0i32; 8];
     for place in seeds.iter_mut() {
-        let seed = wp_exp2s(read_word(file));
-        *place = seed.value;
+        *place = wp_exp2s(i16::read_from(file)).unwrap_or(0);
     }
     seeds
 }
 
 // The next pass: the term byte, both weight bytes, how many seeds a channel has, and eight log words
 // a channel.
-fn read_pass<R: Read>(file: &mut R) -> PassAnswer {
-    let term = decode_term_byte(read_byte(file));
-    let weight_a = expand_weight_byte(read_byte(file));
-    let weight_b = expand_weight_byte(read_byte(file));
-    let count = (read_byte(file) % 9) as usize;
+fn read_pass<R: Read>(file: &mut R) -> Result<DecorrPass, Refusal> {
+    let term = decode_term_byte(u8::read_from(file));
+    let weight_a = expand_weight_byte(u8::read_from(file));
+    let weight_b = expand_weight_byte(u8::read_from(file));
+    let count = usize::from(u8::read_from(file) % 9);
     let seed_a = read_seeds(file);
     let seed_b = read_seeds(file);
     DecorrPass::new(
@@ -54,16 +34,15 @@ fn read_pass<R: Read>(file: &mut R) -> PassAnswer {
     )
 }
 
-// Reads the passes of a block, the first one first.
-pub fn read_passes<R: Read>(file: &mut R, count: usize) -> Passes {
-    let none = no_pass();
-    let mut list = [none; 16];
-    let mut complete = count <= 16;
+// Reads the passes of a block, the first one first, with passes that run no step behind them. None
+// for more than 16, or where pass making refuses one.
+pub fn read_passes<R: Read>(file: &mut R, count: usize) -> Option<[DecorrPass; 16]> {
+    let mut list = [DecorrPass::NONE; 16];
+    let mut complete = count <= list.len();
     for place in list.iter_mut().take(count) {
-        let answer = read_pass(file);
-        let outcome = answer.outcome;
-        complete = complete & (outcome_number(outcome) == 0);
-        *place = answer.pass;
+        let made = read_pass(file);
+        complete &= made.is_ok();
+        *place = made.unwrap_or(DecorrPass::NONE);
     }
-    Passes { complete, list }
+    if complete { Some(list) } else { None }
 }

@@ -1,14 +1,11 @@
 // Cases of pass lists. The line of a call has the buffer after it.
 use crate::lines::{print_refusal, print_values};
-use answers::outcome_number;
 use decorrelation::decorrelate_array;
 use pass_slots::run_slots;
 use passes::{DecorrPass, Direction};
 use std::io;
 use std::io::Read;
-use test_support::lines::{read_bytes, read_list};
-use test_support::printing::{print, print_value};
-use wrapping::casts::u8_to_usize;
+use test_support::lines::read_list;
 
 // The pass of which a list of passes that are all alike is made.
 pub fn some_pass() -> DecorrPass {
@@ -17,21 +14,20 @@ pub fn some_pass() -> DecorrPass {
         delta: 2,
         weight_a: 256,
         weight_b: -256,
-        history_a: [0i32; 8],
-        history_b: [0i32; 8],
+        history_a: [0; 8],
+        history_b: [0; 8],
     }
 }
 
 // Decorrelation of two frames by passes that are all alike: how many, and the buffer.
 pub fn run_many<R: Read>(rt: &impl Print, file: &mut R) -> io::Result<()> {
     let mut count = [0u8; 1];
-    read_bytes(file, &mut count);
+    read_list(file, &mut count);
     let mut buffer = [0i32; 4];
     read_list(file, &mut buffer);
     let passes = [some_pass(); 16];
-    let answer = decorrelate_array(passes, u8_to_usize(count[0]), &mut buffer);
-    let outcome = answer.outcome;
-    print_refusal(rt, outcome_number(outcome))?;
+    let answer = decorrelate_array(passes, usize::from(count[0]), &mut buffer);
+    print_refusal(rt, &answer)?;
     print_values(rt, &buffer)
 }
 
@@ -39,13 +35,13 @@ pub fn run_many<R: Read>(rt: &impl Print, file: &mut R) -> io::Result<()> {
 fn print_states(rt: &impl Print, passes: &[i32]) -> io::Result<()> {
     for (i, slot) in passes.iter().enumerate() {
         if i % 20 == 2 {
-            print(rt, b"  pass state")?;
+            print!(rt; "  pass state")?;
         }
         if i % 20 >= 2 {
-            print_value(rt, *slot)?;
+            print!(rt; " {slot}")?;
         }
         if i % 20 == 19 {
-            print(rt, b"\n")?;
+            println!(rt; "")?;
         }
     }
     Ok(())
@@ -59,7 +55,7 @@ fn run(
     passes: &mut [i32],
     buffer: &mut [i32],
 ) -> io::Result<()> {
-    print_refusal(rt, run_slots(direction, passes, buffer))?;
+    print_refusal(rt, &run_slots(direction, passes, buffer))?;
     print_values(rt, buffer)?;
     print_states(rt, passes)
 }
