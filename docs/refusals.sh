@@ -78,11 +78,15 @@ awk -v table="$table" -v short="$short" '
         number = 0
     }
 
-    # The program: after the arm of a number stands its wording, and after the arm `_` that of what is
+    # The program: after the arm of a refusal stands its wording, and after the arm `_` that of what is
     # too large.
     FILENAME ~ /[.]rt$/ && !/^ *[/][/]/ {
         if (/^}/) arm = 0
-        if (/^ *([0-9]+|_) =>/) arm = $1 == "_" ? rust["TooLarge"] : $1 + 0
+        if (/^ *(Refusal::[A-Za-z0-9]+|_) =>/) {
+            name = $1
+            sub(/^Refusal::/, "", name)
+            arm = name == "_" ? rust["TooLarge"] : rust[name]
+        }
         if (!arm || !match($0, /"[^"]*"/)) next
         text = substr($0, RSTART + 1, RLENGTH - 2)
         if (arm == rust["EntropyLength"] && text == short) text = wording[arm]
