@@ -14,3 +14,4 @@ pub mod BegunLaws
 pub mod OnlyLaws
 pub mod PlaceLaws
 pub mod ListingLaws
+pub mod SoundLaws

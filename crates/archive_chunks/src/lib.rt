@@ -6,14 +6,13 @@
 #![tactic(auto)]
 
 ghost use Rattle.std.specs.Prelude.{◌≡◌, ◌+◌, ◌≤◌, ◌<◌, length};
-ghost use Rattle.archive.specs.Listing.{Sound};
 ghost use Rattle.archive.specs.Places.{At};
 ghost use Rattle.archive_keys.specs.Keys.{chunk};
 ghost use Rattle.archive_keys.specs.Chains.{Chained};
 ghost use Rattle.archive_chunks.specs.Chunks.{KeyIs, LoadedIs, Unmarked, MarkedAll, MetAll, ChunkIs};
 
 use archive_keys::{CHUNK, chain, mark_key};
-use recording_heads::{Head, bytes_taken, head_at};
+use recording_heads::{Head, SoundFile, bytes_taken};
 
 // Keys that were loaded, and the place of the recording after them.
 #[derive(Clone, Copy)]
@@ -41,18 +40,17 @@ fn key_of(head: Head) -> u64
 }
 
 // Loads the keys of a chunk, from the recording `first` on, which stands at the place.
-fn load_keys(file: &[u8], at: usize, first: usize, keys: &mut [u64]) -> Loaded
-    requires sound { Sound file.now }
-    requires place { At file.now at first }
+fn load_keys(file: SoundFile<'_>, at: usize, first: usize, keys: &mut [u64]) -> Loaded
+    requires place { At file.bytes.now at first }
     requires room { length keys.old ≡ chunk }
-    ensures { LoadedIs file.now at first keys.new result.count result.next }
+    ensures { LoadedIs file.entry.bytes.now at first keys.new result.count result.next }
 {
     let mut next = at;
     for count in 0..CHUNK {
-        if next >= file.len() {
+        if next >= file.bytes.len() {
             return Loaded { count, next };
         }
-        let head = head_at(file, next, first + count);
+        let head = file.head_at(next, first + count);
         keys[count] = key_of(head);
         next += bytes_taken(head.payload);
     }
@@ -62,7 +60,7 @@ fn load_keys(file: &[u8], at: usize, first: usize, keys: &mut [u64]) -> Loaded
 // Walks the file once: marks the keys of a chunk that are superseded, and answers whether one of them
 // stands at another place too.
 fn mark_all(
-    file: &[u8],
+    file: SoundFile<'_>,
     first: usize,
     keys: &[u64],
     count: usize,
@@ -70,19 +68,18 @@ fn mark_all(
     links: &[u16],
     marks: &mut [bool],
 ) -> bool
-    requires sound { Sound file.now }
     requires count { (count ≤ chunk) × (count ≤ length keys.now) × (count ≤ length marks.old) }
     requires places { first + chunk < 18446744073709551616 }
     requires chained { Chained keys.now count heads.now links.now }
     requires unmarked { Unmarked count marks.old }
-    ensures marks { MarkedAll file.now keys.now count marks.new }
-    ensures met { MetAll file.now first keys.now count result }
+    ensures marks { MarkedAll file.entry.bytes.now keys.now count marks.new }
+    ensures met { MetAll file.entry.bytes.now first keys.now count result }
 {
     let mut twice = false;
     let mut at = 0;
     let mut index = 0;
-    while at < file.len() {
-        let head = head_at(file, at, index);
+    while at < file.bytes.len() {
+        let head = file.head_at(at, index);
         let key = key_of(head);
         twice |= mark_key(key, index, first, keys, count, heads, links, marks);
         at += bytes_taken(head.payload);
@@ -92,10 +89,9 @@ fn mark_all(
 }
 
 // The chunk from the recording `first` on, which stands at the place.
-pub fn chunk_at(file: &[u8], at: usize, first: usize) -> Chunk
-    requires sound { Sound file.now }
-    requires place { At file.now at first }
-    ensures { ChunkIs file.now at first result.count result.next result.twice result.superseded }
+pub fn chunk_at(file: SoundFile<'_>, at: usize, first: usize) -> Chunk
+    requires place { At file.bytes.now at first }
+    ensures { ChunkIs file.entry.bytes.now at first result.count result.next result.twice result.superseded }
 {
     let mut keys = [0u64; 4096];
     let mut heads = [0u16; 8191];

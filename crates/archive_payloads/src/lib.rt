@@ -6,13 +6,13 @@
 ghost use Rattle.std.specs.Prelude.{◌≡◌, [], ◌∷◌, ◌+◌, ◌*◌, ◌≤◌, ◌<◌, length};
 ghost use Rattle.overlay.specs.Overlay.{overlay};
 ghost use Rattle.archive.specs.Recording.{blocks_for};
-ghost use Rattle.archive.specs.Listing.{recordings_of, in_force, listed, payloads, Sound};
+ghost use Rattle.archive.specs.Listing.{recordings_of, in_force, listed, payloads};
 ghost use Rattle.archive.specs.Places.{At, recording_at};
 ghost use Rattle.archive_payloads.specs.Kept.{between, superseded_at, DoneIs, SupersededIs, PartIs};
 ghost use Rattle.archive_payloads.specs.Kept.{CountedIs, source_of};
 
 use decimal::text::put_text;
-use recording_heads::{Head, bytes_taken, head_at};
+use recording_heads::{Head, SoundFile, bytes_taken};
 
 // How far a walk over the recordings has come: the place of the next one, how many are in force, and
 // the bytes of their payloads.
@@ -51,20 +51,26 @@ fn source(place: usize, done: usize) -> usize
 }
 
 // Lays the payload of recording i, which stands at the place, block by block.
-fn copy_payload(file: &[u8], place: usize, i: usize, payload: usize, to: usize, out: &mut [u8])
-    requires sound { Sound file.now }
-    requires place { At file.now place i }
-    requires one { i < length (recordings_of file.now) }
-    requires size { payload ≡ length (recording_at file.now i).payload }
+fn copy_payload(
+    file: SoundFile<'_>,
+    place: usize,
+    i: usize,
+    payload: usize,
+    to: usize,
+    out: &mut [u8],
+)
+    requires place { At file.bytes.now place i }
+    requires one { i < length (recordings_of file.bytes.now) }
+    requires size { payload ≡ length (recording_at file.bytes.now i).payload }
     requires room { to + payload ≤ length out.old }
-    ensures { out.new ≡ overlay out.old to (recording_at file.now i).payload }
+    ensures { out.new ≡ overlay out.old to (recording_at file.entry.bytes.now i).payload }
 {
     let mut done = 0;
     while done < payload {
         let count = part(done, payload);
         let from = source(place, done);
         let end = from + count;
-        put_text(out, to + done, &file[from..end]);
+        put_text(out, to + done, &file.bytes[from..end]);
         done += count;
     }
 }
@@ -88,43 +94,48 @@ fn counted(done: Done, superseded: bool, payload: u32) -> Done
 }
 
 // Counts the recordings in force of a chunk that begins with recording `first`.
-pub fn count_chunk(file: &[u8], first: usize, superseded: &[bool], count: usize, done: Done) -> Done
-    requires sound { Sound file.now }
-    requires done { DoneIs file.now first done.place done.recordings done.bytes }
-    requires chunk { SupersededIs file.now first count superseded.now }
-    ensures { DoneIs file.now (first + count) result.place result.recordings result.bytes }
+pub fn count_chunk(
+    file: SoundFile<'_>,
+    first: usize,
+    superseded: &[bool],
+    count: usize,
+    done: Done,
+) -> Done
+    requires done { DoneIs file.bytes.now first done.place done.recordings done.bytes }
+    requires chunk { SupersededIs file.bytes.now first count superseded.now }
+    ensures { DoneIs file.entry.bytes.now (first + count) result.place result.recordings result.bytes }
 {
     let mut now = done;
     for m in 0..count {
-        let head = head_at(file, now.place, first + m);
+        let head = file.head_at(now.place, first + m);
         now = counted(now, superseded[m], head.payload);
     }
     now
 }
 
-// Lays recording i, which stands at the walk's place, unless it is superseded.
+// Lays recording i, which stands at the walk's place, unless it is superseded. List and storage stay two
+// parameters: a struct of both would have to promise of each that it is still the same one.
 fn lay_one(
-    file: &[u8],
+    file: SoundFile<'_>,
     i: usize,
     superseded: bool,
     done: Done,
     list: &mut [u32],
     out: &mut [u8],
 ) -> Done
-    requires sound { Sound file.now }
-    requires one { i < length (recordings_of file.now) }
-    requires done { DoneIs file.now i done.place done.recordings done.bytes }
-    requires told { superseded ≡ superseded_at file.now i }
-    requires list { 4 * length (in_force (recordings_of file.now)) ≤ length list.old }
-    requires out { length (payloads (in_force (recordings_of file.now))) ≤ length out.old }
-    ensures done { DoneIs file.now (i + 1) result.place result.recordings result.bytes }
+    requires one { i < length (recordings_of file.bytes.now) }
+    requires done { DoneIs file.bytes.now i done.place done.recordings done.bytes }
+    requires told { superseded ≡ superseded_at file.bytes.now i }
+    requires list { 4 * length (in_force (recordings_of file.bytes.now)) ≤ length list.old }
+    requires out { length (payloads (in_force (recordings_of file.bytes.now))) ≤ length out.old }
+    ensures done { DoneIs file.entry.bytes.now (i + 1) result.place result.recordings result.bytes }
     ensures list { list.new
-        ≡ overlay list.old (4 * done.recordings) (listed (between file.now i 1)) }
+        ≡ overlay list.old (4 * done.recordings) (listed (between file.entry.bytes.now i 1)) }
     ensures out { out.new
-        ≡ overlay out.old done.bytes (payloads (between file.now i 1)) }
+        ≡ overlay out.old done.bytes (payloads (between file.entry.bytes.now i 1)) }
 {
     let place = done.place;
-    let head = head_at(file, place, i);
+    let head = file.head_at(place, i);
     if superseded {
         return counted(done, true, head.payload);
     }
@@ -137,7 +148,7 @@ fn lay_one(
 
 // Lays the recordings in force of a chunk that begins with recording `first`.
 pub fn lay_chunk(
-    file: &[u8],
+    file: SoundFile<'_>,
     first: usize,
     superseded: &[bool],
     count: usize,
@@ -145,16 +156,15 @@ pub fn lay_chunk(
     list: &mut [u32],
     out: &mut [u8],
 ) -> Done
-    requires sound { Sound file.now }
-    requires done { DoneIs file.now first done.place done.recordings done.bytes }
-    requires chunk { SupersededIs file.now first count superseded.now }
-    requires list { 4 * length (in_force (recordings_of file.now)) ≤ length list.old }
-    requires out { length (payloads (in_force (recordings_of file.now))) ≤ length out.old }
-    ensures done { DoneIs file.now (first + count) result.place result.recordings result.bytes }
+    requires done { DoneIs file.bytes.now first done.place done.recordings done.bytes }
+    requires chunk { SupersededIs file.bytes.now first count superseded.now }
+    requires list { 4 * length (in_force (recordings_of file.bytes.now)) ≤ length list.old }
+    requires out { length (payloads (in_force (recordings_of file.bytes.now))) ≤ length out.old }
+    ensures done { DoneIs file.entry.bytes.now (first + count) result.place result.recordings result.bytes }
     ensures list { list.new
-        ≡ overlay list.old (4 * done.recordings) (listed (between file.now first count)) }
+        ≡ overlay list.old (4 * done.recordings) (listed (between file.entry.bytes.now first count)) }
     ensures out { out.new
-        ≡ overlay out.old done.bytes (payloads (between file.now first count)) }
+        ≡ overlay out.old done.bytes (payloads (between file.entry.bytes.now first count)) }
 {
     let mut now = done;
     for m in 0..count {

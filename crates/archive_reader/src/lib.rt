@@ -5,13 +5,14 @@
 
 ghost use Rattle.std.specs.Prelude.{◌≡◌, ◌*◌, ◌≤◌, length};
 ghost use Rattle.overlay.specs.Overlay.{overlay};
-ghost use Rattle.archive.specs.Listing.{recordings_of, in_force, listed, payloads, Sound};
+ghost use Rattle.archive.specs.Listing.{recordings_of, in_force, listed, payloads};
 ghost use Rattle.archive_reader.specs.Read.{refusal_of, view_read, read_entry, CountsAre};
 
 use answers::Refusal;
 use archive_chunks::chunk_at;
 use archive_payloads::{Done, count_chunk, lay_chunk};
 use block_faults::{blocks_in, good_blocks};
+use recording_heads::SoundFile;
 
 // What an archive holds: how many recordings are in force, and the bytes of their payloads.
 #[derive(Clone, Copy, Debug, PartialEq, Eq)]
@@ -44,9 +45,8 @@ impl From<ArchiveFault> for Refusal {
 }
 
 // Counts the recordings in force, chunk by chunk, where none is there twice.
-fn count_all(file: &[u8]) -> Result<Contents, ArchiveFault>
-    requires { Sound file.now }
-    ensures { CountsAre file.now result }
+fn count_all(file: SoundFile<'_>) -> Result<Contents, ArchiveFault>
+    ensures { CountsAre file.entry.bytes.now result }
 {
     let mut done = Done {
         place: 0,
@@ -55,7 +55,7 @@ fn count_all(file: &[u8]) -> Result<Contents, ArchiveFault>
     };
     let mut first: usize = 0;
     let mut twice = false;
-    while done.place < file.len() {
+    while done.place < file.bytes.len() {
         let chunk = chunk_at(file, done.place, first);
         let superseded = chunk.superseded;
         let count = chunk.count;
@@ -73,12 +73,11 @@ fn count_all(file: &[u8]) -> Result<Contents, ArchiveFault>
 }
 
 // Lays the recordings in force, chunk by chunk.
-fn deliver(file: &[u8], list: &mut [u32], out: &mut [u8])
-    requires sound { Sound file.now }
-    requires list { 4 * length (in_force (recordings_of file.now)) ≤ length list.old }
-    requires out { length (payloads (in_force (recordings_of file.now))) ≤ length out.old }
-    ensures list { list.new ≡ overlay list.old 0 (listed (in_force (recordings_of file.now))) }
-    ensures out { out.new ≡ overlay out.old 0 (payloads (in_force (recordings_of file.now))) }
+fn deliver(file: SoundFile<'_>, list: &mut [u32], out: &mut [u8])
+    requires list { 4 * length (in_force (recordings_of file.bytes.now)) ≤ length list.old }
+    requires out { length (payloads (in_force (recordings_of file.bytes.now))) ≤ length out.old }
+    ensures list { list.new ≡ overlay list.old 0 (listed (in_force (recordings_of file.entry.bytes.now))) }
+    ensures out { out.new ≡ overlay out.old 0 (payloads (in_force (recordings_of file.entry.bytes.now))) }
 {
     let mut done = Done {
         place: 0,
@@ -86,7 +85,7 @@ fn deliver(file: &[u8], list: &mut [u32], out: &mut [u8])
         bytes: 0,
     };
     let mut first: usize = 0;
-    while done.place < file.len() {
+    while done.place < file.bytes.len() {
         let chunk = chunk_at(file, done.place, first);
         let superseded = chunk.superseded;
         let count = chunk.count;
@@ -106,10 +105,11 @@ pub fn read_archive(file: &[u8], list: &mut [u32], out: &mut [u8]) -> Result<Con
     if good < blocks_in(file.len()) {
         return Err(ArchiveFault::BadBlock { block: good });
     }
-    let contents = count_all(file)?;
+    let sound = SoundFile { bytes: file };
+    let contents = count_all(sound)?;
     if list.len() < 4 * contents.recordings || out.len() < contents.bytes {
         return Err(ArchiveFault::OutputTooShort);
     }
-    deliver(file, list, out);
+    deliver(sound, list, out);
     Ok(contents)
 }

@@ -5,11 +5,10 @@ use mathlib.Core.Bool.{Bool, true, false, cond}
 use mathlib.Core.List.{List}
 use Prim.Native.Nat.{ℕ, zero, suc, ◌+◌, ◌-◌, ◌*◌, ◌≤◌, ◌<◌, min}
 use native.Mathlib.Omega.{arith}
-use borrow.Author.Tests.{ltb-true, ltb-false}
+use borrow.Author.Tests.{ltb-true, ltb-false, leb-false}
 use lib.Dec.{ltb}
 use Rattle.archive.specs.Block.{number_at}
-use Rattle.archive.specs.Faults.{announced_by, used_asked, finished, next_before}
-use Rattle.block_faults.specs.Open.{Open}
+use Rattle.archive.specs.Faults.{announced_by, used_asked, finished}
 
 module _ (announced before : ℕ) where
   -- what is left of a stream, or all the data bytes of a block
@@ -32,13 +31,10 @@ module _ (announced before : ℕ) where
       go true e = omega (arith, ltb-true (12 + announced) (504 * (before + 1)) e)
       go false e = omega arith
 
-  -- behind a last block none of a recording stands
-  pub next-none : finished announced before ≡ true → 0 ≡ next_before announced before
-  next-none e = rw e
-
-  -- behind another one that block does
-  pub next_more : finished announced before ≡ false → before + 1 ≡ next_before announced before
-  next_more e = rw e
+  -- a recording that does not end with a block goes on behind it
+  pub next_within : finished announced before ≡ false → 504 * (before + 1) ≤ 12 + announced
+  unfolding finished
+  next_within e = omega (arith, leb-false (12 + announced) (504 * (before + 1)) e)
 
 module _ (announced before : ℕ) (block : List ℕ) where
   -- the first block of a recording announces its payload length
@@ -47,14 +43,10 @@ module _ (announced before : ℕ) (block : List ℕ) where
   announced_first z = rw z
 
   -- the others have that of the first
-  pub announced_before : (before ≡ 0 → ⊥) → announced ≡ announced_by announced before block
+  pub announced_before : 0 < before → announced ≡ announced_by announced before block
   unfolding announced_by
-  announced_before n = go before n
+  announced_before h = go before h
     where
-      go : (k : ℕ) → (k ≡ 0 → ⊥) → announced ≡ announced_by announced k block
-      go zero n = absurd (n refl)
-      go (suc k) n = refl
-
--- no block of a recording exceeds it before its first one
-pub open_first : (announced before : ℕ) → announced < 4294967296 → before ≡ 0 → Open announced before
-open_first announced before h z = record { small = h; within = omega arith }
+      go : (k : ℕ) → 0 < k → announced ≡ announced_by announced k block
+      go zero h = absurd (omega arith)
+      go (suc k) h = refl

@@ -1,41 +1,23 @@
 -- The blocks of a file, judged one after the other.
 -- Assumes nothing.
 use mathlib.Core.Path.{◌≡◌, refl, sym, ◌∙◌}
-use mathlib.Core.Bool.{Bool, true, false, cond}
+use mathlib.Core.Bool.{Bool, true, false}
 use mathlib.Core.List.{List, ◌∷◌}
 use Prim.Native.Nat.{ℕ, suc, ◌+◌, ◌-◌, ◌*◌, ◌≤◌, ◌<◌}
 use native.Mathlib.Omega.{arith}
-use borrow.Author.Tests.{eq-eqb, ne_eqb, eqb-true, eqb-false, leb-false}
-use lib.Dec.{eqb, leb}
+use borrow.Author.Tests.{eq-eqb, ne_eqb, eqb-true, eqb-false}
+use lib.Dec.{eqb}
 use lib.ListN.{length, take, drop, length-take, length-drop}
 use lib.Seq.{drop-drop, length-take-le}
-use Rattle.answers.specs.Limits.{max_payload_bytes}
 use Rattle.archive.specs.Block.{block_bytes}
-use Rattle.archive.specs.Faults.{cut, blocks_in, announced_by, finished, wrong, none_left, next_before}
+use Rattle.archive.specs.Faults.{cut, blocks_in, announced_by, wrong, none_left, next_before}
 use Rattle.archive.specs.Faults.{good, good_blocks}
-use Rattle.archive.proofs.FaultLaws.{good-ends, good_counts, none_left_lem, passes-right}
-use Rattle.block_faults.specs.Open.{Open}
+use Rattle.archive.proofs.FaultLaws.{good-ends, good_counts, none_left_lem}
 use Rattle.block_faults.proofs.WrongLaws.{wrong-short}
-
--- a right block leaves its recording open, or ends it
-pub open_next : (last : Bool) (announced before : ℕ) (b : List ℕ) → wrong last announced before b ≡ false
-    → Open announced (next_before announced before)
-unfolding finished
-open_next last announced before b e =
-    let limit = (passes-right last announced before b e).limit in
-    go limit (leb (12 + announced) (504 * (before + 1))) refl
-  where
-    go : announced ≤ max_payload_bytes → (t : Bool) → leb (12 + announced) (504 * (before + 1)) ≡ t
-        → Open announced (cond t 0 (before + 1))
-    go limit true q = record { small = omega arith; within = omega arith }
-    go limit false q =
-        let h = leb-false (12 + announced) (504 * (before + 1)) q in
-        record { small = omega arith; within = omega arith }
 
 -- the first i blocks are right, and the others are judged by these two numbers
 pub record Judged (file : List ℕ) (announced before i : ℕ) : Type 0 where
   pub here : i ≤ blocks_in file
-  pub state : Open announced before
   pub left : i + good announced before (cut (blocks_in file - i) (drop (512 * i) file)) ≡ good_blocks file
 
 -- none was judged
@@ -44,7 +26,6 @@ judged_none file =
     let e : blocks_in file - 0 ≡ blocks_in file = omega arith in
     record {
       here = omega arith;
-      state = record { small = omega arith; within = omega arith };
       left = rw e (omega arith);
     }
 
@@ -62,10 +43,10 @@ pub told_at : (file : List ℕ) (i announced before l : ℕ)
     → l ≡ announced_by announced before (block_at file i)
 told_at file i announced before l e = e ∙ rw (block_at_lem file i)
 
-pub judged_at : (file : List ℕ) (i l before count : ℕ) (bad : Bool) → count ≡ blocks_in file
-    → bad ≡ wrong (eqb (i + 1) count) l before (take (512 * i + 512 - 512 * i) (drop (512 * i) file))
+pub judged_at : (file : List ℕ) (i l b before count : ℕ) (bad : Bool) → b ≡ before → count ≡ blocks_in file
+    → bad ≡ wrong (eqb (i + 1) count) l b (take (512 * i + 512 - 512 * i) (drop (512 * i) file))
     → bad ≡ wrong (eqb (i + 1) (blocks_in file)) l before (block_at file i)
-judged_at file i l before count bad of e = e ∙ rw (of, block_at_lem file i)
+judged_at file i l b before count bad same of e = e ∙ rw (same, of, block_at_lem file i)
 
 -- and has 512 bytes where so many are left
 pub block-whole : (file : List ℕ) (i : ℕ) → 512 ≤ length file - 512 * i
@@ -118,7 +99,6 @@ module _ (file : List ℕ) (announced before i : ℕ) (h : i < blocks_in file)
         let k = rw (parts, g) at j.left in
         record {
           here = omega arith;
-          state = rw n (open_next (eqb (i + 1) (blocks_in file)) l before (block_at file i) (sym judged ∙ e));
           left = rw (n, is) (omega arith);
         }
 

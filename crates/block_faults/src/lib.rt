@@ -4,12 +4,11 @@
 
 #![tactic(auto)]
 
-ghost use Rattle.std.specs.Prelude.{◌≡◌, ◌==◌, ◌+◌, ◌-◌, ◌/◌, ◌≤◌, ◌<◌, length, take, drop};
+ghost use Rattle.std.specs.Prelude.{◌≡◌, ◌==◌, ◌+◌, ◌-◌, ◌*◌, ◌/◌, ◌≤◌, ◌<◌, length, take, drop};
 ghost use Rattle.std.specs.List.{list_all};
 ghost use Rattle.archive.specs.Block.{block_bytes, number_at};
 ghost use Rattle.archive.specs.Faults.{announced_by, used_asked, finished, wrong, next_before};
 ghost use Rattle.archive.specs.Faults.{good_blocks};
-ghost use Rattle.block_faults.specs.Open.{Open};
 
 use answers::limits::MAX_PAYLOAD_BYTES;
 use block_check::{BLOCK_BYTES, CHECKED_BYTES, HEAD_BYTES, MAX_USED, check_of};
@@ -32,20 +31,67 @@ fn number_at(block: &[u8], at: usize) -> usize
     number(block[at], block[at + 1], block[at + 2], block[at + 3]) as usize
 }
 
-// Whether the block is the last of its recording.
-fn is_last(announced: usize, before: usize) -> bool
-    requires { Open announced before }
-    ensures { result ≡ finished announced before }
-{
-    HEAD_BYTES + announced <= MAX_USED * (before + 1)
+// A block's position in its recording: the payload length that the recording announced, and how many of
+// its blocks stand before.
+#[derive(Clone, Copy)]
+struct Position {
+    announced: usize,
+    before: usize,
+    ghost small: { announced < 4294967296 },
+    ghost within: { 504 * before ≤ 12 + announced },
 }
 
-// The used bytes that the block has to have: what is left of the stream, at most 504.
-fn used_asked(announced: usize, before: usize) -> usize
-    requires { Open announced before }
-    ensures { result ≡ used_asked announced before }
-{
-    (HEAD_BYTES + announced - MAX_USED * before).min(MAX_USED)
+impl Position {
+    // Before the first block: no recording has begun.
+    fn first() -> Position
+        ensures { (result.announced ≡ 0) × (result.before ≡ 0) }
+    {
+        Position {
+            announced: 0,
+            before: 0,
+        }
+    }
+
+    // Whether the block is the last of its recording.
+    fn is_last(self) -> bool
+        ensures { result ≡ finished self.announced self.before }
+    {
+        HEAD_BYTES + self.announced <= MAX_USED * (self.before + 1)
+    }
+
+    // The used bytes that the block has to have: what is left of the stream, at most 504.
+    fn used_asked(self) -> usize
+        ensures { result ≡ used_asked self.announced self.before }
+    {
+        (HEAD_BYTES + self.announced - MAX_USED * self.before).min(MAX_USED)
+    }
+
+    // With the payload length that the recording announced: in this block where it is the first, or before.
+    fn announced_by(self, block: &[u8]) -> Position
+        requires { length block.now ≡ block_bytes }
+        ensures announced { result.announced ≡ announced_by self.announced self.before block.now }
+        ensures before { result.before ≡ self.before }
+    {
+        if self.before > 0 {
+            return self;
+        }
+        Position {
+            announced: number_at(block, 12),
+            before: 0,
+        }
+    }
+
+    // The position of the next block: in the same recording, or at the start of another one.
+    fn next(self) -> Position
+        ensures announced { result.announced ≡ self.announced }
+        ensures before { result.before ≡ next_before self.announced self.before }
+    {
+        let before = if self.is_last() { 0 } else { self.before + 1 };
+        Position {
+            announced: self.announced,
+            before,
+        }
+    }
 }
 
 // Whether every byte is 0.
@@ -57,47 +103,20 @@ fn is_clear(bytes: &[u8]) -> bool
 
 // Whether something is wrong with a whole block.
 #[tactic(auto, using(crate::proofs::WrongLaws::wrong_long))]
-fn block_wrong(block: &[u8], announced: usize, before: usize, last: bool) -> bool
-    requires size { length block.now ≡ block_bytes }
-    requires open { Open announced before }
-    ensures { result ≡ wrong last announced before block.now }
+fn block_wrong(block: &[u8], position: Position, last: bool) -> bool
+    requires { length block.now ≡ block_bytes }
+    ensures { result ≡ wrong last position.announced position.before block.now }
 {
     let used = short_at(block, 2);
     if check_of(block) as usize != number_at(block, CHECKED_BYTES)
-        || announced > MAX_PAYLOAD_BYTES
-        || short_at(block, 0) != before
-        || used != used_asked(announced, before)
+        || position.announced > MAX_PAYLOAD_BYTES
+        || short_at(block, 0) != position.before
+        || used != position.used_asked()
         || !is_clear(&block[4 + used..CHECKED_BYTES])
     {
         return true;
     }
-    last && !is_last(announced, before)
-}
-
-// The payload length that the block's recording announced: in its first block, or before.
-fn announced_by(block: &[u8], announced: usize, before: usize) -> usize
-    requires size { length block.now ≡ block_bytes }
-    requires open { Open announced before }
-    ensures is { result ≡ announced_by announced before block.now }
-    ensures open { Open result before }
-{
-    if before == 0 {
-        number_at(block, 12)
-    } else {
-        announced
-    }
-}
-
-// How many blocks of its recording stand before the next block.
-fn next_before(announced: usize, before: usize) -> usize
-    requires { Open announced before }
-    ensures { result ≡ next_before announced before }
-{
-    if is_last(announced, before) {
-        0
-    } else {
-        before + 1
-    }
+    last && !position.is_last()
 }
 
 // How many blocks so many bytes are: a started one counts.
@@ -112,19 +131,18 @@ pub fn good_blocks(file: &[u8]) -> usize
     ensures { result ≡ good_blocks file.now }
 {
     let count = blocks_in(file.len());
-    let mut announced = 0;
-    let mut before = 0;
+    let mut position = Position::first();
     for i in 0..count {
         let at = BLOCK_BYTES * i;
         if file.len() - at < BLOCK_BYTES {
             return i;
         }
         let block = &file[at..at + BLOCK_BYTES];
-        announced = announced_by(block, announced, before);
-        if block_wrong(block, announced, before, i + 1 == count) {
+        position = position.announced_by(block);
+        if block_wrong(block, position, i + 1 == count) {
             return i;
         }
-        before = next_before(announced, before);
+        position = position.next();
     }
     count
 }

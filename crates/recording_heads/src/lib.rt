@@ -6,9 +6,29 @@ ghost use Rattle.std.specs.Prelude.{◌≡◌, ◌+◌, ◌*◌, ◌≤◌, ◌<
 ghost use Rattle.archive.specs.Recording.{blocks_for};
 ghost use Rattle.archive.specs.Listing.{recordings_of, Sound};
 ghost use Rattle.archive.specs.Places.{At, HeadAt, HeadOf, recording_at};
+ghost use Rattle.archive.proofs.SoundLaws.{sound-prop};
 
 use block_check::{BLOCK_BYTES, HEAD_BYTES, MAX_USED};
 use little_endian::{number, short_number};
+
+// A file of which no block is bad.
+#[derive(Clone, Copy)]
+pub struct SoundFile<'a> {
+    pub bytes: &'a [u8],
+    pub ghost sound: { Sound bytes.now } by { sound-prop bytes.now },
+}
+
+impl SoundFile<'_> {
+    // The numbers of recording i, which stands at the place.
+    pub fn head_at(self, at: usize, i: usize) -> Head
+        requires place { At self.bytes.now at i }
+        requires one { i < length (recordings_of self.bytes.now) }
+        ensures { HeadOf (recording_at self.entry.bytes.now i)
+            result.house result.start result.issue result.payload }
+    {
+        read_head(self.bytes, at)
+    }
+}
 
 // House, start second, issue, and the payload's length.
 #[derive(Clone, Copy)]
@@ -30,16 +50,6 @@ fn read_head(file: &[u8], at: usize) -> Head
         issue: short_number(file[at + 10], file[at + 11]),
         payload: number(file[at + 12], file[at + 13], file[at + 14], file[at + 15]),
     }
-}
-
-// The numbers of recording i, which stands at the place.
-pub fn head_at(file: &[u8], at: usize, i: usize) -> Head
-    requires sound { Sound file.now }
-    requires place { At file.now at i }
-    requires one { i < length (recordings_of file.now) }
-    ensures { HeadOf (recording_at file.now i) result.house result.start result.issue result.payload }
-{
-    read_head(file, at)
 }
 
 // The bytes that a recording takes in the file.

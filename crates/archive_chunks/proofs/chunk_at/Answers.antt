@@ -12,7 +12,7 @@ chain-requires-clause-heads c = no_heads
 
 pub mark_all-twice-requires-clause-places : goal.mark_all-twice-requires-clause-places
 mark_all-twice-requires-clause-places c =
-    omega (arith, recordings-few c.args.file.now c.requires.sound, c.requires.place.within)
+    omega (arith, recordings-few c.args.file.bytes.now c.args.file.sound, c.requires.place.within)
 
 pub mark_all-twice-requires-clause-unmarked : goal.mark_all-twice-requires-clause-unmarked
 mark_all-twice-requires-clause-unmarked c = no_marks chunk _
@@ -20,4 +20,4 @@ mark_all-twice-requires-clause-unmarked c = no_marks chunk _
 pub returns : goal.returns
 returns c =
     let m = c.mark_all-twice.ensures in
-    chunk-is _ c.requires.sound c.load_keys-loaded.ensures m.marks m.met (search rules)
+    chunk-is _ c.args.file.sound c.load_keys-loaded.ensures m.marks m.met (search rules)

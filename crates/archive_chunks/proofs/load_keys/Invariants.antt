@@ -5,4 +5,4 @@ use Rattle.archive_chunks.proofs.LoadLaws.{Loading}
 use Rattle.archive_chunks.proofs.load_keys.Given as goal
 
 abbrev pub invariant-loop-count : goal.invariant-loop-count
-invariant-loop-count l = Loading l.file l.at l.first l.keys l.next l.count
+invariant-loop-count l = Loading l.file.bytes.now l.at l.first l.keys l.next l.count

@@ -7,7 +7,9 @@ use Rattle.archive_chunks.proofs.WalkLaws.{Walked}
 use Rattle.archive_chunks.proofs.mark_all.Given as goal
 
 abbrev pub invariant-loop-at : goal.invariant-loop-at
-invariant-loop-at l = Walked l.file l.first l.keys l.count l.initial.marks l.marks l.twice l.at l.index
+invariant-loop-at l =
+    let file = l.file.bytes.now in
+    Walked file l.first l.keys l.count l.initial.marks l.marks l.twice l.at l.index
 
 abbrev pub decreases-loop-at : goal.decreases-loop-at
-decreases-loop-at l = length l.file - l.at
+decreases-loop-at l = length l.file.bytes.now - l.at

@@ -35,29 +35,34 @@ loop-done-init c = copied_none _ _ _ (omega (arith, c.requires.size, c.requires.
 pub part-count-requires : goal.part-count-requires
 part-count-requires c =
     let r = c.requires in
-    (omega arith, omega (arith, limit r.sound r.place r.one r.size))
+    let sound = c.args.file.sound in
+    (omega arith, omega (arith, limit sound r.place r.one r.size))
 
 pub source-from-requires : goal.source-from-requires
 source-from-requires c =
     let r = c.requires in
-    let l = limit r.sound r.place r.one r.size in
-    let f = fits r.sound r.place r.one r.size _ _ c.part-count.ensures in
+    let sound = c.args.file.sound in
+    let l = limit sound r.place r.one r.size in
+    let f = fits sound r.place r.one r.size _ _ c.part-count.ensures in
     (omega arith, omega arith)
 
 pub overflow_add-end : goal.overflow_add-end
 overflow_add-end c =
     let r = c.requires in
-    omega (arith, fits r.sound r.place r.one r.size _ _ c.part-count.ensures, c.source-from.ensures)
+    let sound = c.args.file.sound in
+    omega (arith, fits sound r.place r.one r.size _ _ c.part-count.ensures, c.source-from.ensures)
 
 pub slice_bounds-put_text-end : goal.slice_bounds-put_text-end
 slice_bounds-put_text-end c =
     let r = c.requires in
-    omega (arith, fits r.sound r.place r.one r.size _ _ c.part-count.ensures, c.source-from.ensures)
+    let sound = c.args.file.sound in
+    omega (arith, fits sound r.place r.one r.size _ _ c.part-count.ensures, c.source-from.ensures)
 
 pub loop-done-preserved : goal.loop-done-preserved
 loop-done-preserved c =
     let r = c.requires in
+    let sound = c.args.file.sound in
     let p = c.part-count.ensures in
     copied_more _ _ _ (omega (arith, r.size, r.room)) _ _ _ _ _ c.loop-done.invariant
-    (omega (arith, p.left, r.size)) (next-is r.sound r.place r.one r.size _ _ _ p c.source-from.ensures)
+    (omega (arith, p.left, r.size)) (next-is sound r.place r.one r.size _ _ _ p c.source-from.ensures)
     c.put_text.ensures.bytes

@@ -7,7 +7,7 @@ use Rattle.archive_payloads.proofs.count_chunk.Goals as goal
 
 pub overflow_add-first : goal.overflow_add-first
 overflow_add-first c =
-    omega (arith, recordings-few c.args.file.now c.requires.sound, c.requires.chunk.within)
+    omega (arith, recordings-few c.args.file.bytes.now c.args.file.sound, c.requires.chunk.within)
 
 pub loop-m-preserved : goal.loop-m-preserved
 loop-m-preserved c =

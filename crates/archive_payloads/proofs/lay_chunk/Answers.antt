@@ -9,7 +9,7 @@ use Rattle.archive_payloads.proofs.lay_chunk.Goals as goal
 
 pub loop-m-init : goal.loop-m-init
 loop-m-init c =
-    let file = c.args.file.now in
+    let file = c.args.file.bytes.now in
     let first = c.args.first in (
       rw (add-zero first) c.requires.done,
       list-none file first _ _,
@@ -18,7 +18,7 @@ loop-m-init c =
 
 pub overflow_add-first : goal.overflow_add-first
 overflow_add-first c =
-    omega (arith, recordings-few c.args.file.now c.requires.sound, c.requires.chunk.within)
+    omega (arith, recordings-few c.args.file.bytes.now c.args.file.sound, c.requires.chunk.within)
 
 pub loop-m-preserved : goal.loop-m-preserved
 loop-m-preserved c =

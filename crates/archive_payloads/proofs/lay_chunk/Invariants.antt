@@ -9,6 +9,7 @@ use Rattle.archive_payloads.proofs.lay_chunk.Given as goal
 
 abbrev pub invariant-loop-m : goal.invariant-loop-m
 invariant-loop-m l =
-    DoneIs l.file (l.first + l.m) l.now.place l.now.recordings l.now.bytes
-    × Grown l.initial.list l.list (4 * l.initial.now.recordings) (listed (between l.file l.first l.m))
-    × Grown l.initial.out l.out l.initial.now.bytes (payloads (between l.file l.first l.m))
+    let file = l.file.bytes.now in
+    DoneIs file (l.first + l.m) l.now.place l.now.recordings l.now.bytes
+    × Grown l.initial.list l.list (4 * l.initial.now.recordings) (listed (between file l.first l.m))
+    × Grown l.initial.out l.out l.initial.now.bytes (payloads (between file l.first l.m))

@@ -50,10 +50,10 @@ pub returns-clause-list : goal.returns-clause-list
 returns-clause-list c =
     let r = c.requires in
     c.lay_entry.ensures ∙ ap (overlay c.args.list.now (4 * c.args.done.recordings))
-    (its_numbers c.args.file.now c.args.i r.one (sym r.told ∙ c.if-superseded.false) c.head_at-head.ensures)
+    (its_numbers _ c.args.i r.one (sym r.told ∙ c.if-superseded.false) c.head_at-head.ensures)
 
 pub returns-clause-out : goal.returns-clause-out
 returns-clause-out c =
     let r = c.requires in
     c.copy_payload.ensures ∙ ap (overlay c.args.out.now c.args.done.bytes)
-    (its_bytes c.args.file.now c.args.i r.one (sym r.told ∙ c.if-superseded.false))
+    (its_bytes _ c.args.i r.one (sym r.told ∙ c.if-superseded.false))

@@ -7,11 +7,11 @@ use Rattle.archive_reader.proofs.ReaderLaws.{apart_none, apart_more, done_none, 
 use Rattle.archive_reader.proofs.count_all.Goals as goal
 
 pub loop-done-init : goal.loop-done-init
-loop-done-init c = (done_none _ c.requires, apart_none _)
+loop-done-init c = (done_none _ c.args.file.sound, apart_none _)
 
 pub overflow_add-first : goal.overflow_add-first
 overflow_add-first c =
-    omega (arith, recordings-few c.args.file.now c.requires, c.chunk_at-chunk.ensures.place.within)
+    omega (arith, recordings-few _ c.args.file.sound, c.chunk_at-chunk.ensures.place.within)
 
 pub loop-done-preserved : goal.loop-done-preserved
 loop-done-preserved c = (
@@ -21,10 +21,12 @@ loop-done-preserved c = (
 
 pub returns-then-twice : goal.returns-then-twice
 returns-then-twice c =
-    let a = counts_all _ c.requires c.loop-done.invariant.0 c.loop-done.invariant.1 c.loop-done-test.false in
+    let i = c.loop-done.invariant in
+    let a = counts_all _ c.args.file.sound i.0 i.1 c.loop-done-test.false in
     (sym a.0 ∙ c.if-twice.true, refl)
 
 pub returns : goal.returns
 returns c =
-    let a = counts_all _ c.requires c.loop-done.invariant.0 c.loop-done.invariant.1 c.loop-done-test.false in
+    let i = c.loop-done.invariant in
+    let a = counts_all _ c.args.file.sound i.0 i.1 c.loop-done-test.false in
     (sym a.0 ∙ c.if-twice.false, a.1)

@@ -10,7 +10,8 @@ use Rattle.archive_reader.proofs.count_all.Given as goal
 
 abbrev pub invariant-loop-done : goal.invariant-loop-done
 invariant-loop-done l =
-    DoneIs l.file l.first l.done.place l.done.recordings l.done.bytes × Apart l.file l.first l.twice
+    let file = l.file.bytes.now in
+    DoneIs file l.first l.done.place l.done.recordings l.done.bytes × Apart file l.first l.twice
 
 abbrev pub decreases-loop-done : goal.decreases-loop-done
-decreases-loop-done l = length (recordings_of l.file) - l.first
+decreases-loop-done l = length (recordings_of l.file.bytes.now) - l.first

@@ -7,12 +7,12 @@ use Rattle.archive_reader.proofs.deliver.Goals as goal
 
 pub loop-done-init : goal.loop-done-init
 loop-done-init c =
-    let n = laid_none c.args.file.now c.args.list.now c.args.out.now in
-    (done_none _ c.requires.sound, n.0, n.1)
+    let n = laid_none c.args.file.bytes.now c.args.list.now c.args.out.now in
+    (done_none _ c.args.file.sound, n.0, n.1)
 
 pub overflow_add-first : goal.overflow_add-first
 overflow_add-first c =
-    omega (arith, recordings-few c.args.file.now c.requires.sound, c.chunk_at-chunk.ensures.place.within)
+    omega (arith, recordings-few _ c.args.file.sound, c.chunk_at-chunk.ensures.place.within)
 
 pub loop-done-preserved : goal.loop-done-preserved
 loop-done-preserved c =
@@ -26,9 +26,9 @@ loop-done-preserved c =
 pub returns-clause-list : goal.returns-clause-list
 returns-clause-list c =
     let l = c.loop-done.invariant in
-    (all_laid c.args.file.now l.0 c.loop-done-test.false l.1 l.2).0
+    (all_laid c.args.file.bytes.now l.0 c.loop-done-test.false l.1 l.2).0
 
 pub returns-clause-out : goal.returns-clause-out
 returns-clause-out c =
     let l = c.loop-done.invariant in
-    (all_laid c.args.file.now l.0 c.loop-done-test.false l.1 l.2).1
+    (all_laid c.args.file.bytes.now l.0 c.loop-done-test.false l.1 l.2).1

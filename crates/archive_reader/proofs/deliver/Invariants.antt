@@ -10,9 +10,10 @@ use Rattle.archive_reader.proofs.deliver.Given as goal
 
 abbrev pub invariant-loop-done : goal.invariant-loop-done
 invariant-loop-done l =
-    DoneIs l.file l.first l.done.place l.done.recordings l.done.bytes
-    × Grown l.initial.list l.list 0 (listed (kept l.file l.first))
-    × Grown l.initial.out l.out 0 (payloads (kept l.file l.first))
+    let file = l.file.bytes.now in
+    DoneIs file l.first l.done.place l.done.recordings l.done.bytes
+    × Grown l.initial.list l.list 0 (listed (kept file l.first))
+    × Grown l.initial.out l.out 0 (payloads (kept file l.first))
 
 abbrev pub decreases-loop-done : goal.decreases-loop-done
-decreases-loop-done l = length (recordings_of l.file) - l.first
+decreases-loop-done l = length (recordings_of l.file.bytes.now) - l.first

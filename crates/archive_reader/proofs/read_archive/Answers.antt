@@ -37,15 +37,12 @@ pub returns-then-good-blocks_in : goal.returns-then-good-blocks_in
 returns-then-good-blocks_in c =
     read_bad _ _ _ _ _ c.good_blocks-good.ensures c.blocks_in.ensures c.if-good-blocks_in.true
 
-pub count_all-requires : goal.count_all-requires
-count_all-requires c =
-    whole _ c.good_blocks-good.ensures c.blocks_in.ensures c.if-good-blocks_in.false
-    (λ i. (c.type_inv.file i).fits)
-
-pub deliver-requires-clause-sound : goal.deliver-requires-clause-sound
-deliver-requires-clause-sound c =
-    whole _ c.good_blocks-good.ensures c.blocks_in.ensures c.if-good-blocks_in.false
-    (λ i. (c.type_inv.file i).fits)
+pub invariant_of-sound : goal.invariant_of-sound
+invariant_of-sound c =
+    let ok = c.if-good-blocks_in.false in
+    record {
+      sound = whole _ c.good_blocks-good.ensures c.blocks_in.ensures ok (λ i. (c.type_inv.file i).fits);
+    }
 
 pub returns-in_err-contents : goal.returns-in_err-contents
 returns-in_err-contents c =

@@ -5,4 +5,4 @@ use Rattle.block_faults.proofs.GoodLaws.{Judged}
 use Rattle.block_faults.proofs.good_blocks.Given as goal
 
 abbrev pub invariant-loop-i : goal.invariant-loop-i
-invariant-loop-i l = Judged l.file l.announced l.before l.i
+invariant-loop-i l = Judged l.file l.position.announced l.position.before l.i

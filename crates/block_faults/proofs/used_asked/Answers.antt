@@ -1,8 +1,0 @@
--- `block_faults::used_asked` meets its contract.
--- Assumes nothing.
-use mathlib.Core.Path.{◌∙◌}
-use Rattle.block_faults.proofs.AskedLaws.{asked-is}
-use Rattle.block_faults.proofs.used_asked.Goals as goal
-
-pub returns : goal.returns
-returns c = c.min.ensures ∙ asked-is c.args.announced c.args.before
