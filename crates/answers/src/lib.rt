@@ -5,7 +5,6 @@
 #![tactic(auto)]
 
 ghost use Rattle.std.specs.Prelude.{◌≡◌};
-ghost use Rattle.answers.specs.Guard.{or_else};
 ghost use Rattle.answers.specs.Numbers.{number_of, outcome_number};
 
 pub mod limits;
@@ -53,7 +52,8 @@ pub enum Refusal {
     RecordingTwice,
 }
 
-// The number of a refusal, 1 to 19.
+// The number of a refusal, 1 to 19: by its name and no discriminant, since the numbers stay whatever the
+// order of the names.
 pub fn number(refusal: Refusal) -> u32
     ensures { result ≡ number_of refusal }
 {
@@ -88,11 +88,4 @@ pub fn outcome_number<T>(answer: &Result<T, Refusal>) -> u32
         Ok(_) => 0,
         Err(refusal) => number(*refusal),
     }
-}
-
-// The first of two outcomes that is a refusal.
-pub fn or_else(first: Result<(), Refusal>, later: Result<(), Refusal>) -> Result<(), Refusal>
-    ensures { outcome_number result ≡ or_else (outcome_number first) (outcome_number later) }
-{
-    first.and(later)
 }

@@ -1,7 +1,8 @@
 // Keys of recordings: house, start second and issue as one number, so that a later issue of a recording
 // is a higher key with the same quotient by 65,536. Keys are looked up a chunk at a time, by chains:
 // `heads` has for each bucket the last key of the chunk in it, and `links` for each key the one before
-// it in the same bucket; both count from 1, and 0 ends a chain.
+// it in the same bucket; both count from 1, and 0 ends a chain. They are arrays of fixed size and no map:
+// the library has no heap.
 
 #![tactic(auto)]
 

@@ -8,7 +8,8 @@ ghost use Rattle.int32_sample.specs.Sample.{below, low_bits, above};
 ghost use Rattle.int32_sample.specs.Setting.{setting, all_ones, width, even_bits, odd_bits};
 
 // How many bits a recording's fields put in below each sample: zeros, ones or copies of its lowest bit, the
-// first of the three that is not 0.
+// first of the three that is not 0. Three numbers and no enum of three cases: the fields of a file and of
+// the C interface are these three.
 #[derive(Clone, Copy)]
 pub struct RedundantBits {
     pub zeros: u32,

@@ -24,5 +24,5 @@ const EXP2_TABLE: [u8; 256] = [
 pub fn mantissa(word: u32) -> u32
     ensures { result ≡ mantissa word }
 {
-    256 + EXP2_TABLE[(word % 256) as usize] as u32
+    256 + u32::from(EXP2_TABLE[(word % 256) as usize])
 }

@@ -19,7 +19,7 @@ use word_state::zero_run_eligible;
 use words::coded::signed_code;
 
 // A word out of the 64 bits at its place: its sample, the bits that it takes, and the medians and
-// flags after it. `on` is false where a run length may stand behind it.
+// flags after it. `on` is false where a run length may stand behind it: all else is told then, too.
 #[derive(Clone, Copy)]
 pub struct ShortWord {
     pub on: bool,

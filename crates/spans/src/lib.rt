@@ -23,18 +23,14 @@ pub fn magnitude(number: i32) -> u32
 pub fn distance(number: i32) -> u32
     ensures { result ≡ nat_abs number }
 {
-    let size = magnitude(number);
-    if number < 0 {
-        return size + 1;
-    }
-    size
+    number.unsigned_abs()
 }
 
 // 1 for a number outside the span, 0 for any other.
 fn excess(number: i32, span: u32) -> u32
     ensures { result ≡ excess_of span number }
 {
-    if magnitude(number) < span { 0 } else { 1 }
+    u32::from(magnitude(number) >= span)
 }
 
 // Whether the magnitude of every number of the list lies below the span.
