@@ -19,10 +19,10 @@ pub fn run_pass(direction: Direction, start: DecorrPass, buffer: &mut [i32]) -> 
     let t = passes::term_of(start.term);
     match t {
         Term::Lag(lag) => run_lag(direction, lag, start, buffer),
-        Term::Seventeen => run_two(direction, false, start, buffer),
-        Term::Eighteen => run_two(direction, true, start, buffer),
-        Term::MinusOne => run_cross(direction, false, start, buffer),
-        Term::MinusTwo => run_cross(direction, true, start, buffer),
+        Term::Seventeen => run_two::<false>(direction, start, buffer),
+        Term::Eighteen => run_two::<true>(direction, start, buffer),
+        Term::MinusOne => run_cross::<false>(direction, start, buffer),
+        Term::MinusTwo => run_cross::<true>(direction, start, buffer),
         Term::MinusThree => run_swap(direction, start, buffer),
         Term::Invalid => run_lag(direction, 0, start, buffer),
     }

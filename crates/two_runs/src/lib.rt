@@ -17,10 +17,10 @@ pub struct LastTwo {
 }
 
 // The source of term 18, or of 17.
-fn two_source(eighteen: bool, last: i32, before: i32) -> i32
-    ensures { result ≡ two_source eighteen last before }
+fn two_source<const EIGHTEEN: bool>(last: i32, before: i32) -> i32
+    ensures { result ≡ two_source EIGHTEEN last before }
 {
-    if eighteen {
+    if EIGHTEEN {
         weights::source_18(last, before)
     } else {
         weights::source_17(last, before)
@@ -59,14 +59,13 @@ fn with_last_two(
 }
 
 // Terms 17 and 18: both channels from their own last two samples.
-pub fn run_two(
+pub fn run_two<const EIGHTEEN: bool>(
     direction: Direction,
-    eighteen: bool,
     start: DecorrPass,
     buffer: &mut [i32],
 ) -> DecorrPass
     ensures { record { pass = result; buffer = buffer.new }
-        ≡ run (turn direction (two_term eighteen)) start 0 buffer.old }
+        ≡ run (turn direction (two_term EIGHTEEN)) start 0 buffer.old }
 {
     let delta = start.delta;
     let mut weight_a = start.weight_a;
@@ -83,8 +82,8 @@ pub fn run_two(
     // No `for` over the frames: the machine code of this form is the faster one.
     while buffer.len() - i > 1 {
         let frame = frame_at(buffer, i);
-        let source_a = two_source(eighteen, a0, a1);
-        let source_b = two_source(eighteen, b0, b1);
+        let source_a = two_source::<EIGHTEEN>(a0, a1);
+        let source_b = two_source::<EIGHTEEN>(b0, b1);
         let a = turn::<false>(direction, weight_a, delta, source_a, frame.a);
         let b = turn::<false>(direction, weight_b, delta, source_b, frame.b);
         store_frame(buffer, i, a.element, b.element);
