@@ -1,4 +1,6 @@
 // Decorrelation and analysis for who has no list to lend: the first passes of an array.
+// An array of 16 with a count and no `Vec`: the library has no heap, and the entries that
+// docs/DECISIONS.md names take it so.
 ghost use Rattle.std.specs.Prelude.{◌≡◌, ◌≤◌, take, drop};
 ghost use Rattle.std.specs.Result.{result_unwrap_or};
 ghost use Rattle.answers.specs.Limits.{max_passes};
