@@ -1,2 +1,3 @@
--- What other crates cite.
+-- What the proof of a function uses, and what other crates cite.
+pub mod TurnLaws
 pub mod ZeroLaws

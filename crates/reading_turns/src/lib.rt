@@ -11,26 +11,16 @@ ghost use Rattle.word_state.specs.State.{side};
 ghost use Rattle.reading_turns.specs.Zeros.{ZerosIs};
 ghost use Rattle.reading_turns.specs.Turns.{WordAt, left_after, AfterRun, AfterSample};
 
+pub mod turn;
+
 use answers::Refusal;
 use entropy::AdaptiveMedians;
 use medians::adaptation::adapt;
 use short_reading::read_short_words;
 use short_steps::Standing;
+pub use turn::Turn;
 use word_state::zero_run_eligible;
 use words::coded::{Coded, read_word};
-
-// Where the reading loop stands between two turns, and the state of the words there. Of the bits read
-// `left_bits` were left's, the others right's.
-#[derive(Clone, Copy)]
-pub struct Turn {
-    pub bits: usize,
-    pub left_bits: usize,
-    pub written: usize,
-    pub medians: [AdaptiveMedians; 2],
-    pub run_break: bool,
-    pub last_zero: bool,
-    pub last_one: bool,
-}
 
 // The word where the loop stands.
 pub fn word_at(payload: &[u8], at: Turn) -> Result<Coded, Refusal>
@@ -64,7 +54,6 @@ fn left_part(written: usize, took: usize) -> usize
 
 // Left's bits after a word that ends at `next`.
 fn left_bits_after(at: Turn, next: usize) -> usize
-    requires part { at.left_bits ≤ at.bits }
     requires on { at.bits ≤ next }
     ensures { result ≡ left_after at next }
 {
@@ -74,7 +63,6 @@ fn left_bits_after(at: Turn, next: usize) -> usize
 // After a run: its zeros are written, and no run length stands before the next word.
 pub fn after_run(out: &mut [i32], at: Turn, owed: u32, next: usize) -> Turn
     requires room { at.written < length out.old }
-    requires part { at.left_bits ≤ at.bits }
     requires on { at.bits ≤ next }
     ensures { AfterRun out.old out.new at owed next result }
 {
@@ -102,7 +90,6 @@ pub fn after_sample(
 ) -> Turn
     requires limit { length payload.now ≤ max_payload_bytes }
     requires room { at.written < length out.old }
-    requires part { at.left_bits ≤ at.bits }
     requires on { at.bits ≤ next }
     ensures { AfterSample payload.now out.old out.new
         at value ones_count next zero one result }

@@ -1,7 +1,7 @@
 -- The reading loop: its invariant, and what a turn and each way out make of it.
 -- Assumes nothing.
 use mathlib.Core.Path.{◌≡◌, refl, sym, ap, ap₂, subst, ◌∙◌}
-use mathlib.Core.Bool.{Bool, true, false}
+use mathlib.Core.Bool.{Bool, true}
 use mathlib.Core.List.{List, [], ◌∷◌, ◌++◌}
 use Prim.Native.Nat.{ℕ, zero, suc, ◌+◌, ◌-◌, ◌%◌, ◌≤◌, ◌<◌}
 use native.Mathlib.Omega.{arith}
@@ -14,7 +14,7 @@ use Rattle.entropy.specs.Medians.{Medians, medians_of, pair_of, zero_set}
 use Rattle.medians.specs.Adaptation.{adapt}
 use Rattle.overlay.specs.Overlay.{overlay}
 use Rattle.overlay.proofs.OverlayLaws.{overlay_first, overlay_none}
-use Rattle.word_state.specs.State.{BitsRead, State, start}
+use Rattle.word_state.specs.State.{BitsRead, State}
 use Rattle.word_state.proofs.StateLaws.{no_set, there}
 use Rattle.words.specs.Word.{given, refused, word}
 use Rattle.words.specs.Parts.{coded_word}
@@ -28,12 +28,11 @@ use Rattle.readings.specs.Costs.{by_stem, left_cost, costs}
 use Rattle.readings.specs.Standing.{prepend, Words}
 use Rattle.readings.proofs.ReadingLaws.{reading-stop, reading-end}
 use Rattle.readings.proofs.CostLaws.{costs-none, costs-stop, both-stems}
-use Rattle.readings.proofs.HeldLaws.{held_start}
 use Rattle.readings.proofs.LocalLaws.{word_on}
 use Rattle.readings.proofs.StandingLaws.{words-paid, words-run, words-sample}
 use Rattle.reading_turns.specs.Zeros.{zeroed}
 use Rattle.reading_turns.specs.Turns.{WordAt, AfterRun, AfterSample}
-use Rattle.reading_turns.specs.declared.Turn.{Turn}
+use Rattle.reading_turns.specs.declared.turn.Turn.{Turn}
 use Rattle.reading_turns.proofs.ZeroLaws.{zeroed-length, zeroed-next, zeroed_first}
 use Rattle.samples.specs.View.{ReadTold, tell_reading}
 
@@ -133,39 +132,6 @@ pub record Loop (payload : List ℕ) (out₀ : List ℤ) (s₀ : State) (out : L
   pub words : Words payload out₀ s₀ out t.medians owed t.run_break t.last_zero t.last_one
       t.bits t.left_bits t.written
   pub settled : t.written < length out → owed ≡ 0
-
--- the turn before the first word
-abbrev pub first : List AdaptiveMedians → Turn
-first ms = record {
-  bits = 0;
-  left_bits = 0;
-  written = 0;
-  medians = ms;
-  run_break = false;
-  last_zero = false;
-  last_one = false;
-}
-
--- it holds the start
-pub loop_start : (payload : List ℕ) (out : List ℤ) (ms : List AdaptiveMedians) → length ms ≡ 2
-    → Loop payload out (start (pair_of ms).left (pair_of ms).right) out (first ms)
-loop_start payload out ms l =
-    let e : length out - 0 ≡ length out = omega arith in
-    let s = start (pair_of ms).left (pair_of ms).right in
-    record {
-      owed = 0;
-      words = record {
-        state = s;
-        held = held_start ms l;
-        here = omega arith;
-        same = refl;
-        is = rw e;
-        others = refl;
-        left-bits = rw e (omega arith);
-        part = omega arith;
-      };
-      settled = λ h. refl;
-    }
 
 -- the answer of a loop that ends there, with the refusal c
 abbrev pub ended : ℕ → Turn → List ℤ → ReadTold

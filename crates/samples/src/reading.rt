@@ -19,7 +19,6 @@ use words::coded::Coded;
 // The answer where the loop ended: what the accepted words used, left and gave. Bits that are not left's
 // are right's.
 fn answer(outcome: Result<(), Refusal>, at: Turn) -> ReadAnswer
-    requires { at.left_bits ≤ at.bits }
     ensures { result ≡ record {
       outcome = outcome;
       bits = at.bits;

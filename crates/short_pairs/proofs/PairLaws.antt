@@ -8,7 +8,7 @@ use native.Mathlib.Omega.{arith}
 use lib.IntN.{ℤ}
 use Rattle.short_steps.specs.Onward.{Onward}
 use Rattle.short_steps.specs.Steps.{Ready, StepIs}
-use Rattle.short_steps.specs.declared.Standing.{Standing}
+use Rattle.short_steps.specs.declared.standing.Standing.{Standing}
 use Rattle.short_steps.specs.declared.Step.{Step}
 use Rattle.short_steps.proofs.OnwardLaws.{onward_then}
 

@@ -18,7 +18,6 @@ pub fn read_pairs(payload: &[u8], out: &mut [i32], from: Standing, stop: usize) 
     requires limit { length payload.now ≤ max_payload_bytes }
     requires stop { stop / 8 + 32 ≤ length payload.now }
     requires place { from.place ≤ stop }
-    requires part { from.left_bits ≤ from.place }
     requires written { from.written ≤ length out.old }
     requires channel { from.written % 2 ≡ 0 }
     requires due { run_due (medians_of from.left) (medians_of from.right)

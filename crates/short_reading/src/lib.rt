@@ -15,7 +15,6 @@ use word_state::zero_run_eligible;
 // the last bytes are left to the other reader.
 pub fn read_short_words(payload: &[u8], out: &mut [i32], from: Standing) -> Standing
     requires limit { length payload.now ≤ max_payload_bytes }
-    requires part { from.left_bits ≤ from.place }
     requires written { from.written ≤ length out.old }
     ensures { Onward payload.now out.old out.new from result }
 {

@@ -22,16 +22,15 @@ use Rattle.words.proofs.JoinLaws.{coded_word_lem}
 use Rattle.words.proofs.PartLaws.{run_skipped}
 use Rattle.short_steps.specs.Onward.{Onward}
 use Rattle.short_steps.specs.Steps.{Ready, behind, SteppedIs, StepIs}
-use Rattle.short_steps.specs.declared.Standing.{Standing}
+use Rattle.short_steps.specs.declared.standing.Standing.{Standing}
 use Rattle.short_steps.specs.declared.Step.{Step}
-use Rattle.readings.proofs.CostLaws.{either-stem}
 use Rattle.readings.proofs.HeldLaws.{held-coded}
 use Rattle.readings.proofs.StandingLaws.{words-sample}
 
 -- no word
 pub onward-none : (payload : List ℕ) (out : List ℤ) (x : Standing) → x.written ≤ length out
-    → x.left_bits ≤ x.place → Onward payload out out x x
-onward-none payload out x h part = record { goes = λ out₀ s₀ l. l; since = omega arith; part = part; within = h; same = refl }
+    → Onward payload out out x x
+onward-none payload out x h = record { goes = λ out₀ s₀ l. l; since = omega arith; within = h; same = refl }
 
 -- words, and then more of them
 pub onward_then : (payload : List ℕ) (a b c : List ℤ) (x y z : Standing) → Onward payload a b x y
@@ -39,21 +38,21 @@ pub onward_then : (payload : List ℕ) (a b c : List ℤ) (x y z : Standing) →
 onward_then payload a b c x y z f g = record {
   goes = λ out₀ s₀ l. g.goes out₀ s₀ (f.goes out₀ s₀ l);
   since = omega (arith, f.since, g.since);
-  part = g.part;
   within = g.within;
   same = g.same ∙ f.same;
 }
 
 module _ (payload : List ℕ) (out : List ℤ) (x : Standing) (w : ℕ) (h : x.written < length out)
-    (part : x.left_bits ≤ x.place) (v : Ready payload x w) (y : ShortWord) where
+    (v : Ready payload x w) (y : ShortWord) where
   -- the word of the channel c, whose medians are due, and left's bits and the two sets after it
   onward-word : (c total : ℕ) (due left right : AdaptiveMedians) (other : Medians) → x.written % 2 ≡ c
       → x.left_bits + side c (x.place + y.used - x.place) 0 ≡ total
       → get_or (x.left ∷ x.right ∷ []) c no_set ≡ due
       → set (x.left ∷ x.right ∷ []) c y.medians ≡ left ∷ right ∷ []
       → ShortWordIs w (medians_of due) other x.last_zero x.last_one y
-      → Onward payload out (set out x.written y.value) x (behind x y total left right)
-  onward-word c total due left right other e a d f t =
+      → (part : total ≤ x.place + y.used)
+      → Onward payload out (set out x.written y.value) x (behind x y total left right part)
+  onward-word c total due left right other e a d f t part =
       let bits = bits_of payload in
       let sets = x.left ∷ x.right ∷ [] in
       let word : Result Coded Refusal = Ok (Coded.Sample y.value t.count (x.place + y.used) y.last_zero y.last_one) in
@@ -66,33 +65,35 @@ module _ (payload : List ℕ) (out : List ℤ) (x : Standing) (w : ℕ) (h : x.w
             rw (e, a, f) at (words-sample payload out₀ s₀ out sets 0 false _ _ _ _ x.written l word h c
             y.value t.count (x.place + y.used) _ _ y.medians refl (rw (e, d) t.adapted));
         since = omega arith;
-        part = omega (arith, part, a, either-stem c (x.place + y.used - x.place));
         within = omega (arith, length-set out x.written y.value);
         same = length-set out x.written y.value;
       }
 
   pub onward-left : x.written % 2 ≡ 0
       → ShortWordIs w (medians_of x.left) (medians_of x.right) x.last_zero x.last_one y
-      → Onward payload out (set out x.written y.value) x (behind x y (x.left_bits + y.used) y.medians x.right)
-  onward-left e t = onward-word 0 _ x.left y.medians x.right (medians_of x.right) e (omega arith) refl refl t
+      → (part : x.left_bits + y.used ≤ x.place + y.used)
+      → Onward payload out (set out x.written y.value) x (behind x y (x.left_bits + y.used) y.medians x.right part)
+  onward-left e t part = onward-word 0 _ x.left y.medians x.right (medians_of x.right) e (omega arith) refl refl t part
 
   pub onward-right : x.written % 2 ≡ 1
       → ShortWordIs w (medians_of x.right) (medians_of x.left) x.last_zero x.last_one y
-      → Onward payload out (set out x.written y.value) x (behind x y x.left_bits x.left y.medians)
-  onward-right e t = onward-word 1 _ x.right x.left y.medians (medians_of x.left) e (omega arith) refl refl t
+      → (part : x.left_bits ≤ x.place + y.used)
+      → Onward payload out (set out x.written y.value) x (behind x y x.left_bits x.left y.medians part)
+  onward-right e t part = onward-word 1 _ x.right x.left y.medians (medians_of x.left) e (omega arith) refl refl t part
 
 -- ---- steps
 
 module _ (payload : List ℕ) (out after : List ℤ) (x : Standing) (w : ℕ) (h : x.written < length out)
-    (part : x.left_bits ≤ x.place) (v : Ready payload x w) (y : ShortWord) (r : Step) where
+    (v : Ready payload x w) (y : ShortWord) (r : Step) where
   -- a word, with left's bits and the two sets after it
   stepped-on : (total : ℕ) (left right : AdaptiveMedians)
-      → Onward payload out (set out x.written y.value) x (behind x y total left right) → y.used ≤ 57
+      → ((part : total ≤ x.place + y.used) → Onward payload out (set out x.written y.value) x (behind x y total left right part))
+      → y.used ≤ 57
       → (y.on ≡ true → run_due (medians_of left) (medians_of right) y.last_zero y.last_one ≡ false)
       → SteppedIs payload out after x y total left right r
       → StepIs payload out after x r
   stepped-on total left right g u n s = record {
-    onward = rw (s.list-is, s.at-is) g;
+    onward = rw (s.list-is, s.at-is) (g s.part);
     ready = λ o. rw s.at-is (record { window = s.window; no_run = n (sym s.on-is ∙ o) });
     next = λ o. rw s.at-is;
     near = rw s.at-is (omega arith);
@@ -102,13 +103,13 @@ module _ (payload : List ℕ) (out after : List ℤ) (x : Standing) (w : ℕ) (h
       → ShortWordIs w (medians_of x.left) (medians_of x.right) x.last_zero x.last_one y
       → SteppedIs payload out after x y (x.left_bits + y.used) y.medians x.right r
       → StepIs payload out after x r
-  left_step e t s = stepped-on _ y.medians x.right (onward-left payload out x w h part v y e t) t.most t.unbroken s
+  left_step e t s = stepped-on _ y.medians x.right (onward-left payload out x w h v y e t) t.most t.unbroken s
 
   right_step : x.written % 2 ≡ 1
       → ShortWordIs w (medians_of x.right) (medians_of x.left) x.last_zero x.last_one y
       → SteppedIs payload out after x y x.left_bits x.left y.medians r
       → StepIs payload out after x r
-  right_step e t s = stepped-on _ x.left y.medians (onward-right payload out x w h part v y e t) t.most (λ o. due-either _ _ _ _ ∙ t.unbroken o) s
+  right_step e t s = stepped-on _ x.left y.medians (onward-right payload out x w h v y e t) t.most (λ o. due-either _ _ _ _ ∙ t.unbroken o) s
 
   -- the word of either channel
   pub either_step : (c : ℕ) → x.written % 2 ≡ c

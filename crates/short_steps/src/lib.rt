@@ -10,22 +10,12 @@ ghost use Rattle.bits.specs.Window.{Window};
 ghost use Rattle.word_state.specs.State.{side};
 ghost use Rattle.short_steps.specs.Steps.{Ready, SteppedIs, StepIs};
 
+pub mod standing;
+
 use bit_windows::register::moved;
 use entropy::AdaptiveMedians;
 use short_words::{ShortWord, short_word};
-
-// Where a reading stands between two words. Of the bits before its place `left_bits` were left's; the
-// others are right's, so that one number more is all that the loop holds.
-#[derive(Clone, Copy)]
-pub struct Standing {
-    pub place: usize,
-    pub left_bits: usize,
-    pub written: usize,
-    pub left: AdaptiveMedians,
-    pub right: AdaptiveMedians,
-    pub last_zero: bool,
-    pub last_one: bool,
-}
+pub use standing::Standing;
 
 // Where a reading stands after a word, and the 64 bits there. `on` is false where no short word may
 // follow.
@@ -51,6 +41,7 @@ fn stepped(
     requires inside { from.place / 8 + 16 ≤ length payload.now }
     requires room { from.written < length out.old }
     requires window { Window (bits_of payload.now) from.place 64 w }
+    requires part { left_bits ≤ from.place + word.used }
     requires some { 0 < word.used }
     requires most { word.used ≤ 57 }
     ensures { SteppedIs payload.now out.old out.new
@@ -92,7 +83,6 @@ pub fn short_step<const CHANNEL: usize>(
     requires inside { from.place / 8 + 16 ≤ length payload.now }
     requires room { from.written < length out.old }
     requires channel { from.written % 2 ≡ CHANNEL }
-    requires part { from.left_bits ≤ from.place }
     requires ready { Ready payload.now from w }
     ensures { StepIs payload.now out.old out.new from result }
 {

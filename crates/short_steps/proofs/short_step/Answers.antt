@@ -21,4 +21,4 @@ returns g c =
     let t = rw (c.side-due.ensures, c.side-other.ensures) at (c.short_word.ensures.word c.in-Some.word c.in-Some.is) in
     let s = rw (c.side.ensures, c.side-left.ensures, c.side-right.ensures) at c.stepped.ensures in
     either_step c.args.payload.now c.args.out.now _ c.args.from c.args.w (omega arith)
-    (omega arith) c.requires.ready _ _ g.row.CHANNEL c.requires.channel t s
+    c.requires.ready _ _ g.row.CHANNEL c.requires.channel t s
