@@ -18,7 +18,7 @@ use short_words::{ShortWord, short_word};
 pub use standing::Standing;
 
 // Where a reading stands after a word, and the 64 bits there. `on` is false where no short word may
-// follow.
+// follow: the reading stands somewhere then, too, so this is no `Option`.
 #[derive(Clone, Copy)]
 pub struct Step {
     pub on: bool,
