@@ -21,8 +21,8 @@ pub fn run_pass(direction: Direction, start: DecorrPass, buffer: &mut [i32]) -> 
         Term::Lag(lag) => run_lag(direction, lag, start, buffer),
         Term::Seventeen => run_two::<false>(direction, start, buffer),
         Term::Eighteen => run_two::<true>(direction, start, buffer),
-        Term::MinusOne => run_cross::<false>(direction, start, buffer),
-        Term::MinusTwo => run_cross::<true>(direction, start, buffer),
+        Term::MinusOne => run_cross(direction, false, start, buffer),
+        Term::MinusTwo => run_cross(direction, true, start, buffer),
         Term::MinusThree => run_swap(direction, start, buffer),
         Term::Invalid => run_lag(direction, 0, start, buffer),
     }

@@ -16,8 +16,8 @@ pub struct Turned {
 // One channel's step at the buffer's element x: `CLIP` for a cross term. It is no argument, since a
 // test in the loop is slower.
 // The direction stays one: a const parameter can be no enum, and a `bool` in its place is no plainer.
-// The compiler takes its test out of the loops of lags and of 17 and 18, and leaves it in those of the
-// cross terms.
+// The compiler takes its test out of the loops of lags and of 17 and 18. It leaves it in those of the
+// cross terms; tried without it there, decorrelation was slower.
 pub fn turn<const CLIP: bool>(
     direction: Direction,
     weight: i32,
