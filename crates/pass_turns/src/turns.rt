@@ -17,7 +17,7 @@ pub struct Turned {
 // test in the loop is slower.
 // The direction stays one: a const parameter can be no enum, and a `bool` in its place is no plainer.
 // The compiler takes its test out of the loops of lags and of 17 and 18. It leaves it in those of the
-// cross terms; tried without it there, decorrelation was slower.
+// cross terms; tried without it there, decorrelation by -2 was slower.
 pub fn turn<const CLIP: bool>(
     direction: Direction,
     weight: i32,
