@@ -28,7 +28,7 @@ pub struct Chunk {
     pub count: usize,
     pub next: usize,
     pub twice: bool,
-    pub superseded: [bool; 4096],
+    pub superseded: [bool; CHUNK],
 }
 
 // House, start second and issue as one number.
@@ -93,10 +93,10 @@ pub fn chunk_at(file: SoundFile<'_>, at: usize, first: usize) -> Chunk
     requires place { At file.bytes.now at first }
     ensures { ChunkIs file.entry.bytes.now at first result.count result.next result.twice result.superseded }
 {
-    let mut keys = [0u64; 4096];
+    let mut keys = [0u64; CHUNK];
     let mut heads = [0u16; 8191];
-    let mut links = [0u16; 4096];
-    let mut marks = [false; 4096];
+    let mut links = [0u16; CHUNK];
+    let mut marks = [false; CHUNK];
     let loaded = load_keys(file, at, first, &mut keys);
     let count = loaded.count;
     chain(&keys, count, &mut heads, &mut links);

@@ -11,6 +11,7 @@ ghost use Rattle.archive.specs.Places.{At, recording_at};
 ghost use Rattle.archive_payloads.specs.Kept.{between, superseded_at, DoneIs, SupersededIs, PartIs};
 ghost use Rattle.archive_payloads.specs.Kept.{CountedIs, source_of};
 
+use block_check::{BLOCK_BYTES, HEAD_BYTES, MAX_USED};
 use decimal::text::put_text;
 use recording_heads::{Head, SoundFile, bytes_taken};
 
@@ -38,7 +39,7 @@ fn part(done: usize, payload: usize) -> usize
     requires { (done < payload) × (payload < 4294967296) }
     ensures { PartIs done payload result }
 {
-    (payload - done).min(504 - (12 + done) % 504)
+    (payload - done).min(MAX_USED - (HEAD_BYTES + done) % MAX_USED)
 }
 
 // Where the payload byte after those that are done stands in the file.
@@ -46,8 +47,8 @@ fn source(place: usize, done: usize) -> usize
     requires { (done < 4294967296) × (source_of place done < 18446744073709551616) }
     ensures { result ≡ source_of place done }
 {
-    let at = 12 + done;
-    place + (512 * (at / 504) + 4 + at % 504)
+    let at = HEAD_BYTES + done;
+    place + (BLOCK_BYTES * (at / MAX_USED) + 4 + at % MAX_USED)
 }
 
 // Lays the payload of recording i, which stands at the place, block by block.

@@ -14,20 +14,16 @@ use answers::Refusal;
 use answers::limits::MAX_PAYLOAD_BYTES;
 use block_check::{BLOCK_BYTES, HEAD_BYTES, MAX_USED};
 use block_laying::lay_block;
-use little_endian::number_bytes;
 
 // The bytes before a payload: house, start second, issue, and the payload's length.
-fn head_bytes(house: u16, start: u32, issue: u16, length: u32) -> [u8; 12]
+fn head_bytes(house: u16, start: u32, issue: u16, length: u32) -> [u8; HEAD_BYTES]
     ensures { result ≡ head house start issue length }
 {
-    let whose = number_bytes(u32::from(house));
-    let when = number_bytes(start);
-    let which = number_bytes(u32::from(issue));
-    let long = number_bytes(length);
-    [
-        whose[0], whose[1], when[0], when[1], when[2], when[3], which[0], which[1], long[0],
-        long[1], long[2], long[3],
-    ]
+    let [a, b] = house.to_le_bytes();
+    let [c, d, e, f] = start.to_le_bytes();
+    let [g, h] = issue.to_le_bytes();
+    let [i, j, k, l] = length.to_le_bytes();
+    [a, b, c, d, e, f, g, h, i, j, k, l]
 }
 
 // Lays block i of a recording at its place: what is there of the bytes before the payload, and of the

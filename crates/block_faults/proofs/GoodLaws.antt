@@ -1,14 +1,15 @@
 -- The blocks of a file, judged one after the other.
 -- Assumes nothing.
-use mathlib.Core.Path.{◌≡◌, refl, sym, ◌∙◌}
+use mathlib.Core.Path.{◌≡◌, refl, sym, ap, ap₂, ◌∙◌}
 use mathlib.Core.Bool.{Bool, true, false}
-use mathlib.Core.List.{List, ◌∷◌}
-use Prim.Native.Nat.{ℕ, suc, ◌+◌, ◌-◌, ◌*◌, ◌≤◌, ◌<◌}
+use mathlib.Core.List.{List, [], ◌∷◌, ◌++◌, append-nil}
+use Prim.Native.Nat.{ℕ, suc, ◌+◌, ◌-◌, ◌*◌, ◌≤◌, ◌<◌, min}
 use native.Mathlib.Omega.{arith}
 use borrow.Author.Tests.{eq-eqb, ne_eqb, eqb-true, eqb-false}
 use lib.Dec.{eqb}
-use lib.ListN.{length, take, drop, length-take, length-drop}
-use lib.Seq.{drop-drop, length-take-le}
+use lib.ListN.{length, take, drop, length-take, length-drop, length-append, drop_of_length-le}
+use lib.Seq.{drop-drop, take_all, take_at}
+use Rattle.std.proofs.lemmas.List.{drop_at}
 use Rattle.archive.specs.Block.{block_bytes}
 use Rattle.archive.specs.Faults.{cut, blocks_in, announced_by, wrong, none_left, next_before}
 use Rattle.archive.specs.Faults.{good, good_blocks}
@@ -33,27 +34,68 @@ judged_none file =
 abbrev pub block_at : List ℕ → ℕ → List ℕ
 block_at file i = take 512 (drop (512 * i) file)
 
--- it is what the code takes
-pub block_at_lem : (file : List ℕ) (i : ℕ) → take (512 * i + 512 - 512 * i) (drop (512 * i) file) ≡ block_at file i
-block_at_lem file i = let e : 512 * i + 512 - 512 * i ≡ 512 = omega arith in rw e
+-- what is told of the block that the code takes is told of it
+pub told_at : (file part : List ℕ) (i announced before l : ℕ) → part ≡ block_at file i
+    → l ≡ announced_by announced before part → l ≡ announced_by announced before (block_at file i)
+told_at file part i announced before l p e = e ∙ rw p
 
--- so what is told of that is told of it
-pub told_at : (file : List ℕ) (i announced before l : ℕ)
-    → l ≡ announced_by announced before (take (512 * i + 512 - 512 * i) (drop (512 * i) file))
-    → l ≡ announced_by announced before (block_at file i)
-told_at file i announced before l e = e ∙ rw (block_at_lem file i)
-
-pub judged_at : (file : List ℕ) (i l b before count : ℕ) (bad : Bool) → b ≡ before → count ≡ blocks_in file
-    → bad ≡ wrong (eqb (i + 1) count) l b (take (512 * i + 512 - 512 * i) (drop (512 * i) file))
+pub judged_at : (file part : List ℕ) (k i l b before count : ℕ) (bad : Bool) → part ≡ block_at file i → k ≡ i
+    → b ≡ before → count ≡ blocks_in file → bad ≡ wrong (eqb (k + 1) count) l b part
     → bad ≡ wrong (eqb (i + 1) (blocks_in file)) l before (block_at file i)
-judged_at file i l b before count bad same of e = e ∙ rw (same, of, block_at_lem file i)
+judged_at file part k i l b before count bad p at same of e = e ∙ rw (at, same, of, p)
 
--- and has 512 bytes where so many are left
-pub block-whole : (file : List ℕ) (i : ℕ) → 512 ≤ length file - 512 * i
-    → length (take (512 * i + 512 - 512 * i) (drop (512 * i) file)) ≡ block_bytes
-block-whole file i h =
-    let d = length-drop (512 * i) file in
-    rw (block_at_lem file i) (length-take-le 512 (drop (512 * i) file) (omega arith))
+-- a list behind its first n elements, or behind all of it
+record Cut (n : ℕ) (part rest : List ℕ) : Type 0 where
+  first : take n (part ++ rest) ≡ part
+  after : drop n (part ++ rest) ≡ rest
+
+-- so it is behind a part of that many elements, or of all that there are
+cut_at : (n : ℕ) (part rest : List ℕ) → length part ≡ min n (length (part ++ rest)) → Cut n part rest
+cut_at n part [] h =
+    let whole = append-nil part in
+    let e : length part ≤ n = omega (arith, ap length whole) in
+    record { first = ap (take n) whole ∙ take_all n part e; after = ap (drop n) whole ∙ drop_of_length-le part {i = n} e }
+cut_at n part (x ∷ rest) h =
+    let e : length part ≡ n = omega (arith, length-append part (x ∷ rest)) in
+    record { first = take_at part (x ∷ rest) n e; after = drop_at part (x ∷ rest) n e }
+
+-- what is left is what stands behind the first i blocks
+pub record Left (file : List ℕ) (i size : ℕ) (rest : List ℕ) : Type 0 where
+  pub size_is : size ≡ 512
+  pub rest_is : rest ≡ drop (512 * i) file
+
+module _ (file : List ℕ) (i size : ℕ) (rest : List ℕ) (left : Left file i size rest) where
+  pub rest-long : length rest ≡ length file - 512 * i
+  rest-long = ap length left.rest_is ∙ length-drop (512 * i) file
+
+  -- a block is there where bytes are left
+  pub block_left : 0 < length rest → i < blocks_in file
+  block_left some = omega (arith, rest-long)
+
+  -- and none where none is
+  pub none_left_count : length rest ≡ 0 → blocks_in file ≤ i
+  none_left_count none = omega (arith, rest-long)
+
+  module _ (part after : List ℕ) (cuts : rest ≡ part ++ after) (long : length part ≡ min size (length rest)) where
+    parted : Cut 512 part after
+    parted = cut_at 512 part after (long ∙ ap₂ (λ (n : ℕ) (l : List ℕ). min n (length l)) left.size_is cuts)
+
+    whole-is : part ++ after ≡ drop (512 * i) file
+    whole-is = sym cuts ∙ left.rest_is
+
+    -- the next part is the next block
+    pub block-is : part ≡ block_at file i
+    block-is = sym parted.first ∙ ap (take 512) whole-is
+
+    -- and the others are behind it
+    pub left_more : (n next : ℕ) → n ≡ size → next ≡ i + 1 → Left file next n after
+    left_more n next e f =
+        let g : 512 * i + 512 ≡ 512 * next = omega arith in
+        record {
+          size_is = e ∙ left.size_is;
+          rest_is = sym parted.after ∙ ap (drop 512) whole-is ∙ drop-drop 512 (512 * i) file
+              ∙ ap (λ (m : ℕ). drop m file) g;
+        }
 
 -- those behind it
 abbrev pub behind : List ℕ → ℕ → List (List ℕ)

@@ -132,12 +132,10 @@ pub fn good_blocks(file: &[u8]) -> usize
 {
     let count = blocks_in(file.len());
     let mut position = Position::first();
-    for i in 0..count {
-        let at = BLOCK_BYTES * i;
-        if file.len() - at < BLOCK_BYTES {
+    for (i, block) in file.chunks(BLOCK_BYTES).enumerate() {
+        if block.len() < BLOCK_BYTES {
             return i;
         }
-        let block = &file[at..at + BLOCK_BYTES];
         position = position.announced_by(block);
         if block_wrong(block, position, i + 1 == count) {
             return i;

@@ -21,12 +21,11 @@ const MOST: u32 = 1000;
 // Runs the cases of an open file, to its end.
 fn run_cases<R: Read>(rt: &impl Print, file: &mut R) -> io::Result<()> {
     for _ in 0..MOST {
-        let kind = read_kind(file);
-        if kind == 0 {
+        let Some(letter) = read_kind(file) else {
             break;
-        }
+        };
         print_name(rt, file)?;
-        match Kind::try_from(kind) {
+        match Kind::try_from(letter) {
             Ok(kind) => kind.run(rt, file)?,
             Err(_) => println!(rt; " no such kind")?,
         }

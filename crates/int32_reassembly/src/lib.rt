@@ -21,7 +21,7 @@ pub fn reassemble_refusal(info: Int32Info, samples: usize, room: usize) -> Resul
     ensures { outcome_number result ≡ reassemble_refusal info samples room }
 {
     info_refusal(info, samples)?;
-    if room < (samples * info.sent_bits as usize + 7) / 8 {
+    if room < (samples * info.sent_bits as usize).div_ceil(8) {
         return Err(Refusal::Truncated);
     }
     Ok(())

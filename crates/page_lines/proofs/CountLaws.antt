@@ -2,23 +2,17 @@
 -- Assumes nothing.
 use mathlib.Core.Path.{◌≡◌, sym, ap, ◌∙◌}
 use mathlib.Core.List.{List, ◌++◌}
-use Prim.Native.Nat.{ℕ, ◌+◌, ◌-◌, ◌*◌, ◌%◌, ◌≤◌, ◌<◌, min}
-use native.Mathlib.Decide.{dec_lt}
+use Prim.Native.Nat.{ℕ, ◌+◌, ◌*◌, ◌%◌, ◌≤◌}
 use native.Mathlib.Omega.{arith}
 use lib.IntN.{ℤ}
-use lib.ListN.{length, take, drop, length-take, length-drop}
-use lib.Seq.{take-add, take_all}
+use lib.ListN.{length, take, length-take}
+use lib.Seq.{take-add}
 use Rattle.answers.specs.Limits.{max_elements}
 use Rattle.page_block.specs.Sound.{last_distance}
 use Rattle.page_lines.specs.Page.{line_count, covered, earlier}
 use Rattle.page_block.proofs.SoundLaws.{last_append}
 
 -- ---- how many lines there are
-
--- a line that is there begins within the samples
-pub line-begins : (elements k : ℕ) → k < line_count elements → 2048 * k < elements
-unfolding line_count
-line-begins elements k h = omega arith
 
 -- the lines cover all whole frames
 pub lines_cover : (elements : ℕ) → elements % 2 ≡ 0 → elements ≤ 2048 * line_count elements
@@ -31,20 +25,6 @@ unfolding line_count
 lines-few elements h = omega arith
 
 -- ---- the samples of a line
-
--- as code cuts them out
-pub covered-is : (samples : List ℤ) (k end : ℕ) → 2048 * k ≤ length samples
-    → end ≡ min (2048 * k + 2048) (length samples)
-    → take (end - 2048 * k) (drop (2048 * k) samples) ≡ covered k samples
-covered-is samples k end h e =
-    go (drop (2048 * k) samples) (end - 2048 * k) (omega (arith, length-drop (2048 * k) samples))
-  where
-    go : (rest : List ℤ) (n : ℕ) → n ≡ min 2048 (length rest) → take n rest ≡ take 2048 rest
-    go rest n e = which (dec_lt (length rest) 2048)
-      where
-        which : Dec (length rest < 2048) → take n rest ≡ take 2048 rest
-        which (yes l) = take_all n rest (omega arith) ∙ sym (take_all 2048 rest (omega arith))
-        which (no l) = let m : n ≡ 2048 = omega arith in ap (λ (k : ℕ). take k rest) m
 
 -- one line more is before the next
 pub earlier_more : (samples : List ℤ) (k : ℕ)

@@ -2,3 +2,4 @@
 pub mod Cases
 pub mod CountLaws
 pub mod LineLaws
+pub mod PartLaws

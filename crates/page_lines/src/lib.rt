@@ -59,12 +59,10 @@ pub fn put_lines(samples: &[i32], threshold: u32, page: &mut [u8]) -> usize
     ensures text { TextPut page.old page.new 0 result (Page·page threshold samples.now) }
     ensures width { result ≡ line_bytes * line_count (length samples.now) }
 {
-    let mut place: usize = 0;
-    let mut last: u32 = 0;
-    for k in 0..line_count(samples.len()) {
-        let from = LINE_SAMPLES * k;
-        let end = (from + LINE_SAMPLES).min(samples.len());
-        let block = hear(&samples[from..end], threshold, last);
+    let mut place = 0;
+    let mut last = 0;
+    for (k, part) in samples.chunks(LINE_SAMPLES).enumerate() {
+        let block = hear(part, threshold, last);
         place = put_line(page, place, k, block);
         last = block.last_loud;
     }

@@ -2,7 +2,7 @@
 // in decimal. A space comes before each number, and a semicolon or the line's end after a list.
 ghost use Rattle.std.specs.Prelude.{◌≤◌, length};
 
-use crate::numbers::Stored;
+use crate::numbers::{Stored, next_byte};
 use crate::printing::print;
 use std::io;
 use std::io::Read;
@@ -24,7 +24,7 @@ impl From<Entry> for u8 {
 // The number as its size and its sign say.
 impl From<Entry> for i32 {
     fn from(entry: Entry) -> i32 {
-        let value = wrapping::narrow(i64::from(entry.size));
+        let value = entry.size.cast_signed();
         if entry.negative {
             value.wrapping_neg()
         } else {
@@ -33,16 +33,16 @@ impl From<Entry> for i32 {
     }
 }
 
-// The first letter of the next line's word, which is read to the space after it; 0 where the file
-// ends. No word has more than 20 letters.
-pub fn read_kind<R: Read>(file: &mut R) -> u8 {
-    let kind = u8::read_from(file);
+// The first letter of the next line's word, which is read to the space after it, if the file does not
+// end before it. No word has more than 20 letters.
+pub fn read_kind<R: Read>(file: &mut R) -> Option<u8> {
+    let kind = next_byte(file)?;
     for _ in 0..20u32 {
         if u8::read_from(file) == b' ' {
             break;
         }
     }
-    kind
+    Some(kind)
 }
 
 // Prints the name of a case, and the colon after it. No name has more than 80 letters.

@@ -4,7 +4,7 @@
 // What is compared with a list is read to the list's end, so that the next number is that of the
 // next thing stored, whatever was found.
 use inputs::read_full;
-use little_endian::{number, signed_word};
+use little_endian::{number, short_number, signed_word};
 use std::io::Read;
 
 // A kind of number that a file holds.
@@ -15,9 +15,7 @@ pub trait Stored: Copy + PartialEq {
 
 impl Stored for u8 {
     fn read_from<R: Read>(file: &mut R) -> u8 {
-        let mut bytes = [0u8; 1];
-        read_full(file, &mut bytes);
-        bytes[0]
+        next_byte(file).unwrap_or(0)
     }
 }
 
@@ -37,8 +35,17 @@ impl Stored for u32 {
 
 impl Stored for i32 {
     fn read_from<R: Read>(file: &mut R) -> i32 {
-        wrapping::narrow(i64::from(u32::read_from(file)))
+        u32::read_from(file).cast_signed()
     }
+}
+
+// The next byte, if the file does not end before it.
+pub fn next_byte<R: Read>(file: &mut R) -> Option<u8> {
+    let mut bytes = [0u8; 1];
+    if read_full(file, &mut bytes) < 1 {
+        return None;
+    }
+    Some(bytes[0])
 }
 
 // The next number of four bytes, if the file does not end before it.
@@ -54,7 +61,7 @@ pub fn next_number<R: Read>(file: &mut R) -> Option<u32> {
 pub fn read_size<R: Read>(file: &mut R) -> usize {
     let low = u8::read_from(file);
     let high = u8::read_from(file);
-    usize::from(low) + 256 * usize::from(high)
+    short_number(low, high) as usize
 }
 
 // Fills a list with the next numbers.

@@ -53,7 +53,7 @@ pub fn round_trip(
         packed,
     )?;
     let bits = written.bits;
-    let end = (bits + 7) / 8;
+    let end = bits.div_ceil(8);
     let same = read_back(
         passes,
         count,

@@ -11,6 +11,7 @@ ghost use Rattle.wave_file.specs.File.{header_bytes, data_bytes};
 ghost use Rattle.wave_data.specs.Data.{within16, file_bytes, file_samples};
 
 use little_endian::{signed_bytes, signed_word};
+use overlay::lay;
 use wave_file::HEADER_BYTES;
 
 // Lays a frame from a place on, left then right.
@@ -18,12 +19,9 @@ fn lay_frame(left: i16, right: i16, at: usize, out: &mut [u8])
     requires { at + 4 ≤ length out.old }
     ensures { out.new ≡ overlay out.old at (signed_bytes left ++ signed_bytes right) }
 {
-    let first = signed_bytes(left);
-    let second = signed_bytes(right);
-    out[at] = first[0];
-    out[at + 1] = first[1];
-    out[at + 2] = second[0];
-    out[at + 3] = second[1];
+    let [a, b] = signed_bytes(left);
+    let [c, d] = signed_bytes(right);
+    lay(&[a, b, c, d], at, out);
 }
 
 // Lays all frames after the header.

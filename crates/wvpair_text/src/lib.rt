@@ -10,7 +10,7 @@ ghost use Rattle.decimal.specs.TextPut.{TextPut};
 ghost use Rattle.wvpair_text.specs.Text.{frame_count, printed, reading_of, wvpair_text, TextIs};
 
 use crate::limits::{HEAD_BYTES, MOST_FRAMES, MOST_SAMPLES};
-use answers::{Refusal, outcome_number};
+use answers::{Refusal, number, outcome_number};
 use samples::reading::decode_packed_samples_stereo_from_entropy;
 use wvpair_lines::{put_end, put_report};
 
@@ -63,11 +63,11 @@ fn print_input(input: &[u8], out: &mut [u8]) -> usize
     ensures { TextPut out.old out.new 0 result (wvpair_text input.now) }
 {
     if input.len() < HEAD_BYTES {
-        return put_end(out, 0, 1, 0);
+        return put_end(out, 0, number(Refusal::EntropyLength), 0);
     }
     let frames = frame_count(input);
     if frames > MOST_FRAMES || input.len() > LARGEST_INPUT {
-        return put_end(out, 0, 5, 0);
+        return put_end(out, 0, number(Refusal::TooLarge), 0);
     }
     print_reading(input, frames, out)
 }

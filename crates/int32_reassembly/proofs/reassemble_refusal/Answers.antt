@@ -21,21 +21,14 @@ overflow_mul-samples c =
     let f = info_fit _ _ fine in
     record { fits = omega (arith, few_bits _ _ f.0 f.1) }
 
-pub overflow_add-samples : goal.overflow_add-samples
-overflow_add-samples c =
+pub returns-then-room-div_ceil : goal.returns-then-room-div_ceil
+returns-then-room-div_ceil c =
     let fine : info_refusal c.args.info c.args.samples ≡ 0 =
     sym c.in_ok-info_refusal.ensures in
-    let f = info_fit _ _ fine in
-    record { fits = omega (arith, few_bits _ _ f.0 f.1) }
-
-pub returns-then-room-samples : goal.returns-then-room-samples
-returns-then-room-samples c =
-    let fine : info_refusal c.args.info c.args.samples ≡ 0 =
-    sym c.in_ok-info_refusal.ensures in
-    reassemble_short c.args.info c.args.samples c.args.room fine (omega arith)
+    reassemble_short c.args.info c.args.samples c.args.room fine (omega (arith, c.div_ceil.ensures))
 
 pub returns : goal.returns
 returns c =
     let fine : info_refusal c.args.info c.args.samples ≡ 0 =
     sym c.in_ok-info_refusal.ensures in
-    reassemble_none c.args.info c.args.samples c.args.room fine (omega arith)
+    reassemble_none c.args.info c.args.samples c.args.room fine (omega (arith, c.div_ceil.ensures))

@@ -1,7 +1,9 @@
 -- `trip_entry::round_trip` meets its contract.
 -- Assumes nothing.
-use mathlib.Core.Path.{refl, sym}
+use mathlib.Core.Path.{◌≡◌, sym, ap}
+use Prim.Native.Nat.{ℕ, ◌+◌, ◌/◌}
 use native.Mathlib.Omega.{arith}
+use lib.ListN.{take}
 use lib.Seq.{length-take-le}
 use Rattle.std.proofs.lemmas.Result.{err_from_is_err_and}
 use Rattle.trip_entry.proofs.TripLaws.{trip_length, trip_early, trip_found, trip_span, trip_ends, trip_back}
@@ -28,11 +30,6 @@ returns-in_err-written c =
     (trip_span _ _ c.args.recording.now _ _ _ _ _ _ c.if-scratch-elements.false c.in_ok-find_residuals.ensures.found
     (sym c.in_ok-early_refusal.ensures) c.in_err-written.ensures)
 
-pub overflow_add-end : goal.overflow_add-end
-overflow_add-end c =
-    let ends = trip_ends _ _ _ _ _ c.in_ok-written.written c.in_ok-written.ensures in
-    omega arith
-
 pub slice_bounds-read_back-end : goal.slice_bounds-read_back-end
 slice_bounds-read_back-end c =
     let ends = trip_ends _ _ _ _ _ c.in_ok-written.written c.in_ok-written.ensures in
@@ -45,6 +42,8 @@ slice_bounds-read_back-end-2 c =
 
 pub returns : goal.returns
 returns c =
+    let end : c.div_ceil-end.result ≡ (c.in_ok-written.written.bits + 7) / 8 = omega (arith, c.div_ceil-end.ensures) in
     trip_back _ _ c.args.recording.now _ _ _ c.in_ok-find_residuals.ensures.fit _ _ _ _ c.in_ok-written.written _
     c.if-scratch-elements.false c.in_ok-find_residuals.ensures.found (sym c.in_ok-early_refusal.ensures)
-    c.in_ok-written.ensures refl c.read_back-same.ensures
+    c.in_ok-written.ensures
+    (ap (λ (n : ℕ). take n c.encode_packed_samples_stereo_from_entropy.new.out) end) c.read_back-same.ensures

@@ -1,10 +1,11 @@
--- `wave_data::lay_frame` meets its contract: four stores lay the bytes of both samples.
+-- `wave_data::lay_frame` meets its contract: the bytes of both samples are laid.
 -- Assumes nothing.
+use mathlib.Core.Path.{ap, ◌∙◌}
 use mir.Facts.{to_z-of_z}
 use mir.Syntax.{w16}
 use mir.Val.{SFits}
 use borrow.Author.Rules.{rules}
-use Rattle.little_endian.proofs.StoreLaws.{four-laid}
+use Rattle.overlay.specs.Overlay.{overlay}
 use Rattle.wave_data.proofs.LayLaws.{frame_is}
 use Rattle.wave_data.proofs.lay_frame.Goals as goal
 
@@ -12,6 +13,6 @@ pub returns : goal.returns
 returns c =
     let l : SFits w16 c.args.left = search rules in
     let r : SFits w16 c.args.right = search rules in
-    four-laid _ _ _ _ _ _ _ c.requires
-    (frame_is c.args.left c.args.right _ _ (rw (to_z-of_z l) at c.signed_bytes-first.ensures)
-    (rw (to_z-of_z r) at c.signed_bytes-second.ensures))
+    c.lay.ensures
+    ∙ ap (overlay _ c.args.at) (frame_is c.args.left c.args.right _ _ (rw (to_z-of_z l) at c.signed_bytes.ensures)
+    (rw (to_z-of_z r) at c.signed_bytes-2.ensures))

@@ -11,14 +11,18 @@ use Rattle.wvpair_text.proofs.print_input.Goals.{then-frames-gt-MOST_FRAMES-via-
 use Rattle.wvpair_text.proofs.print_input.Goals as goal
 
 pub put_end-requires : goal.put_end-requires
-put_end-requires c = omega (arith, end_short 1 0 (omega arith) (λ h. refl) (omega arith))
+put_end-requires c =
+    rw c.number.ensures
+    (omega (arith, end_short 1 0 (omega arith) (λ h. refl) (omega arith)))
 
 pub returns-then-input-lt-HEAD_BYTES : goal.returns-then-input-lt-HEAD_BYTES
 returns-then-input-lt-HEAD_BYTES c =
-    rw (text-under c.args.input.now (omega arith)) c.put_end.ensures
+    rw (text-under c.args.input.now (omega arith)) (rw c.number.ensures at c.put_end.ensures)
 
 pub put_end-requires-then-frames-gt-MOST_FRAMES : goal.put_end-requires-then-frames-gt-MOST_FRAMES
-put_end-requires-then-frames-gt-MOST_FRAMES c = omega (arith, end_short 5 0 (omega arith) (λ h. refl) (omega arith))
+put_end-requires-then-frames-gt-MOST_FRAMES c =
+    rw c.number-then-frames-gt-MOST_FRAMES.ensures
+    (omega (arith, end_short 5 0 (omega arith) (λ h. refl) (omega arith)))
 
 pub returns-then-frames-gt-MOST_FRAMES : goal.returns-then-frames-gt-MOST_FRAMES
 returns-then-frames-gt-MOST_FRAMES c =
@@ -28,7 +32,7 @@ returns-then-frames-gt-MOST_FRAMES c =
       | by_frames w ↦ text_frames input (omega arith) (omega arith)
       | by_payload w ↦ text-payload input (omega arith) (omega arith)
     ] in
-    rw over c.put_end-then-frames-gt-MOST_FRAMES.ensures
+    rw over (rw c.number-then-frames-gt-MOST_FRAMES.ensures at c.put_end-then-frames-gt-MOST_FRAMES.ensures)
 
 pub returns : goal.returns
 returns c =
