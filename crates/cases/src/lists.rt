@@ -33,9 +33,16 @@ pub fn run_many<R: Read>(rt: &impl Print, file: &mut R) -> io::Result<()> {
 
 // The states of passes of 20 slots, a line each: the weights of A and B, then their histories.
 fn print_states(rt: &impl Print, passes: &[i32]) -> io::Result<()> {
-    for pass in passes.chunks(20) {
-        print!(rt; "  pass state")?;
-        print_values(rt, pass.get(2..).unwrap_or(&[]))?;
+    for (i, slot) in passes.iter().enumerate() {
+        if i % 20 == 2 {
+            print!(rt; "  pass state")?;
+        }
+        if i % 20 >= 2 {
+            print!(rt; " {slot}")?;
+        }
+        if i % 20 == 19 {
+            println!(rt; "")?;
+        }
     }
     Ok(())
 }

@@ -21,11 +21,12 @@ const MOST: u32 = 1000;
 // Runs the cases of an open file, to its end.
 fn run_cases<R: Read>(rt: &impl Print, file: &mut R) -> io::Result<()> {
     for _ in 0..MOST {
-        let Some(letter) = read_kind(file) else {
+        let kind = read_kind(file);
+        if kind == 0 {
             break;
-        };
+        }
         print_name(rt, file)?;
-        match Kind::try_from(letter) {
+        match Kind::try_from(kind) {
             Ok(kind) => kind.run(rt, file)?,
             Err(_) => println!(rt; " no such kind")?,
         }

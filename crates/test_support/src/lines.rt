@@ -2,7 +2,7 @@
 // in decimal. A space comes before each number, and a semicolon or the line's end after a list.
 ghost use Rattle.std.specs.Prelude.{◌≤◌, length};
 
-use crate::numbers::{Stored, next_byte};
+use crate::numbers::Stored;
 use crate::printing::print;
 use std::io;
 use std::io::Read;
@@ -33,16 +33,16 @@ impl From<Entry> for i32 {
     }
 }
 
-// The first letter of the next line's word, which is read to the space after it, if the file does not
-// end before it. No word has more than 20 letters.
-pub fn read_kind<R: Read>(file: &mut R) -> Option<u8> {
-    let kind = next_byte(file)?;
+// The first letter of the next line's word, which is read to the space after it; 0 where the file
+// ends. A zero byte ends the cases too, so this is no `Option`. No word has more than 20 letters.
+pub fn read_kind<R: Read>(file: &mut R) -> u8 {
+    let kind = u8::read_from(file);
     for _ in 0..20u32 {
         if u8::read_from(file) == b' ' {
             break;
         }
     }
-    Some(kind)
+    kind
 }
 
 // Prints the name of a case, and the colon after it. No name has more than 80 letters.

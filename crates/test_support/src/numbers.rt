@@ -15,7 +15,9 @@ pub trait Stored: Copy + PartialEq {
 
 impl Stored for u8 {
     fn read_from<R: Read>(file: &mut R) -> u8 {
-        next_byte(file).unwrap_or(0)
+        let mut bytes = [0u8; 1];
+        read_full(file, &mut bytes);
+        bytes[0]
     }
 }
 
@@ -37,15 +39,6 @@ impl Stored for i32 {
     fn read_from<R: Read>(file: &mut R) -> i32 {
         u32::read_from(file).cast_signed()
     }
-}
-
-// The next byte, if the file does not end before it.
-pub fn next_byte<R: Read>(file: &mut R) -> Option<u8> {
-    let mut bytes = [0u8; 1];
-    if read_full(file, &mut bytes) < 1 {
-        return None;
-    }
-    Some(bytes[0])
 }
 
 // The next number of four bytes, if the file does not end before it.
