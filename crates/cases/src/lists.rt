@@ -31,7 +31,8 @@ pub fn run_many<R: Read>(rt: &impl Print, file: &mut R) -> io::Result<()> {
     print_values(rt, &buffer)
 }
 
-// The states of passes of 20 slots, a line each: the weights of A and B, then their histories.
+// The states of passes of 20 slots, a line each: the weights of A and B, then their histories. By slots and
+// no chunks, since the last one may be cut off and then has no end of line.
 fn print_states(rt: &impl Print, passes: &[i32]) -> io::Result<()> {
     for (i, slot) in passes.iter().enumerate() {
         if i % 20 == 2 {

@@ -5,7 +5,7 @@ use std::io::Read;
 use test_support::numbers::{Stored, holds, load, part};
 
 // Packs up to eight frames: two residuals and 28 lent bytes each. 0, with nothing packed, for more
-// frames or where the buffer has fewer bytes.
+// frames or where the buffer has fewer bytes; no `Option`, since what is printed of such a record stays.
 fn pack(
     residuals: &[i32],
     entropy: &[u8],

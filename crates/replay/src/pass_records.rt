@@ -44,7 +44,8 @@ fn run(analyse: bool, passes: &mut [i32], buffer: &mut [i32]) -> u32 {
     }
 }
 
-// The same of the first numbers of each list; 0, with nothing run, where a list has fewer.
+// The same of the first numbers of each list; 0, with nothing run, where a list has fewer; no `Option`, since
+// what is printed of such a record stays.
 fn run_parts(
     analyse: bool,
     passes: &mut [i32],

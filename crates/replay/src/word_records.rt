@@ -17,7 +17,8 @@ pub fn word_agrees<R: Read>(length: u32, file: &mut R) -> bool {
     told & holds(file, &state) & holds(file, &report)
 }
 
-// Reads into the first two numbers a frame of a list; 0, with nothing read, where it has fewer.
+// Reads into the first two numbers a frame of a list; 0, with nothing read, where it has fewer; no `Option`,
+// since what is printed of such a record stays.
 fn read(
     entropy: &[u8],
     payload: &[u8],
