@@ -4,17 +4,12 @@ use mathlib.Core.Path.{◌≡◌, sym, ap, ◌∙◌}
 use mathlib.Core.List.{List, [], ◌∷◌, ◌++◌}
 use Prim.Native.Nat.{ℕ, zero, suc, ◌+◌, ◌-◌, ◌*◌, min}
 use native.Mathlib.Omega.{arith}
-use lib.ListN.{length, take, drop, length-take, length-drop}
-use lib.Seq.{take_all, take-take, take-append-add}
+use lib.ListN.{length, take, drop, length-drop}
+use lib.Seq.{take_all, take-append-add}
+use Rattle.std.proofs.lemmas.List.{take_min}
 use Rattle.overlay.specs.Overlay.{overlay}
 use Rattle.archive.specs.Block.{max_used, block}
 use Rattle.archive.specs.Recording.{head_bytes}
-
--- more cannot be taken than is there
-cut-is : (n m : ℕ) (l : List ℕ) → m ≡ min n (length l) → take n l ≡ take m l
-cut-is n m l e =
-    let k = length-take n l in
-    sym (take_all m (take n l) (omega arith)) ∙ take-take m n l (omega arith)
 
 -- what is dropped of two lists is first of the first
 drop-two : (n skip : ℕ) (f p : List ℕ) → skip ≡ min n (length f)
@@ -47,7 +42,9 @@ part-is f p i skip from end h s b e =
     let n : 504 ≡ length rest + (skip + 492) = omega arith in
     let m : end - from ≡ min (skip + 492) (length (drop from p)) =
     rw (length-drop from p) (count-is (504 * i) skip from end (length p) (omega arith) e) in
-    rw (whole, ← cut-is (skip + 492) (end - from) (drop from p) m, two, ← b, n)
+    let same : take (skip + 492) (drop from p) ≡ take (end - from) (drop from p) =
+    sym (take_min (skip + 492) (drop from p)) ∙ ap (λ (j : ℕ). take j (drop from p)) (sym m) in
+    rw (whole, ← same, two, ← b, n)
     (sym (take-append-add rest (drop from p) (skip + 492)))
 
 -- so it is laid

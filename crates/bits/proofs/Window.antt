@@ -6,11 +6,11 @@ use mathlib.Core.Bool.{Bool}
 use mathlib.Core.List.{List, ◌++◌, append-nil}
 use Prim.Native.Nat.{ℕ, ◌+◌, ◌-◌, ◌*◌, ◌/◌, ◌%◌, ◌^◌, ◌≤◌, ◌<◌, min}
 use native.Mathlib.Nat.{lt_of_lt_of_le, mod-eq_of_lt}
-use native.Mathlib.Decide.{dec_le}
 use native.Mathlib.Omega.{arith}
 use lib.Pow.{pow_mono, shr_lt, shl_exact}
 use lib.ListN.{length, take, drop, get_or, length-drop, length-take, take-append-drop}
-use lib.Seq.{drop-drop, drop-append-le, take-append-le, length-take-le, take-add, take_all, drop-cons}
+use lib.Seq.{drop-drop, drop-append-le, take-append-le, length-take-le, take-add, drop-cons}
+use Rattle.std.proofs.lemmas.List.{take_min}
 use Rattle.bits.specs.Bits.{low, num, bits_of}
 use Rattle.bits.specs.Fields.{get_bits}
 use Rattle.bits.specs.Window.{Window}
@@ -73,14 +73,6 @@ bytes_lt x a =
     lt_of_lt_of_le (num_lt (bits_of (take a x)))
     (pow_mono {i = length (bits_of (take a x))} {j = 8 * a} (omega (arith, length-bits (take a x), length-take a x)))
 
--- at most as many elements as there are
-take_min : (l : List ℕ) (n : ℕ) → take n l ≡ take (min n (length l)) l
-take_min l n = go (dec_le n (length l))
-  where
-    go : Dec (n ≤ length l) → take n l ≡ take (min n (length l)) l
-    go (yes h) = let e : min n (length l) ≡ n = omega arith in rw e
-    go (no h) = let e : min n (length l) ≡ length l = omega arith in rw e (take_all n l (omega arith) ∙ sym (take_all (length l) l (omega arith)))
-
 -- n whole bytes from the byte of p on are a window at p
 pub place-window : (s : List ℕ) (p n w : ℕ) → p / 8 + n ≤ length s → 0 < n → w ≡ num (bits_of (take n (drop (p / 8) s)))
     → Window (bits_of s) p (8 * n - p % 8) (w / 2 ^ (p % 8))
@@ -99,7 +91,7 @@ tail-window s p w h e =
     let i = p / 8 in
     let n = min 8 (length s - i) in
     place-window s p n w (omega arith) (omega arith)
-    (e ∙ ap (λ (l : List ℕ). num (bits_of l)) (take_min (drop i s) 8) ∙ ap (λ (m : ℕ). num (bits_of (take (min 8 m) (drop i s)))) (length-drop i s))
+    (e ∙ ap (λ (l : List ℕ). num (bits_of l)) (sym (take_min 8 (drop i s))) ∙ ap (λ (m : ℕ). num (bits_of (take (min 8 m) (drop i s)))) (length-drop i s))
 
 -- the number w of j bytes and the byte b behind them, joined in 64 bits
 pub record More (s : List ℕ) (i j w b : ℕ) : Type 0 where

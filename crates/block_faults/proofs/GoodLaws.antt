@@ -2,14 +2,15 @@
 -- Assumes nothing.
 use mathlib.Core.Path.{◌≡◌, refl, sym, ap, ap₂, ◌∙◌}
 use mathlib.Core.Bool.{Bool, true, false}
-use mathlib.Core.List.{List, [], ◌∷◌, ◌++◌, append-nil}
+use mathlib.Core.List.{List, ◌∷◌, ◌++◌}
 use Prim.Native.Nat.{ℕ, suc, ◌+◌, ◌-◌, ◌*◌, ◌≤◌, ◌<◌, min}
 use native.Mathlib.Omega.{arith}
 use borrow.Author.Tests.{eq-eqb, ne_eqb, eqb-true, eqb-false}
 use lib.Dec.{eqb}
-use lib.ListN.{length, take, drop, length-take, length-drop, length-append, drop_of_length-le}
-use lib.Seq.{drop-drop, take_all, take_at}
-use Rattle.std.proofs.lemmas.List.{drop_at}
+use lib.ListN.{length, take, drop, length-take, length-drop}
+use lib.Seq.{drop-drop}
+use Rattle.std.proofs.lemmas.List.{take_min, drop_min}
+use Rattle.std.proofs.Math.Seq.{take-append_seam, drop-append_seam}
 use Rattle.archive.specs.Block.{block_bytes}
 use Rattle.archive.specs.Faults.{cut, blocks_in, announced_by, wrong, none_left, next_before}
 use Rattle.archive.specs.Faults.{good, good_blocks}
@@ -44,21 +45,6 @@ pub judged_at : (file part : List ℕ) (k i l b before count : ℕ) (bad : Bool)
     → bad ≡ wrong (eqb (i + 1) (blocks_in file)) l before (block_at file i)
 judged_at file part k i l b before count bad p at same of e = e ∙ rw (at, same, of, p)
 
--- a list behind its first n elements, or behind all of it
-record Cut (n : ℕ) (part rest : List ℕ) : Type 0 where
-  first : take n (part ++ rest) ≡ part
-  after : drop n (part ++ rest) ≡ rest
-
--- so it is behind a part of that many elements, or of all that there are
-cut_at : (n : ℕ) (part rest : List ℕ) → length part ≡ min n (length (part ++ rest)) → Cut n part rest
-cut_at n part [] h =
-    let whole = append-nil part in
-    let e : length part ≤ n = omega (arith, ap length whole) in
-    record { first = ap (take n) whole ∙ take_all n part e; after = ap (drop n) whole ∙ drop_of_length-le part {i = n} e }
-cut_at n part (x ∷ rest) h =
-    let e : length part ≡ n = omega (arith, length-append part (x ∷ rest)) in
-    record { first = take_at part (x ∷ rest) n e; after = drop_at part (x ∷ rest) n e }
-
 -- what is left is what stands behind the first i blocks
 pub record Left (file : List ℕ) (i size : ℕ) (rest : List ℕ) : Type 0 where
   pub size_is : size ≡ 512
@@ -77,15 +63,16 @@ module _ (file : List ℕ) (i size : ℕ) (rest : List ℕ) (left : Left file i 
   none_left_count none = omega (arith, rest-long)
 
   module _ (part after : List ℕ) (cuts : rest ≡ part ++ after) (long : length part ≡ min size (length rest)) where
-    parted : Cut 512 part after
-    parted = cut_at 512 part after (long ∙ ap₂ (λ (n : ℕ) (l : List ℕ). min n (length l)) left.size_is cuts)
+    long-is : length part ≡ min 512 (length (part ++ after))
+    long-is = long ∙ ap₂ (λ (n : ℕ) (l : List ℕ). min n (length l)) left.size_is cuts
 
     whole-is : part ++ after ≡ drop (512 * i) file
     whole-is = sym cuts ∙ left.rest_is
 
     -- the next part is the next block
     pub block-is : part ≡ block_at file i
-    block-is = sym parted.first ∙ ap (take 512) whole-is
+    block-is = sym (take-append_seam part after) ∙ ap (λ (m : ℕ). take m (part ++ after)) long-is
+        ∙ take_min 512 (part ++ after) ∙ ap (take 512) whole-is
 
     -- and the others are behind it
     pub left_more : (n next : ℕ) → n ≡ size → next ≡ i + 1 → Left file next n after
@@ -93,7 +80,8 @@ module _ (file : List ℕ) (i size : ℕ) (rest : List ℕ) (left : Left file i 
         let g : 512 * i + 512 ≡ 512 * next = omega arith in
         record {
           size_is = e ∙ left.size_is;
-          rest_is = sym parted.after ∙ ap (drop 512) whole-is ∙ drop-drop 512 (512 * i) file
+          rest_is = sym (drop-append_seam part after) ∙ ap (λ (m : ℕ). drop m (part ++ after)) long-is
+              ∙ drop_min 512 (part ++ after) ∙ ap (drop 512) whole-is ∙ drop-drop 512 (512 * i) file
               ∙ ap (λ (m : ℕ). drop m file) g;
         }
 

@@ -1,29 +1,15 @@
 -- The samples of a line, as parts of the list one after the other.
 -- Assumes nothing.
 use mathlib.Core.Path.{◌≡◌, sym, ap, ap₂, ◌∙◌}
-use mathlib.Core.List.{List, [], ◌∷◌, ◌++◌, append-nil}
+use mathlib.Core.List.{List, ◌++◌}
 use Prim.Native.Nat.{ℕ, ◌+◌, ◌*◌, ◌%◌, ◌≤◌, ◌<◌, min}
 use native.Mathlib.Omega.{arith}
 use lib.IntN.{ℤ}
-use lib.ListN.{length, take, drop, length-append, length-drop, drop_of_length-le}
-use lib.Seq.{take_all, take_at, drop-drop}
-use Rattle.std.proofs.lemmas.List.{drop_at}
+use lib.ListN.{length, take, drop, length-drop}
+use lib.Seq.{drop-drop}
+use Rattle.std.proofs.lemmas.List.{take_min, drop_min}
+use Rattle.std.proofs.Math.Seq.{take-append_seam, drop-append_seam}
 use Rattle.page_lines.specs.Page.{line_count, covered}
-
--- a list behind its first n elements, or behind all of it
-record Cut (n : ℕ) (part rest : List ℤ) : Type 0 where
-  first : take n (part ++ rest) ≡ part
-  after : drop n (part ++ rest) ≡ rest
-
--- so it is behind a part of that many elements, or of all that there are
-cut_at : (n : ℕ) (part rest : List ℤ) → length part ≡ min n (length (part ++ rest)) → Cut n part rest
-cut_at n part [] h =
-    let whole = append-nil part in
-    let e : length part ≤ n = omega (arith, ap length whole) in
-    record { first = ap (take n) whole ∙ take_all n part e; after = ap (drop n) whole ∙ drop_of_length-le part {i = n} e }
-cut_at n part (x ∷ rest) h =
-    let e : length part ≡ n = omega (arith, length-append part (x ∷ rest)) in
-    record { first = take_at part (x ∷ rest) n e; after = drop_at part (x ∷ rest) n e }
 
 -- the parts that are left are those behind the first k lines
 pub record Left (samples : List ℤ) (k size : ℕ) (rest : List ℤ) : Type 0 where
@@ -42,15 +28,16 @@ module _ (samples : List ℤ) (k size : ℕ) (rest : List ℤ) (left : Left samp
   none-left none = omega (arith, ap length left.rest_is, length-drop (2048 * k) samples)
 
   module _ (part after : List ℤ) (cuts : rest ≡ part ++ after) (long : length part ≡ min size (length rest)) where
-    cut : Cut 2048 part after
-    cut = cut_at 2048 part after (long ∙ ap₂ (λ (n : ℕ) (l : List ℤ). min n (length l)) left.size_is cuts)
+    long-is : length part ≡ min 2048 (length (part ++ after))
+    long-is = long ∙ ap₂ (λ (n : ℕ) (l : List ℤ). min n (length l)) left.size_is cuts
 
     whole-is : part ++ after ≡ drop (2048 * k) samples
     whole-is = sym cuts ∙ left.rest_is
 
     -- the next part is the next line's
     pub part-is : part ≡ covered k samples
-    part-is = sym cut.first ∙ ap (take 2048) whole-is
+    part-is = sym (take-append_seam part after) ∙ ap (λ (m : ℕ). take m (part ++ after)) long-is
+        ∙ take_min 2048 (part ++ after) ∙ ap (take 2048) whole-is
 
     -- and the others are behind it
     pub left_more : (n next : ℕ) → n ≡ size → next ≡ k + 1 → Left samples next n after
@@ -58,6 +45,7 @@ module _ (samples : List ℤ) (k size : ℕ) (rest : List ℤ) (left : Left samp
         let g : 2048 * k + 2048 ≡ 2048 * next = omega arith in
         record {
           size_is = e ∙ left.size_is;
-          rest_is = sym cut.after ∙ ap (drop 2048) whole-is ∙ drop-drop 2048 (2048 * k) samples
+          rest_is = sym (drop-append_seam part after) ∙ ap (λ (m : ℕ). drop m (part ++ after)) long-is
+              ∙ drop_min 2048 (part ++ after) ∙ ap (drop 2048) whole-is ∙ drop-drop 2048 (2048 * k) samples
               ∙ ap (λ (m : ℕ). drop m samples) g;
         }

@@ -8,9 +8,10 @@ use native.Mathlib.Decide.{dec_lt}
 use native.Mathlib.Omega.{arith}
 use lib.Dec.{ltb}
 use lib.IntN.{ℤ}
-use lib.ListN.{length, take, drop, length-take, length-append, drop_of_length-le}
+use lib.ListN.{length, take, drop, length-take, drop_of_length-le}
 use lib.Seq.{length-take-le, take_all, take_at}
-use Rattle.std.proofs.lemmas.List.{drop_at}
+use Rattle.std.proofs.lemmas.List.{take_min, drop_min}
+use Rattle.std.proofs.Math.Seq.{take-append_seam, drop-append_seam}
 use lib.Signed.{mag}
 use Rattle.std.specs.Prelude.{Option, Some, None}
 use Rattle.answers.specs.Limits.{residual_span}
@@ -43,21 +44,6 @@ first_run n ps qs e = go (dec_lt (length ps) n)
         let m : length qs ≤ n = rw e (simp length-take (omega arith)) in
         rw (drop_of_length-le ps {i = n} (omega arith), append-nil qs) (take_all n qs m)
     go (no h) = take_at qs (drop n ps) n (e ∙ length-take-le n ps (omega arith))
-
--- a list behind its first n elements, or behind all of it
-record Cut (n : ℕ) (part rest : List ℤ) : Type 0 where
-  first : take n (part ++ rest) ≡ part
-  after : drop n (part ++ rest) ≡ rest
-
--- so it is behind a part of that many elements, or of all that there are
-cut_at : (n : ℕ) (part rest : List ℤ) → length part ≡ min n (length (part ++ rest)) → Cut n part rest
-cut_at n part [] h =
-    let whole = append-nil part in
-    let e : length part ≤ n = omega (arith, ap length whole) in
-    record { first = ap (take n) whole ∙ take_all n part e; after = ap (drop n) whole ∙ drop_of_length-le part {i = n} e }
-cut_at n part (x ∷ rest) h =
-    let e : length part ≡ n = omega (arith, length-append part (x ∷ rest)) in
-    record { first = take_at part (x ∷ rest) n e; after = drop_at part (x ∷ rest) n e }
 
 -- ---- by what looking at a part says
 
@@ -110,10 +96,14 @@ module _ (ps : List DecorrPass) (n : ℕ) (l : List ℤ) where
     -- the cut falls on eights: this part and the rest decide together
     together : answer ≡ (spanned one.buffer && spanned (analysed one.passes left).buffer)
     together =
-        let c = cut_at part_elements part left (rw (← cuts) size) in
+        let long : length part ≡ min part_elements (length (part ++ left)) = rw (← cuts) size in
+        let first : take part_elements (part ++ left) ≡ part =
+        sym (take_min part_elements (part ++ left)) ∙ rw (sym long) (take-append_seam part left) in
+        let behind : drop part_elements (part ++ left) ≡ left =
+        sym (drop_min part_elements (part ++ left)) ∙ rw (sym long) (drop-append_seam part left) in
         let cut = chained-cut Analysis (take n list) part_frames (part ++ left) k.analysable.valid (MayCut.on-eights refl) in
         k.rest ∙ ap (λ (l : List ℤ). spanned (analysed (take n list) l).buffer) cuts
-        ∙ ap (λ (c : Chain). spanned c.buffer) (rw (c.first, c.after) at cut)
+        ∙ ap (λ (c : Chain). spanned c.buffer) (rw (first, behind) at cut)
         ∙ within-joined residual_span one.buffer (analysed one.passes left).buffer
 
     -- a residual of this part lies outside
