@@ -23,12 +23,6 @@ use Rattle.fields.proofs.Local.{at, field_end, prefix_end, Local, clash, local_t
 
 -- ---- bits and counts
 
--- what is dropped of a part is a part of what is left
-drop-take : (p k : ℕ) (l : List Bool) → drop p (take (p + k) l) ≡ take k (drop p l)
-drop-take zero k l = rw zero-add
-drop-take (suc p) k [] = rw suc-add (sym (take-nil k))
-drop-take (suc p) k (x ∷ l) = rw suc-add (drop-take p k l)
-
 -- the same bits up to p + k are the same k bits at p
 part_same : (a b : List Bool) (p k : ℕ) → take (p + k) a ≡ take (p + k) b → take k (drop p a) ≡ take k (drop p b)
 part_same a b p k t = sym (drop-take p k a) ∙ ap (drop p) t ∙ drop-take p k b

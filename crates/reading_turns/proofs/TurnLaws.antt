@@ -21,19 +21,9 @@ onward_from payload a b after x y to e p l i m n z u o = record {
   same = rw e at o.same;
 }
 
--- whatever proves that left's bits are a part of all, the turn is the same
-pub turn_part : (t : Turn) (h : t.left_bits ≤ t.bits)
-    → t ≡ record {
-      bits = t.bits;
-      left_bits = t.left_bits;
-      written = t.written;
-      medians = t.medians;
-      run_break = t.run_break;
-      last_zero = t.last_zero;
-      last_one = t.last_one;
-      part = h;
-    }
-turn_part t h = ap (λ (p : t.left_bits ≤ t.bits). record {
+-- the turn, with this proof that left's bits are a part of all
+abbrev pub with_part : (t : Turn) → t.left_bits ≤ t.bits → Turn
+with_part t h = record {
   bits = t.bits;
   left_bits = t.left_bits;
   written = t.written;
@@ -41,5 +31,9 @@ turn_part t h = ap (λ (p : t.left_bits ≤ t.bits). record {
   run_break = t.run_break;
   last_zero = t.last_zero;
   last_one = t.last_one;
-  part = p;
-}) (le_prop t.part h)
+  part = h;
+}
+
+-- whatever proves it, the turn is the same
+pub turn_part : (t : Turn) (h : t.left_bits ≤ t.bits) → t ≡ with_part t h
+turn_part t h = ap (with_part t) (le_prop t.part h)
