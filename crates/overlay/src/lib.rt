@@ -7,10 +7,13 @@
 ghost use Rattle.std.specs.Prelude.{◌≡◌, ◌+◌, ◌≤◌, length};
 ghost use Rattle.overlay.specs.Overlay.{overlay};
 
-// Lays values into a list from a place on.
+// Lays values into a list from a place on. It is a loop and no `copy_from_slice`, which would bring `memmove`
+// into the library for C: the compiler makes `memcpy` of the loop, or a few stores.
 pub fn lay<T: Copy>(values: &[T], at: usize, list: &mut [T])
     requires { at + length values.now ≤ length list.old }
     ensures { list.new ≡ overlay list.old at values.now }
 {
-    list[at..at + values.len()].copy_from_slice(values);
+    for i in 0..values.len() {
+        list[at + i] = values[i];
+    }
 }

@@ -1,23 +1,18 @@
--- `overlay::lay` meets its contract: what stands before the values and behind them is kept.
+-- `overlay::lay` meets its contract. The loop's invariant: the first i values are copied.
 -- Assumes nothing.
-use mathlib.Core.Path.{◌≡◌, ap, ◌∙◌}
-use mathlib.Core.List.{List, append_assoc}
-use Prim.Native.Nat.{ℕ, ◌+◌, ◌-◌}
-use native.Mathlib.Omega.{arith}
-use lib.ListN.{length, take}
-use lib.Seq.{drop-drop}
-use borrow.Rule.Slice.PartMut.{put_mid}
-use Rattle.overlay.specs.Overlay.{overlay}
+use Rattle.std.proofs.Common.{◌∙◌, arith}
+use Rattle.std.proofs.lemmas.List.Edits.{paste_none, paste_more}
+use Rattle.overlay.proofs.OverlayLaws.{overlay_copied}
 use Rattle.overlay.proofs.lay.Goals as goal
 
--- values in the place of as many elements
-laid : {A : Type 0} (list values : List A) (at n : ℕ) → n ≡ length values → put_mid at n list values ≡ overlay list at values
-unfolding overlay
-laid list values at n e = rw (e, drop-drop (length values) at list, append_assoc (take at list) values _)
+pub loop-i-init : goal.loop-i-init
+loop-i-init g c = paste_none c.args.list.now c.args.at c.args.values.now
+
+pub loop-i-preserved : goal.loop-i-preserved
+loop-i-preserved g c =
+    let more = paste_more c.args.list.now c.args.at c.args.values.now c.loop-i.i c.index-values-i.result
+    (omega (arith, c.requires, c.loop-i-test.true)) c.loop-i-test.true in
+    rw (c.loop-i.invariant, c.index-values-i.is) more
 
 pub returns : goal.returns
-returns g c =
-    let n = length c.args.values.now in
-    let at = c.args.at in
-    ap (put_mid at (at + n - at) c.args.list.now) c.copy_from_slice.ensures.after
-    ∙ laid c.args.list.now c.args.values.now at (at + n - at) (omega arith)
+returns g c = c.loop-i.invariant ∙ overlay_copied c.args.list.now c.args.values.now c.args.at c.loop-i.i (omega (arith, c.loop-i-test.false, c.loop-i.auto.i-end))
