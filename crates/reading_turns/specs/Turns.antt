@@ -17,10 +17,10 @@ use Rattle.short_steps.specs.declared.standing.Standing.{Standing}
 use Rattle.reading_turns.specs.Zeros.{ZerosIs}
 use Rattle.reading_turns.specs.declared.turn.Turn.{Turn}
 
--- the word where the loop stands, in every state that it holds
-pub record WordAt (payload : List ℕ) (t : Turn) (r : Result Coded Refusal) : Type 0 where
-  pub is : (s : State) → Held s t.medians 0 t.run_break t.last_zero t.last_one t.written
-      → coded_word s r ≡ word (bits_of payload) t.bits s
+-- the word at the place p, where i samples are written, in every state that the loop holds there
+pub record WordAt (payload : List ℕ) (p i : ℕ) (sets : List AdaptiveMedians) (run_break zero one : Bool)
+    (r : Result Coded Refusal) : Type 0 where
+  pub is : (s : State) → Held s sets 0 run_break zero one i → coded_word s r ≡ word (bits_of payload) p s
 
 -- left's bits after a word that ends at q (Q8.2)
 abbrev pub left_after : Turn → ℕ → ℕ

@@ -22,15 +22,29 @@ pub use turn::Turn;
 use word_state::zero_run_eligible;
 use words::coded::{Coded, read_word};
 
-// The word where the loop stands.
-pub fn word_at(payload: &[u8], at: Turn) -> Result<Coded, Refusal>
+// The word where the loop stands. It is given what it reads of a turn and no `Turn`: what left took is not
+// asked for here.
+pub fn word_at(
+    payload: &[u8],
+    place: usize,
+    written: usize,
+    medians: [AdaptiveMedians; 2],
+    run_break: bool,
+    last_zero: bool,
+    last_one: bool,
+) -> Result<Coded, Refusal>
     requires { length payload.now ≤ max_payload_bytes }
-    ensures { WordAt payload.now at result }
+    ensures { WordAt payload.now place written medians run_break last_zero last_one result }
 {
-    let sets = at.medians;
-    let run = zero_run_eligible(sets[0], sets[1], at.run_break, at.last_zero, at.last_one);
-    let due = sets[at.written % 2];
-    read_word(payload, at.bits, run, due, at.last_zero, at.last_one)
+    let run = zero_run_eligible(medians[0], medians[1], run_break, last_zero, last_one);
+    read_word(
+        payload,
+        place,
+        run,
+        medians[written % 2],
+        last_zero,
+        last_one,
+    )
 }
 
 // The first zero of a run and `owed` more into `out` from `first` on, as far as `out` goes. The

@@ -157,7 +157,8 @@ module _ (payload : List ℕ) (out₀ : List ℤ) (s₀ : State) (out : List ℤ
       → ended 0 t out ≡ read_all
   loop_end h = words-end payload out₀ s₀ out _ l.owed _ _ _ _ _ _ l.words h
 
-  module _ (r : Result Coded Refusal) (h : t.written < length out) (c : WordAt payload t r) where
+  module _ (r : Result Coded Refusal) (h : t.written < length out)
+      (c : WordAt payload t.bits t.written t.medians t.run_break t.last_zero t.last_one r) where
     -- the word of the state that the turn holds
     read : coded_word l.words.state r ≡ word (bits_of payload) t.bits l.words.state
     read = c.is l.words.state (rw (l.settled h) at l.words.held)

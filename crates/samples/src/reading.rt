@@ -60,7 +60,15 @@ fn decode_packed_samples_stereo(
         last_one: false,
     };
     while at.written < out.len() {
-        at = match word_at(payload, at) {
+        at = match word_at(
+            payload,
+            at.bits,
+            at.written,
+            at.medians,
+            at.run_break,
+            at.last_zero,
+            at.last_one,
+        ) {
             Ok(Coded::Run { owed, next }) => after_run(out, at, owed, next),
             Ok(
                 Coded::Sample {

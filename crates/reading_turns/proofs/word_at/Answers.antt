@@ -9,7 +9,7 @@ pub returns : goal.returns
 returns c =
     record {
       is = λ s h.
-          held-coded s c.args.at.medians 0 _ _ _ c.args.at.written h
-          (bits_of c.args.payload.now) c.args.at.bits _ _ refl
+          held-coded s c.args.medians 0 _ _ _ c.args.written h
+          (bits_of c.args.payload.now) c.args.place _ _ refl
           c.zero_run_eligible-run.ensures c.read_word.ensures;
     }
