@@ -25,8 +25,15 @@ pub record Analysable (passes : List DecorrPass) (count : ℕ) : Type 0 where
   pub few : count ≤ max_passes
   pub valid : all_valid (take count passes) ≡ true
 
--- what analysis of a recording answers, leaves in a lent list, and the passes after it
-pub record FoundIs (passes : List DecorrPass) (count : ℕ) (recording list : List ℤ) (r : Result (List DecorrPass) Refusal) : Type 0 where
+-- what analysis of a recording leaves in a lent list, and the passes after it
+pub record FoundIs (passes : List DecorrPass) (count : ℕ) (recording list : List ℤ) (after : List DecorrPass) : Type 0 where
+  pub fit : Fit recording
+  pub found : list ≡ (array_answer Analysis passes count recording).buffer
+  pub passes-after : after ≡ (array_answer Analysis passes count recording).passes
+
+-- the same, and whether it refuses
+pub record AnsweredIs (passes : List DecorrPass) (count : ℕ) (recording list : List ℤ)
+    (r : Result (List DecorrPass) Refusal) : Type 0 where
   pub fit : Fit recording
   pub told : outcome_number r ≡ (array_answer Analysis passes count recording).refusal
   pub found : list ≡ (array_answer Analysis passes count recording).buffer

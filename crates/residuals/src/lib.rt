@@ -8,7 +8,7 @@
 ghost use Rattle.std.specs.Prelude.{◌≡◌, ◌≤◌, length, take};
 ghost use Rattle.passes.specs.Run.{analysed};
 ghost use Rattle.word_bits.specs.Residuals.{spanned};
-ghost use Rattle.residuals.specs.Residuals.{part_elements, part_answer, Analysable, FoundIs};
+ghost use Rattle.residuals.specs.Residuals.{part_elements, part_answer, Analysable, AnsweredIs, FoundIs};
 
 use answers::Refusal;
 use answers::limits::{MAX_PASSES, RESIDUAL_SPAN};
@@ -22,17 +22,30 @@ const PART: usize = 2048;
 
 // The residuals that analysis by the first `count` passes of an array finds, into a lent list, and the
 // passes after it. What analysis refuses (5, 9, 7) leaves the recording in the list.
-pub fn find_residuals(
+pub fn try_find_residuals(
     passes: [DecorrPass; MAX_PASSES],
     count: usize,
     recording: &[i32],
     list: &mut [i32],
 ) -> Result<[DecorrPass; MAX_PASSES], Refusal>
     requires { length recording.now ≡ length list.old }
-    ensures { FoundIs passes count recording.now list.new result }
+    ensures { AnsweredIs passes count recording.now list.new result }
 {
     copy(recording, list);
     recorrelate_array(passes, count, list)
+}
+
+// The same for passes that analysis takes. It refuses nothing: of others the passes come back as they were.
+pub fn find_residuals(
+    passes: [DecorrPass; MAX_PASSES],
+    count: usize,
+    recording: &[i32],
+    list: &mut [i32],
+) -> [DecorrPass; MAX_PASSES]
+    requires { length recording.now ≡ length list.old }
+    ensures { FoundIs passes count recording.now list.new result }
+{
+    try_find_residuals(passes, count, recording, list).unwrap_or(passes)
 }
 
 // The passes after a part whose residuals lie in the span, found in a lent list; none where one lies
@@ -47,7 +60,7 @@ fn look_in(
     requires short { length part.now ≤ part_elements }
     ensures { result ≡ part_answer passes count part.now }
 {
-    let after = find_residuals(passes, count, part, list).unwrap_or(passes);
+    let after = find_residuals(passes, count, part, list);
     if is_within(list, RESIDUAL_SPAN) {
         Some(after)
     } else {

@@ -11,7 +11,7 @@ use answers::Refusal;
 use answers::limits::MAX_PASSES;
 use pack_entry::encode_packed_samples_stereo_from_entropy;
 use passes::DecorrPass;
-use residuals::find_residuals;
+use residuals::try_find_residuals;
 use trip_steps::{early_refusal, read_back};
 
 // What the round trip answers where it refuses nothing: the bits written, and whether the recording came
@@ -45,7 +45,7 @@ pub fn round_trip(
         return Err(Refusal::ListLength);
     }
     early_refusal(passes, count, elements, entropy, packed.len())?;
-    find_residuals(passes, count, recording, scratch)?;
+    try_find_residuals(passes, count, recording, scratch)?;
     let written = encode_packed_samples_stereo_from_entropy(
         scratch,
         entropy,

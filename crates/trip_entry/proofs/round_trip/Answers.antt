@@ -18,16 +18,16 @@ returns-in_err-early_refusal c =
     rw (p.1, p.2) (trip_early _ _ _ _ _ _ _ c.if-scratch-elements.false c.in_err-early_refusal.ensures)
 
 -- what analysis refuses was refused before
-pub returns-in_err-find_residuals : goal.returns-in_err-find_residuals
-returns-in_err-find_residuals c =
+pub returns-in_err-try_find_residuals : goal.returns-in_err-try_find_residuals
+returns-in_err-try_find_residuals c =
     trip_found _ _ c.args.recording.now c.args.entropy.now c.args.scratch.now c.args.packed.now _
-    c.in_err-find_residuals.ensures.told (sym c.in_ok-early_refusal.ensures)
+    c.in_err-try_find_residuals.ensures.told (sym c.in_ok-early_refusal.ensures)
 
 pub returns-in_err-written : goal.returns-in_err-written
 returns-in_err-written c =
     let p = err_from_is_err_and c.from_residual-in_err-written.result c.from_residual-in_err-written.ensures.1 in
     rw (p.1, p.2)
-    (trip_span _ _ c.args.recording.now _ _ _ _ _ _ c.if-scratch-elements.false c.in_ok-find_residuals.ensures.found
+    (trip_span _ _ c.args.recording.now _ _ _ _ _ _ c.if-scratch-elements.false c.in_ok-try_find_residuals.ensures.found
     (sym c.in_ok-early_refusal.ensures) c.in_err-written.ensures)
 
 pub slice_bounds-read_back-end : goal.slice_bounds-read_back-end
@@ -43,7 +43,7 @@ slice_bounds-read_back-end-2 c =
 pub returns : goal.returns
 returns c =
     let end : c.div_ceil-end.result ≡ (c.in_ok-written.written.bits + 7) / 8 = omega (arith, c.div_ceil-end.ensures) in
-    trip_back _ _ c.args.recording.now _ _ _ c.in_ok-find_residuals.ensures.fit _ _ _ _ c.in_ok-written.written _
-    c.if-scratch-elements.false c.in_ok-find_residuals.ensures.found (sym c.in_ok-early_refusal.ensures)
+    trip_back _ _ c.args.recording.now _ _ _ c.in_ok-try_find_residuals.ensures.fit _ _ _ _ c.in_ok-written.written _
+    c.if-scratch-elements.false c.in_ok-try_find_residuals.ensures.found (sym c.in_ok-early_refusal.ensures)
     c.in_ok-written.ensures
     (ap (λ (n : ℕ). take n c.encode_packed_samples_stereo_from_entropy.new.out) end) c.read_back-same.ensures
