@@ -9,7 +9,7 @@ use borrow.Author.Tests.{lt-ltb, le-ltb, ltb-false}
 use lib.Dec.{ltb}
 use lib.IntN.{ℤ, pos}
 use lib.ListN.{length, get_or}
-use Rattle.std.specs.Prelude.{Result, Ok}
+use Rattle.std.specs.Prelude.{Result, Ok, Err}
 use Rattle.answers.specs.Limits.{max_payload_bytes}
 use Rattle.answers.specs.declared.Refusal.{Refusal}
 use Rattle.bits.specs.Bits.{bits_of}
@@ -22,7 +22,7 @@ use Rattle.word_state.proofs.BitsLaws.{charged-none, not_exceeded}
 use Rattle.word_state.proofs.StateLaws.{no_set, there, picked}
 use Rattle.words.specs.Word.{Word, given, refused, word}
 use Rattle.words.specs.Parts.{coded_word, CodedIs}
-use Rattle.one_word.specs.View.{WordTold, tell_word, charge, bits_taken, one_word}
+use Rattle.one_word.specs.View.{WordTold, tell_word, charge, word_taken, one_word}
 use Rattle.words.specs.declared.coded.Coded.{Coded}
 use Rattle.zones.specs.Report.{Report, none}
 use Rattle.readings.proofs.RefusalLaws.{word-refused}
@@ -65,12 +65,13 @@ word_read payload p st run r l n m e c =
     ∙ sym (word-fresh (bits_of payload) p (state_of st) n)
 
 -- the steps of a word leave the totals alone, so they may be charged before them
-pub charged-before : (p : ℕ) (s : State) (r : Coded)
-    → coded_word (with_bits (plus_bits s.channel (bits_taken p r) s.bits_read) s) (Ok r)
-    ≡ charge p s (coded_word s (Ok r))
+pub charged-before : (p : ℕ) (s : State) (r : Result Coded Refusal)
+    → coded_word (with_bits (plus_bits s.channel (word_taken p r) s.bits_read) s) r
+    ≡ charge p s (coded_word s r)
 unfolding charged in_run after unbroken
-charged-before p s (Coded.Run d q) = refl
-charged-before p s (Coded.Sample v k q z o) = refl
+charged-before p s (Ok (Coded.Run d q)) = refl
+charged-before p s (Ok (Coded.Sample v k q z o)) = refl
+charged-before p s (Err refusal) = refl
 
 -- a zero that was owed takes nothing
 pub one-paid : (payload : List ℕ) (p : ℕ) (s : State) → length payload ≤ max_payload_bytes → s.channel ≤ 1

@@ -1,8 +1,10 @@
 -- What the struct of the one-word entry stands for, and what the entry answers (X3).
 -- Assumes nothing.
 use Rattle.std.specs.Prelude.{cond, ◌||◌, List, ℕ, ◌-◌, ◌≤◌, ltb, ℤ, pos, length}
+use Rattle.std.specs.Prelude.{Result, Ok, Err}
 use Rattle.answers.specs.Limits.{max_payload_bytes}
 use Rattle.answers.specs.Numbers.{outcome_number}
+use Rattle.answers.specs.declared.Refusal.{Refusal}
 use Rattle.bits.specs.Bits.{bits_of}
 use Rattle.word_state.specs.State.{State, charged, exceeds}
 use Rattle.word_state.specs.View.{state_of}
@@ -54,6 +56,11 @@ one_word payload p s =
 abbrev pub bits_taken : ℕ → Coded → ℕ
 bits_taken p (Coded.Run d q) = q - p
 bits_taken p (Coded.Sample v k q z o) = q - p
+
+-- the same of a word that may be refused, which takes none
+abbrev pub word_taken : ℕ → Result Coded Refusal → ℕ
+word_taken p (Ok r) = bits_taken p r
+word_taken p (Err refusal) = 0
 
 -- a word that was read at p ends there or after it
 abbrev pub EndsAfter : ℕ → Coded → Type 0

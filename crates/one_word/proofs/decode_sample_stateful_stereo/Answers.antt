@@ -93,7 +93,7 @@ told payload p s b n r x f g h few t e =
     ap (λ (y : Coded). tell_word p s (coded_word (with_bits b s) (Ok y))) (sym f)
     ∙ ap (λ (a : BitsRead). tell_word p s (coded_word (with_bits a s) (Ok r)))
     (h ∙ ap (λ (m : ℕ). plus_bits s.channel m s.bits_read) g)
-    ∙ ap (tell_word p s) (charged-before p s r)
+    ∙ ap (tell_word p s) (charged-before p s (Ok r))
     ∙ one_word_lem payload p s _ few t.channel t.within e
 
 pub returns-in-Run : goal.returns-in-Run
