@@ -24,6 +24,7 @@ use Rattle.short_steps.specs.Onward.{Onward}
 use Rattle.short_steps.specs.Steps.{Ready, behind, SteppedIs, StepIs}
 use Rattle.short_steps.specs.declared.standing.Standing.{Standing}
 use Rattle.short_steps.specs.declared.Step.{Step}
+use Rattle.readings.proofs.CostLaws.{either-stem}
 use Rattle.readings.proofs.HeldLaws.{held-coded}
 use Rattle.readings.proofs.StandingLaws.{words-sample}
 
@@ -44,15 +45,18 @@ onward_then payload a b c x y z f g = record {
 
 module _ (payload : List ℕ) (out : List ℤ) (x : Standing) (w : ℕ) (h : x.written < length out)
     (v : Ready payload x w) (y : ShortWord) where
+  -- left's bits after a word are a part of all
+  part_after : (c total : ℕ) → x.left_bits + side c (x.place + y.used - x.place) 0 ≡ total → total ≤ x.place + y.used
+  part_after c total a = omega (arith, x.part, a, either-stem c (x.place + y.used - x.place))
+
   -- the word of the channel c, whose medians are due, and left's bits and the two sets after it
   onward-word : (c total : ℕ) (due left right : AdaptiveMedians) (other : Medians) → x.written % 2 ≡ c
-      → x.left_bits + side c (x.place + y.used - x.place) 0 ≡ total
+      → (a : x.left_bits + side c (x.place + y.used - x.place) 0 ≡ total)
       → get_or (x.left ∷ x.right ∷ []) c no_set ≡ due
       → set (x.left ∷ x.right ∷ []) c y.medians ≡ left ∷ right ∷ []
       → ShortWordIs w (medians_of due) other x.last_zero x.last_one y
-      → (part : total ≤ x.place + y.used)
-      → Onward payload out (set out x.written y.value) x (behind x y total left right part)
-  onward-word c total due left right other e a d f t part =
+      → Onward payload out (set out x.written y.value) x (behind x y total left right (part_after c total a))
+  onward-word c total due left right other e a d f t =
       let bits = bits_of payload in
       let sets = x.left ∷ x.right ∷ [] in
       let word : Result Coded Refusal = Ok (Coded.Sample y.value t.count (x.place + y.used) y.last_zero y.last_one) in
@@ -69,17 +73,27 @@ module _ (payload : List ℕ) (out : List ℤ) (x : Standing) (w : ℕ) (h : x.w
         same = length-set out x.written y.value;
       }
 
+  -- whatever proves that part, it is the same
+  by_part : (total : ℕ) (left right : AdaptiveMedians) (p q : total ≤ x.place + y.used)
+      → Onward payload out (set out x.written y.value) x (behind x y total left right p)
+      → Onward payload out (set out x.written y.value) x (behind x y total left right q)
+  by_part total left right p q o = record { goes = o.goes; since = o.since; within = o.within; same = o.same }
+
   pub onward-left : x.written % 2 ≡ 0
       → ShortWordIs w (medians_of x.left) (medians_of x.right) x.last_zero x.last_one y
       → (part : x.left_bits + y.used ≤ x.place + y.used)
       → Onward payload out (set out x.written y.value) x (behind x y (x.left_bits + y.used) y.medians x.right part)
-  onward-left e t part = onward-word 0 _ x.left y.medians x.right (medians_of x.right) e (omega arith) refl refl t part
+  onward-left e t part =
+      by_part _ y.medians x.right _ part
+      (onward-word 0 _ x.left y.medians x.right (medians_of x.right) e (omega arith) refl refl t)
 
   pub onward-right : x.written % 2 ≡ 1
       → ShortWordIs w (medians_of x.right) (medians_of x.left) x.last_zero x.last_one y
       → (part : x.left_bits ≤ x.place + y.used)
       → Onward payload out (set out x.written y.value) x (behind x y x.left_bits x.left y.medians part)
-  onward-right e t part = onward-word 1 _ x.right x.left y.medians (medians_of x.left) e (omega arith) refl refl t part
+  onward-right e t part =
+      by_part _ x.left y.medians _ part
+      (onward-word 1 _ x.right x.left y.medians (medians_of x.left) e (omega arith) refl refl t)
 
 -- ---- steps
 
