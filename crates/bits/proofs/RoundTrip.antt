@@ -19,6 +19,10 @@ pub record At (bits : List Bool) (p : ℕ) (f : List Bool) : Type 0 where
   pub rest : List Bool
   pub stands : drop p bits ≡ f ++ rest
 
+-- between what stands before it and what stands behind it
+pub at_here : (before f rest : List Bool) → At (before ++ (f ++ rest)) (length before) f
+at_here before f rest = record { rest = rest; stands = drop-append_seam before (f ++ rest) }
+
 -- the first of two that are joined
 pub at_first : {bits : List Bool} {p : ℕ} (f g : List Bool) → At bits p (f ++ g) → At bits p f
 at_first f g a = record { rest = g ++ a.rest; stands = a.stands ∙ append_assoc f g a.rest }

@@ -14,6 +14,16 @@ use Rattle.bits.proofs.BitLaws.{length-bits}
 use Rattle.bits.proofs.LaidLaws.{bits_append, bits_holding, put-parts}
 use Rattle.bits.proofs.RoundTrip.{At}
 
+-- the bytes that hold the bits before, f and after hold f behind before
+pub at_holding : (before f after : List Bool) → At (bits_of (bytes_holding (before ++ (f ++ after)))) (length before) f
+at_holding before f after =
+    let w = before ++ (f ++ after) in
+    let z = low (8 * ((length w + 7) / 8) - length w) 0 in
+    record {
+      rest = after ++ z;
+      stands = ap (drop (length before)) (bits_holding w ∙ append_assoc before (f ++ after) z) ∙ drop-append_seam before (f ++ after ++ z) ∙ append_assoc f after z;
+    }
+
 -- what has just been put into a buffer stands there
 pub at-put : (buf : List ℕ) (p : ℕ) (f : List Bool) → p ≤ 8 * length buf → At (bits_of (put buf p f)) p f
 at-put buf p [] h = record { rest = drop p (bits_of (put buf p [])); stands = refl }
