@@ -2,8 +2,6 @@
 ghost use Rattle.std.specs.Prelude.{[], ◌∷◌, ◌+◌, ◌≤◌, ◌<◌, length};
 ghost use Rattle.decimal.specs.TextPut.{TextPut};
 
-use overlay::lay;
-
 // Lays one byte.
 pub fn put_byte(out: &mut [u8], at: usize, byte: u8) -> usize
     requires { at < length out.old }
@@ -13,11 +11,14 @@ pub fn put_byte(out: &mut [u8], at: usize, byte: u8) -> usize
     at + 1
 }
 
-// Lays a text.
+// Lays a text, byte by byte.
 pub fn put_text(out: &mut [u8], at: usize, text: &[u8]) -> usize
     requires { at + length text.now ≤ length out.old }
     ensures { TextPut out.old out.new at result text.now }
 {
-    lay(text, at, out);
-    at + text.len()
+    let mut place = at;
+    for byte in text {
+        place = put_byte(out, place, *byte);
+    }
+    place
 }
