@@ -6,7 +6,7 @@ use mathlib.Core.List.{List, [], ◌∷◌, ◌++◌}
 use Prim.Native.Nat.{ℕ, ◌+◌, ◌*◌, ◌-◌, ◌/◌, ◌%◌, ◌≤◌, ◌<◌}
 use native.Mathlib.Numerals.{add-one}
 use native.Mathlib.Omega.{arith}
-use borrow.Author.Tests.{lt-ltb, le-ltb, le-leb}
+use borrow.Author.Tests.{lt-ltb, le-ltb, le-leb, leb-true}
 use Rattle.std.specs.Prelude.{Option, Some, None}
 use Rattle.std.specs.Char.{is_ascii_digit}
 use lib.Dec.{ltb}
@@ -21,6 +21,15 @@ use Rattle.threshold.specs.Threshold.{is_digit, all_digits, is_threshold, thresh
 pub digit-is : (c : ℕ) → is_ascii_digit c ≡ is_digit c
 unfolding is_digit
 digit-is c = refl
+
+first-holds : (a b : Bool) → (a && b) ≡ true → a ≡ true
+first-holds true b e = refl
+first-holds false b e = cc
+
+-- a digit is at least `0`
+pub digit_low : (c : ℕ) → is_digit c ≡ true → 48 ≤ c
+unfolding is_digit
+digit_low c e = leb-true 48 c (first-holds _ _ e)
 
 -- ---- the digits of a text
 

@@ -3,7 +3,15 @@
 #![tactic(auto)]
 
 ghost use Rattle.std.specs.Prelude.{◌≡◌};
-ghost use Rattle.threshold.specs.Threshold.{threshold_in};
+ghost use Rattle.threshold.specs.Threshold.{is_digit, threshold_in};
+
+// Whether a byte is a digit. It is a function, so that its contract refuses another answer.
+#[tactic(auto, unfolding(crate::specs::Threshold::is_digit))]
+fn is_digit(byte: u8) -> bool
+    ensures { result ≡ is_digit byte }
+{
+    b'0' <= byte && byte <= b'9'
+}
 
 // Reads a threshold: decimal digits alone, of a number below 2 to the 32. Any other text has none.
 #[tactic(auto, using(crate::proofs::ThresholdLaws::too_large))]
@@ -12,7 +20,7 @@ pub fn threshold_of(text: &[u8]) -> Option<u32>
 {
     let mut value: u64 = 0;
     for byte in text {
-        if !byte.is_ascii_digit() {
+        if !is_digit(*byte) {
             return None;
         }
         value = 10 * value + u64::from(*byte - b'0');
