@@ -45,8 +45,8 @@ onward_then payload a b c x y z f g = record {
 
 module _ (payload : List ℕ) (out : List ℤ) (x : Standing) (w : ℕ) (h : x.written < length out)
     (v : Ready payload x w) (y : ShortWord) where
-  -- left's bits after a word are a part of all
-  part_after : (c total : ℕ) → x.left_bits + side c (x.place + y.used - x.place) 0 ≡ total → total ≤ x.place + y.used
+  -- left's bits after a word are a part of all: what the laws of the left and of the right word take
+  pub part_after : (c total : ℕ) → x.left_bits + side c (x.place + y.used - x.place) 0 ≡ total → total ≤ x.place + y.used
   part_after c total a = omega (arith, x.part, a, either-stem c (x.place + y.used - x.place))
 
   -- the word of the channel c, whose medians are due, and left's bits and the two sets after it

@@ -9,7 +9,7 @@ use native.Mathlib.Omega.{arith}
 use borrow.Author.Tests.{lt-ltb, le-ltb, le-leb, leb-true}
 use Rattle.std.specs.Prelude.{Option, Some, None}
 use Rattle.std.specs.Char.{is_ascii_digit}
-use lib.Dec.{ltb}
+use lib.Dec.{ltb, leb}
 use lib.ListN.{length, drop, get_or, drop_of_length-le}
 use lib.Seq.{drop-cons}
 use Rattle.decimal.specs.Decimal.{decimal, read_digits}
@@ -26,10 +26,14 @@ first-holds : (a b : Bool) → (a && b) ≡ true → a ≡ true
 first-holds true b e = refl
 first-holds false b e = cc
 
--- a digit is at least `0`
-pub digit_low : (c : ℕ) → is_digit c ≡ true → 48 ≤ c
+second-holds : (a b : Bool) → (a && b) ≡ true → b ≡ true
+second-holds true b e = e
+second-holds false b e = cc
+
+-- a digit is at least `0`, and at most `9`
+pub digit_low : (c : ℕ) → is_digit c ≡ true → (48 ≤ c) × (c ≤ 57)
 unfolding is_digit
-digit_low c e = leb-true 48 c (first-holds _ _ e)
+digit_low c e = (leb-true 48 c (first-holds _ _ e), leb-true c 57 (second-holds (leb 48 c) _ e))
 
 -- ---- the digits of a text
 

@@ -13,7 +13,7 @@ returns-then-not-is_digit c =
     (sym c.is_digit.ensures ∙ c.if-not-is_digit.true)
 
 pub overflow_sub-byte : goal.overflow_sub-byte
-overflow_sub-byte c = digit_low _ (sym c.is_digit.ensures ∙ c.if-not-is_digit.false)
+overflow_sub-byte c = (digit_low _ (sym c.is_digit.ensures ∙ c.if-not-is_digit.false)).0
 
 pub loop-byte-preserved : goal.loop-byte-preserved
 loop-byte-preserved c =
